@@ -1,0 +1,2 @@
+-- The definitions of codec.
+pub mod Little
