@@ -1,2 +1,3 @@
 -- The definitions of codec.
 pub mod Little
+pub mod Bit

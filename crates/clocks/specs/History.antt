@@ -1,0 +1,68 @@
+-- Histories: the events taken, newest first; consistent cuts; what precedes what (01, Clocks and cuts).
+use Prim.Native.Nat.{ℕ, zero, suc, _+_, _≤_, _<_}
+use mathlib.Core.Path.{_≡_}
+use mathlib.Core.Bool.{Bool, true, false, cond, _&&_}
+use mathlib.Core.List.{List, [], _∷_, List·Memᴰ}
+use mathlib.Core.Option.{Option, none, some}
+use lib.Dec.{T, eqb}
+use Rattle.clocks.specs.declared.Event.{Event}
+use Rattle.clocks.specs.Event.{Cut, one, involved, count, Ready, apply, lowered}
+
+-- How many of the events each process took part in (01: taken counts).
+unfoldable pub taken : List Event → Cut
+taken [] p = 0
+taken (e ∷ ts) p = one (involved e p) + taken ts p
+
+-- The event e, taken after ts, is process p's event number n.
+unfoldable pub isNumber : Event → List Event → ℕ → ℕ → Bool
+isNumber e ts p n = involved e p && eqb n (suc (taken ts p))
+
+-- Process p's event number n, counted from 1.
+unfoldable pub event : List Event → ℕ → ℕ → Option Event
+event [] p n = none
+event (e ∷ ts) p n = cond (isNumber e ts p n) (some e) (event ts p n)
+
+-- What is read off an event that may be missing: d where it is.
+abbrev pub ofEvent : {A : Type 0} → A → (Event → A) → Option Event → A
+ofEvent d v none = d
+ofEvent d v (some e) = v e
+
+-- The clock of process p's event number n; zeros where there is none.
+unfoldable pub clockOf : List Event → ℕ → ℕ → Cut
+clockOf ts p n q = ofEvent 0 (λ e. count e q) (event ts p n)
+
+-- The clock of process p's last event; zeros at the start (01: last clocks).
+unfoldable pub lastClock : List Event → ℕ → Cut
+lastClock ts p = clockOf ts p (taken ts p)
+
+-- A cut of the events taken that has, with an event, all that the event knows of (01: consistent cut).
+pub record Consistent (ts : List Event) (S : Cut) : Type 0 where
+  pub within : (p : ℕ) → S p ≤ taken ts p
+  pub closed : (p q : ℕ) → clockOf ts p (S p) q ≤ S q
+
+-- The event is one of those taken.
+abbrev pub In : Event → List Event → Type 0
+In e ts = List·Memᴰ e ts
+
+-- One event of the history leads from the consistent cut S′ to S (01: precedes).
+pub record Precedes (ts : List Event) (S′ S : Cut) : Type 0 where
+  pub before : Consistent ts S′
+  pub by : Event
+  pub among : In by ts
+  pub enabled : Ready by S′
+  pub leads : S ≡ apply by S′
+
+-- Some process takes part.
+abbrev pub Occupied : Event → Type 0
+Occupied e = (p : ℕ) × T (involved e p)
+
+-- The event may be taken after the history: it is ready, and what it knows of is a consistent cut.
+pub record Follows (ts : List Event) (e : Event) : Type 0 where
+  pub occupied : Occupied e
+  pub ready : Ready e (taken ts)
+  pub knows : Consistent ts (lowered e)
+
+-- Each event of the history followed those before it. All that is true of cuts rests on this alone.
+abbrev pub Causal : List Event → Type 0
+Causal [] = Unit {0}
+Causal (e ∷ ts) = Follows ts e × Causal ts
