@@ -1,21 +1,25 @@
 -- Clocks in a causal history: they stay within the taken counts, and a process and a count determine the event.
-use Prim.Native.Nat.{ℕ, zero, suc, _+_, _≤_, _<_}
+use Prim.Native.Nat.{ℕ, suc, _≤_, _<_}
 use native.Mathlib.Omega.{arith}
-use mathlib.Core.Path.{_≡_, refl, sym, ap, subst, _∙_}
-use mathlib.Core.Bool.{Bool, true, false}
+use mathlib.Core.Path.{_≡_, refl, sym, _∙_}
+use mathlib.Core.Bool.{true}
 use mathlib.Core.List.{List, [], _∷_, List·Memᴰ·cases-cons, List·Memᴰ·not-nil}
-use mathlib.Core.Logic.{_⊎_, inl, inr, ⊎-elim}
+use mathlib.Core.Logic.{_⊎_, inl, inr}
 use mathlib.Core.Option.{Option, none, some}
 use Rattle.clocks.specs.declared.Event.{Event}
-use Rattle.clocks.specs.Event.{Cut, one, involved, count, Ready, apply}
-use Rattle.clocks.specs.EventLaws.{ready-next, count-apply}
-use Rattle.clocks.specs.History.{taken, event, ofEvent, clockOf, Consistent, In, Follows, Causal}
-use Rattle.clocks.specs.HistoryLaws.{taken-next, taken-up, event-next, event-old, After, new, old, after, Numbered, event-numbered}
+use Rattle.clocks.specs.Event.{involved, count, apply}
+use Rattle.clocks.specs.EventLaws.{T-true, ready-next, count-apply}
+use Rattle.clocks.specs.History.{taken, event, ofEvent, clockOf, maskOf, In, Causal}
+use Rattle.clocks.specs.HistoryLaws.{taken-up, event-next, event-old, After, new, old, after, event-numbered}
 
 -- ---- the clock of an event that is there, or missing
 pub clock-some : (ts : List Event) (p n : ℕ) (f : Event) → event ts p n ≡ some f → (q : ℕ) → clockOf ts p n q ≡ count f q
 unfolding clockOf
 clock-some ts p n f h q = rw h
+
+pub mask-some : (ts : List Event) (p n : ℕ) (f : Event) → event ts p n ≡ some f → maskOf ts p n ≡ f .mask
+unfolding maskOf
+mask-some ts p n f h = rw h
 
 pub clock-none : (ts : List Event) (p n : ℕ) → event ts p n ≡ none → (q : ℕ) → clockOf ts p n q ≡ 0
 unfolding clockOf
@@ -68,6 +72,17 @@ number-of (e ∷ ts) c f m p b = go (List·Memᴰ·cases-cons m) (λ k. number-o
         let n : count e p ≡ suc (taken ts p) = omega (arith, ready-next e (taken ts) (c .0 .ready) p b′) in
         rw (s, n) (event-next e ts p b′)
     go (inr k) r = event-old e ts p (count f p) (count-within ts (c .1) f k p) ∙ r k
+
+pub count-positive : (ts : List Event) → Causal ts → (f : Event) → In f ts → (p : ℕ) → involved f p ≡ true → 0 < count f p
+count-positive ts c f m p b = event-numbered ts p (count f p) f (number-of ts c f m p b) .first
+
+pub in-occupied : (ts : List Event) → Causal ts → (f : Event) → In f ts → (p : ℕ) × (involved f p ≡ true)
+in-occupied [] c f m = absurd (List·Memᴰ·not-nil m)
+in-occupied (e ∷ ts) c f m = go (List·Memᴰ·cases-cons m) (λ k. in-occupied ts (c .1) f k)
+  where
+    go : (f ≡ e) ⊎ In f ts → (In f ts → (p : ℕ) × (involved f p ≡ true)) → (p : ℕ) × (involved f p ≡ true)
+    go (inl s) r = let o = c .0 .occupied in (o .0, rw s (T-true (involved e (o .0)) (o .1)))
+    go (inr k) r = r k
 
 pub event-unique : (ts : List Event) → Causal ts → (e f : Event) → In e ts → In f ts → (p : ℕ) → involved e p ≡ true → involved f p ≡ true → count e p ≡ count f p → e ≡ f
 event-unique ts c e f m k p a b h =

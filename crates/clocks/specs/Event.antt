@@ -38,6 +38,10 @@ pub record Ready (e : Event) (S : Cut) : Type 0 where
 unfoldable pub apply : Event → Cut → Cut
 apply e S p = one (involved e p) + S p
 
+-- The cut less an event of which only the mask is known: 1 less at each process in it.
+unfoldable pub minus : ℕ → Cut → Cut
+minus m S p = S p - one (bit m p)
+
 -- The cut less the event: 1 less at each process that takes part.
 unfoldable pub less : Event → Cut → Cut
 less e S p = S p - one (involved e p)

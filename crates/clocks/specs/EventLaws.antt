@@ -6,7 +6,7 @@ use mathlib.Core.Bool.{Bool, true, false}
 use mathlib.Core.Logic.{_⊎_, inl, inr}
 use lib.Dec.{T}
 use Rattle.clocks.specs.declared.Event.{Event}
-use Rattle.clocks.specs.Event.{Cut, one, involved, count, ReadyAt, Ready, apply, less, lowered}
+use Rattle.clocks.specs.Event.{Cut, one, involved, count, ReadyAt, Ready, apply, minus, less, lowered}
 
 -- A test's two outcomes, each with its equation.
 pub either : (b : Bool) → (b ≡ true) ⊎ (b ≡ false)
@@ -84,6 +84,10 @@ less-next e S p b = rw b
 pub less-other : (e : Event) (S : Cut) (p : ℕ) → involved e p ≡ false → less e S p ≡ S p
 unfolding less
 less-other e S p b = rw b (omega arith)
+
+pub less-minus : (e : Event) (S : Cut) → less e S ≡ minus (e .mask) S
+unfolding less minus involved
+less-minus e S = refl
 
 pub less-apply : (e : Event) (S : Cut) → less e (apply e S) ≡ S
 unfolding less apply

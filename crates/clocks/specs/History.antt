@@ -5,6 +5,7 @@ use mathlib.Core.Bool.{Bool, true, false, cond, _&&_}
 use mathlib.Core.List.{List, [], _∷_, List·Memᴰ}
 use mathlib.Core.Option.{Option, none, some}
 use lib.Dec.{T, eqb}
+use lib.ListN.{getD}
 use Rattle.clocks.specs.declared.Event.{Event}
 use Rattle.clocks.specs.Event.{Cut, one, involved, count, Ready, apply, lowered}
 
@@ -31,6 +32,14 @@ ofEvent d v (some e) = v e
 unfoldable pub clockOf : List Event → ℕ → ℕ → Cut
 clockOf ts p n q = ofEvent 0 (λ e. count e q) (event ts p n)
 
+-- The mask of process p's event number n; 0 where there is none (01, The window: masks).
+unfoldable pub maskOf : List Event → ℕ → ℕ → ℕ
+maskOf ts p n = ofEvent 0 (λ e. e .mask) (event ts p n)
+
+-- The propositions that hold at process p after its event number n; its start labels where there is none (01, The window: labels).
+unfoldable pub labelOf : Cut → List Event → ℕ → ℕ → ℕ
+labelOf start ts p n = ofEvent (start p) (λ e. getD (e .labels) p 0) (event ts p n)
+
 -- The clock of process p's last event; zeros at the start (01: last clocks).
 unfoldable pub lastClock : List Event → ℕ → Cut
 lastClock ts p = clockOf ts p (taken ts p)
@@ -43,6 +52,10 @@ pub record Consistent (ts : List Event) (S : Cut) : Type 0 where
 -- The event is one of those taken.
 abbrev pub In : Event → List Event → Type 0
 In e ts = List·Memᴰ e ts
+
+-- Two histories have the same events inside a cut.
+pub record Agree (S : Cut) (ts us : List Event) : Type 0 where
+  pub events : (p n : ℕ) → n ≤ S p → event ts p n ≡ event us p n
 
 -- One event of the history leads from the consistent cut S′ to S (01: precedes).
 pub record Precedes (ts : List Event) (S′ S : Cut) : Type 0 where

@@ -1,18 +1,18 @@
 -- The events of a history by process and number: which there are, and what one more event changes.
-use Prim.Native.Nat.{ℕ, zero, suc, _+_, _≤_, _<_}
+use Prim.Native.Nat.{ℕ, suc, _≤_, _<_}
 use native.Mathlib.Omega.{arith}
 use native.Mathlib.Decide.{decLt}
-use mathlib.Core.Path.{_≡_, refl, sym, ap, subst, _∙_}
-use mathlib.Core.Bool.{Bool, true, false, cond, _&&_}
-use mathlib.Core.List.{List, [], _∷_, List·Memᴰ, List·Memᴰ·head, List·Memᴰ·tail, List·Memᴰ·cases-cons, List·Memᴰ·not-nil}
+use mathlib.Core.Path.{_≡_, refl, sym, _∙_}
+use mathlib.Core.Bool.{true, false}
+use mathlib.Core.List.{List, [], _∷_, List·Memᴰ·head, List·Memᴰ·tail}
 use mathlib.Core.Logic.{_⊎_, inl, inr, ⊎-elim}
-use mathlib.Core.Option.{Option, none, some}
-use lib.Dec.{T, eqb}
-use borrow.Author.Tests.{eq-eqb, ne-eqb, eqb-true, eqb-false}
+use mathlib.Core.Option.{none, some}
+use lib.Dec.{eqb}
+use borrow.Author.Tests.{eq-eqb, ne-eqb, eqb-true}
 use Rattle.clocks.specs.declared.Event.{Event}
-use Rattle.clocks.specs.Event.{Cut, one, involved, count, ReadyAt, Ready, apply, less, lowered}
-use Rattle.clocks.specs.EventLaws.{either, true-T, T-true, ready-next, ready-known, count-apply}
-use Rattle.clocks.specs.History.{taken, isNumber, event, ofEvent, clockOf, lastClock, Consistent, In, Occupied, Causal}
+use Rattle.clocks.specs.Event.{involved}
+use Rattle.clocks.specs.EventLaws.{either}
+use Rattle.clocks.specs.History.{taken, isNumber, event, In}
 
 -- ---- one more event: its processes have one event more, and that event is it
 pub taken-next : (e : Event) (ts : List Event) (p : ℕ) → involved e p ≡ true → taken (e ∷ ts) p ≡ suc (taken ts p)

@@ -1,18 +1,17 @@
 -- The consistent cuts are a lattice: zeros, count-by-count maximum and minimum; an event's clock is one of them; clocks grow along a process.
-use Prim.Native.Nat.{ℕ, zero, suc, _+_, _≤_, _<_, min, max}
+use Prim.Native.Nat.{ℕ, suc, _≤_, min, max}
 use native.Mathlib.Omega.{arith}
-use native.Mathlib.Nat.{le-trans}
 use native.Mathlib.Decide.{decLe}
 use mathlib.Core.Path.{_≡_, refl, sym, subst, fun-ext, _∙_}
-use mathlib.Core.Bool.{Bool, true, false}
+use mathlib.Core.Bool.{true}
 use mathlib.Core.List.{List, [], _∷_}
-use mathlib.Core.Logic.{_⊎_, inl, inr, ⊎-elim}
+use mathlib.Core.Logic.{_⊎_, inl, inr}
 use mathlib.Core.Option.{Option, none, some}
 use Rattle.clocks.specs.declared.Event.{Event}
 use Rattle.clocks.specs.Event.{Cut, involved, count, Ready, apply, less, lowered}
-use Rattle.clocks.specs.EventLaws.{either, ready-i, ready-next, lowered-next, less-next, less-other, apply-less, lowered-count}
-use Rattle.clocks.specs.History.{taken, event, clockOf, lastClock, Consistent, In, Follows, Causal}
-use Rattle.clocks.specs.HistoryLaws.{After, new, old, after, event-zero, event-next, event-old, event-exists, event-numbered, taken-cases}
+use Rattle.clocks.specs.EventLaws.{ready-i, ready-next, lowered-next, less-next, less-other, apply-less, lowered-count}
+use Rattle.clocks.specs.History.{taken, event, clockOf, Consistent, Follows, Causal}
+use Rattle.clocks.specs.HistoryLaws.{After, new, old, after, event-zero, event-next, taken-cases}
 use Rattle.clocks.specs.CausalLaws.{clock-some, clock-none, clock-within}
 use Rattle.clocks.specs.Step.{clock-old, consistent-old, consistent-new}
 

@@ -6,3 +6,7 @@ pub mod HistoryLaws
 pub mod CausalLaws
 pub mod Step
 pub mod Lattice
+pub mod Preceding
+pub mod Agree
+pub mod PrecedingStep
+pub mod SameEvents

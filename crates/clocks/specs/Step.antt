@@ -1,19 +1,17 @@
 -- The step theorem: the consistent cuts of a history with one more event are the old ones, and those that the event leads to
 -- from an old one at which it is enabled. Such an old one has all taken events of the event's processes.
-use Prim.Native.Nat.{ℕ, zero, suc, _+_, _-_, _≤_, _<_}
+use Prim.Native.Nat.{ℕ, suc, _≤_}
 use native.Mathlib.Omega.{arith}
 use native.Mathlib.Nat.{le-trans}
-use native.Mathlib.Decide.{decLt}
-use mathlib.Core.Path.{_≡_, refl, sym, ap, subst, _∙_}
-use mathlib.Core.Bool.{Bool, true, false}
-use mathlib.Core.List.{List, [], _∷_}
+use mathlib.Core.Path.{_≡_, sym}
+use mathlib.Core.Bool.{true, false}
+use mathlib.Core.List.{List, _∷_}
 use mathlib.Core.Logic.{_⊎_, inl, inr, ⊎-elim, _↔_}
-use mathlib.Core.Option.{Option, none, some}
 use Rattle.clocks.specs.declared.Event.{Event}
-use Rattle.clocks.specs.Event.{Cut, one, involved, count, ReadyAt, Ready, apply, less, lowered}
-use Rattle.clocks.specs.EventLaws.{either, T-true, ready-next, ready-known, ready-same, count-apply, lowered-ready, lowered-next, apply-next, apply-other, apply-up, less-next, less-other, apply-less, ready-i}
-use Rattle.clocks.specs.History.{taken, event, clockOf, Consistent, Follows, Causal}
-use Rattle.clocks.specs.HistoryLaws.{taken-next, taken-other, taken-up, taken-cases, event-next, event-other, event-old}
+use Rattle.clocks.specs.Event.{Cut, involved, count, Ready, apply, less, lowered}
+use Rattle.clocks.specs.EventLaws.{either, T-true, ready-next, ready-same, count-apply, lowered-ready, lowered-next, apply-next, apply-other, apply-up, less-next, less-other, apply-less, ready-i}
+use Rattle.clocks.specs.History.{taken, clockOf, Consistent, Follows, Causal}
+use Rattle.clocks.specs.HistoryLaws.{taken-next, taken-other, taken-up, taken-cases, event-next, event-old}
 use Rattle.clocks.specs.CausalLaws.{clock-some, clock-same, clock-within}
 
 -- ---- Statement
