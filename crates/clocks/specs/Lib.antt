@@ -10,3 +10,7 @@ pub mod Preceding
 pub mod Agree
 pub mod PrecedingStep
 pub mod SameEvents
+pub mod Valid
+pub mod ClockRule
+pub mod JoinLaws
+pub mod JoinedClock
