@@ -14,3 +14,4 @@ pub mod Valid
 pub mod ClockRule
 pub mod JoinLaws
 pub mod JoinedClock
+pub mod Exchange
