@@ -15,3 +15,8 @@ pub mod ClockRule
 pub mod JoinLaws
 pub mod JoinedClock
 pub mod Exchange
+pub mod Bounded
+pub mod BoundedLaws
+pub mod Tested
+pub mod TestedLaws
+pub mod Predecessors
