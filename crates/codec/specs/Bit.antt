@@ -1,0 +1,8 @@
+-- The bits of a mask.
+use Prim.Native.Nat.{ℕ, _/_, _%_, _^_}
+use mathlib.Core.Bool.{Bool}
+use lib.Dec.{eqb}
+
+-- Bit p of a mask is set. (Bit 0 is the lowest.)
+unfoldable pub bit : ℕ → ℕ → Bool
+bit m p = eqb (m / 2 ^ p % 2) 1

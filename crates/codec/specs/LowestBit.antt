@@ -1,0 +1,1 @@
+-- The lowest set bit of a mask is at its count of trailing zeros.
