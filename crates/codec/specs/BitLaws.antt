@@ -1,10 +1,11 @@
 -- Laws of `bit`: of the lowest bit and the rest, of `bitOr` and `bitAnd`, of bounds, and that the bits determine the mask.
-use Prim.Native.Nat.{ℕ, zero, suc, _+_, _*_, _/_, _%_, _^_, _≤_, _<_, min, max}
-use native.Mathlib.Nat.{div-one, pow-succ', pow-suc, div-div-eq-div-mul, div-eq-of-lt, div-lt-iff-lt-mul, lt-of-lt-of-le, zero-add}
+use Prim.Native.Nat.{ℕ, zero, suc, _+_, _*_, _/_, _%_, _^_, _≤_, _<_, zero-le, suc-le-suc, min, max}
+use native.Mathlib.Nat.{div-one, pow-succ', pow-suc, div-div-eq-div-mul, div-eq-of-lt, div-lt-iff-lt-mul, lt-of-lt-of-le, le-of-suc-le-suc, add-div-right, zero-add}
+use native.Mathlib.Decide.{decLt}
 use native.Mathlib.Omega.{arith}
 use mathlib.Core.Path.{_≡_, refl, sym, ap, _∙_}
-use mathlib.Core.Logic.{_≢_}
-use mathlib.Core.Bool.{Bool, true, false, _&&_, _||_, true≢false}
+use mathlib.Core.Logic.{_≢_, _↔_}
+use mathlib.Core.Bool.{Bool, true, false, _&&_, _||_, true≢false, false≢true}
 use lib.Dec.{eqb, lit<}
 use lib.Arith.{bin-ind, lt-one}
 use lib.Bits.{bitAnd, bitOr, and-step, or-step, and-shr, or-shr}
@@ -26,46 +27,56 @@ pub bit-zero : (p : ℕ) → bit 0 p ≡ false
 unfolding bit
 bit-zero p = rw (div-eq-of-lt (pow-pos p))
 
--- A lowest bit that is known is the remainder by 2.
-odd-of-bit : (m : ℕ) → bit m 0 ≡ true → m % 2 ≡ 1
-odd-of-bit m h = eqb-true (m % 2) 1 (sym (bit-first m) ∙ h)
+-- What holds of two binary digits at each of the four choices.
+digits : (P : ℕ → ℕ → Type 0) → P 0 0 → P 0 1 → P 1 0 → P 1 1 → (x y : ℕ) → x < 2 → y < 2 → P x y
+digits P p q r s zero zero h l = p
+digits P p q r s zero (suc zero) h l = q
+digits P p q r s zero (suc (suc y)) h l = absurd (omega arith)
+digits P p q r s (suc zero) zero h l = r
+digits P p q r s (suc zero) (suc zero) h l = s
+digits P p q r s (suc zero) (suc (suc y)) h l = absurd (omega arith)
+digits P p q r s (suc (suc x)) y h l = absurd (omega arith)
 
-even-of-bit : (m : ℕ) → bit m 0 ≡ false → m % 2 ≡ 0
-even-of-bit m h = ?
+same-digit : (a b : ℕ) → eqb (a % 2) 1 ≡ eqb (b % 2) 1 → a % 2 ≡ b % 2
+same-digit a b =
+    digits (λ x y. eqb x 1 ≡ eqb y 1 → x ≡ y) (λ e. refl) (λ e. absurd (false≢true e)) (λ e. absurd (true≢false e)) (λ e. refl)
+    (a % 2) (b % 2) (omega arith) (omega arith)
 
 -- ---- Of two masks
 
-low-or : (x y : ℕ) → x < 2 → y < 2 → eqb (max x y) 1 ≡ (eqb x 1 || eqb y 1)
-low-or zero zero h l = refl
-low-or zero (suc zero) h l = refl
-low-or zero (suc (suc y)) h l = absurd (omega arith)
-low-or (suc zero) zero h l = refl
-low-or (suc zero) (suc zero) h l = refl
-low-or (suc zero) (suc (suc y)) h l = absurd (omega arith)
-low-or (suc (suc x)) y h l = absurd (omega arith)
-
-low-and : (x y : ℕ) → x < 2 → y < 2 → eqb (min x y) 1 ≡ (eqb x 1 && eqb y 1)
-low-and zero zero h l = refl
-low-and zero (suc zero) h l = refl
-low-and zero (suc (suc y)) h l = absurd (omega arith)
-low-and (suc zero) zero h l = refl
-low-and (suc zero) (suc zero) h l = refl
-low-and (suc zero) (suc (suc y)) h l = absurd (omega arith)
-low-and (suc (suc x)) y h l = absurd (omega arith)
-
 pub bit-or : (a b p : ℕ) → bit (bitOr a b) p ≡ (bit a p || bit b p)
 unfolding bit
-bit-or a b p = rw (or-shr a b p) (? ∙ low-or (a / 2 ^ p % 2) (b / 2 ^ p % 2) (omega arith) (omega arith))
+bit-or a b p =
+    let x : ℕ = a / 2 ^ p in
+    let y : ℕ = b / 2 ^ p in
+    let low : bitOr x y % 2 ≡ max (x % 2) (y % 2) = omega (arith, or-step x y) in
+    rw (or-shr a b p, low)
+    (digits (λ x y. eqb (max x y) 1 ≡ (eqb x 1 || eqb y 1)) refl refl refl refl (x % 2) (y % 2) (omega arith) (omega arith))
 
 pub bit-and : (a b p : ℕ) → bit (bitAnd a b) p ≡ (bit a p && bit b p)
 unfolding bit
-bit-and a b p = rw (and-shr a b p) (? ∙ low-and (a / 2 ^ p % 2) (b / 2 ^ p % 2) (omega arith) (omega arith))
+bit-and a b p =
+    let x : ℕ = a / 2 ^ p in
+    let y : ℕ = b / 2 ^ p in
+    let low : bitAnd x y % 2 ≡ min (x % 2) (y % 2) = omega (arith, and-step x y) in
+    rw (and-shr a b p, low)
+    (digits (λ x y. eqb (min x y) 1 ≡ (eqb x 1 && eqb y 1)) refl refl refl refl (x % 2) (y % 2) (omega arith) (omega arith))
 
 -- ---- Masks with the same bits are equal
 
-no-bit : (m : ℕ) → ((p : ℕ) → bit m p ≡ false) → m ≡ 0
-no-bit = bin-ind (λ m. ((p : ℕ) → bit m p ≡ false) → m ≡ 0) (λ h. refl)
-    (λ m ih h. let half : m / 2 ≡ 0 = ih (λ p. sym (bit-suc m p) ∙ h (suc p)) in omega (arith, even-of-bit m (h 0)))
+halves : (a b : ℕ) → bit a 0 ≡ bit b 0 → a / 2 ≡ b / 2 → a ≡ b
+halves a b e h = omega (arith, same-digit a b (sym (bit-first a) ∙ e ∙ bit-first b))
+
+pub bits-none : (m : ℕ) → ((p : ℕ) → bit m p ≡ false) → m ≡ 0
+bits-none =
+    bin-ind (λ m. ((p : ℕ) → bit m p ≡ false) → m ≡ 0) (λ h. refl)
+    (λ m ih h. halves m 0 (h 0 ∙ sym (bit-zero 0)) (ih (λ p. sym (bit-suc m p) ∙ h (suc p))))
+
+pub bits-equal : (a b : ℕ) → ((p : ℕ) → bit a p ≡ bit b p) → a ≡ b
+bits-equal =
+    bin-ind (λ a. (b : ℕ) → ((p : ℕ) → bit a p ≡ bit b p) → a ≡ b)
+    (λ b h. sym (bits-none b (λ p. sym (h p) ∙ bit-zero p)))
+    (λ a ih b h. halves a b (h 0) (ih (b / 2) (λ p. sym (bit-suc a p) ∙ h (suc p) ∙ bit-suc b p)))
 
 -- ---- Bounds
 
@@ -74,8 +85,39 @@ unfolding bit
 bit-above m k p h l = rw (div-eq-of-lt (lt-of-lt-of-le h (pow-mono l)))
 
 pub lt-of-bits : (k m : ℕ) → ((p : ℕ) → k ≤ p → bit m p ≡ false) → m < 2 ^ k
-lt-of-bits zero m h = ?
-lt-of-bits (suc k) m h = ?
+lt-of-bits zero m h = omega (arith, bits-none m (λ p. h p zero-le))
+lt-of-bits (suc k) m h =
+    rw pow-suc (omega (arith, lt-of-bits k (m / 2) (λ p l. sym (bit-suc m p) ∙ h (suc p) (suc-le-suc l))))
 
 pub below-iff-bits : (m k : ℕ) → (m < 2 ^ k) ↔ ((p : ℕ) → k ≤ p → bit m p ≡ false)
 below-iff-bits m k = (λ h p l. bit-above m k p h l, lt-of-bits k m)
+
+-- ---- Setting the top bit
+
+pub bit-top : (v i : ℕ) → v < 2 ^ i → bit (v + 2 ^ i) i ≡ true
+unfolding bit
+bit-top v i h = rw (add-div-right v (pow-pos i), div-eq-of-lt h)
+
+pub bit-under-top : (v i j : ℕ) → j < i → bit (v + 2 ^ i) j ≡ bit v j
+bit-under-top v zero j h = absurd (omega arith)
+bit-under-top v (suc i) zero h =
+    let low : (v + 2 ^ suc i) % 2 ≡ v % 2 = omega (arith, pow-suc 2 i) in
+    rw (bit-first v, bit-first (v + 2 ^ suc i), low)
+bit-under-top v (suc i) (suc j) h =
+    let half : (v + 2 ^ suc i) / 2 ≡ v / 2 + 2 ^ i = omega (arith, pow-suc 2 i) in
+    rw (bit-suc v j, bit-suc (v + 2 ^ suc i) j, half) (bit-under-top (v / 2) i j (le-of-suc-le-suc h))
+
+pub bit-top-other : (v i j : ℕ) → v < 2 ^ i → j ≢ i → bit (v + 2 ^ i) j ≡ bit v j
+bit-top-other v i j h l = go (decLt j i)
+  where
+    go : Dec (j < i) → bit (v + 2 ^ i) j ≡ bit v j
+    go (yes under) = bit-under-top v i j under
+    go (no not-under) =
+        rw (bit-above v i j h (omega arith), bit-above (v + 2 ^ i) (suc i) j (omega (arith, pow-suc 2 i)) (omega arith))
+
+-- A mask of one bit.
+pub bit-power : (i : ℕ) → bit (2 ^ i) i ≡ true
+bit-power i = rw zero-add at (bit-top 0 i (pow-pos i))
+
+pub bit-power-other : (i j : ℕ) → j ≢ i → bit (2 ^ i) j ≡ false
+bit-power-other i j h = rw (zero-add, bit-zero) at (bit-top-other 0 i j (pow-pos i) h)

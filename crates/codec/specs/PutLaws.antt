@@ -4,8 +4,8 @@ use native.Mathlib.Nat.{zero-add, suc-add, mod-eq-of-lt, mul-assoc, pow-succ', m
 use native.Mathlib.Omega.{arith}
 use mathlib.Core.Path.{_≡_, refl, sym, ap, _∙_}
 use mathlib.Core.List.{List, [], _∷_, _++_}
-use lib.ListN.{length, take, drop, getD, length-take, length-drop}
-use lib.Seq.{sets, take-nil, length-sets, length-take-le, drop-drop}
+use lib.ListN.{length, take, drop, getD, set, length-take, length-drop}
+use lib.Seq.{sets, take-nil, drop-nil, length-sets, length-take-le, drop-drop}
 use lib.Dec.{lit<}
 use Rattle.codec.specs.Little.{bytesOf, valueOf, number, put, Bytes}
 use Rattle.codec.specs.LittleLaws.{length-bytesOf, Bytes-bytesOf, valueOf-bytesOf-mod, bytesOf-valueOf, bytesOf-mod, valueOf-lt, bytesOf-add, Bytes-drop, Bytes-take, Bytes-sets}
@@ -26,6 +26,17 @@ unfolding number
 number-lt s at n h =
     lt-of-lt-of-le (valueOf-lt (take n (drop at s)) (Bytes-take n (drop at s) (Bytes-drop at s h)))
     (pow-le-pow-right (lit< tt) (simp length-take (omega arith)))
+
+-- A number of one byte is that byte.
+pub number-one : (s : List ℕ) (at : ℕ) → number s at 1 ≡ getD s at 0
+unfolding number valueOf
+number-one [] at = rw drop-nil
+number-one (x ∷ xs) zero = omega arith
+number-one (x ∷ xs) (suc at) = number-one xs at
+
+pub put-one : (s : List ℕ) (at v : ℕ) → put s at 1 v ≡ set s at (v % 256)
+unfolding put bytesOf
+put-one s at v = refl
 
 -- ---- What was stored is read
 
