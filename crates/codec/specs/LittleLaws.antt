@@ -55,7 +55,7 @@ bytesOf-mod n v =
 pub valueOf-lt : (bs : List ℕ) → Bytes bs → valueOf bs < 256 ^ length bs
 unfolding valueOf
 valueOf-lt [] h = lit< tt
-valueOf-lt (b ∷ bs) h = 
+valueOf-lt (b ∷ bs) h =
     let h₀ : b < 256 = h 0 in
     rw pow-suc (omega (arith, valueOf-lt bs (λ i. h (suc i))))
 

@@ -71,6 +71,5 @@ lt-pow : (n : ℕ) → n < 2 ^ n
 lt-pow zero = lit< tt
 lt-pow (suc n) = omega (arith, pow-suc 2 n, lt-pow n)
 
-
 pub some-bit : (m : ℕ) → m ≢ 0 → (p : ℕ) × (bit m p ≡ true)
 some-bit m h = (trailingZeros m m, bit-trailing m m (trailing-lt m m (omega arith) (lt-pow m)))

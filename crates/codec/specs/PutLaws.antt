@@ -44,7 +44,7 @@ pub number-put-mod : (s : List ℕ) (at n v : ℕ) → at + n ≤ length s → n
 unfolding number put
 number-put-mod s at n v h =
     let stored : take n (drop at (sets s at (bytesOf n v))) ≡ bytesOf n v =
-      rw (length-bytesOf n v) at (part-sets s at (bytesOf n v) (rw (length-bytesOf n v) h)) in
+    rw (length-bytesOf n v) at (part-sets s at (bytesOf n v) (rw (length-bytesOf n v) h)) in
     ap valueOf stored ∙ valueOf-bytesOf-mod n v
 
 pub number-put-same : (s : List ℕ) (at n v : ℕ) → at + n ≤ length s → v < 256 ^ n → number (put s at n v) at n ≡ v

@@ -55,7 +55,7 @@ module _ {ℓ} {A : Type ℓ} where
 
   -- The run itself stands where it was stored.
   pub part-sets : (s : List A) (at : ℕ) (bs : List A) → at + length bs ≤ length s → take (length bs) (drop at (sets s at bs)) ≡ bs
-  part-sets s at bs h = 
+  part-sets s at bs h =
       rw (sets-eq bs s at h, append-assoc, drop-at (take at s) _ at (length-take-le at s (omega arith))) (take-at bs _ (length bs) refl)
 
   -- A part that ends before the run, and one that begins after it, are as they were.
