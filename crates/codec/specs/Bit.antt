@@ -1,4 +1,4 @@
--- The bits of a mask.
+-- The bits of a mask, as in the mask of an event (01, Clocks and cuts: bit p says that process p took part).
 use Prim.Native.Nat.{ℕ, _/_, _%_, _^_}
 use mathlib.Core.Bool.{Bool}
 use lib.Dec.{eqb}

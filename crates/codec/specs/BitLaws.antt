@@ -1,16 +1,15 @@
 -- Laws of `bit`: of the lowest bit and the rest, of `bitOr` and `bitAnd`, of bounds, and that the bits determine the mask.
 use Prim.Native.Nat.{ℕ, zero, suc, _+_, _*_, _/_, _%_, _^_, _≤_, _<_, zero-le, suc-le-suc, min, max}
-use native.Mathlib.Nat.{div-one, pow-succ', pow-suc, div-div-eq-div-mul, div-eq-of-lt, div-lt-iff-lt-mul, lt-of-lt-of-le, le-of-suc-le-suc, add-div-right, zero-add}
+use native.Mathlib.Nat.{div-one, pow-succ', pow-suc, div-div-eq-div-mul, div-eq-of-lt, lt-of-lt-of-le, le-of-suc-le-suc, add-div-right, zero-add}
 use native.Mathlib.Decide.{decLt}
 use native.Mathlib.Omega.{arith}
-use mathlib.Core.Path.{_≡_, refl, sym, ap, _∙_}
+use mathlib.Core.Path.{_≡_, refl, sym, _∙_}
 use mathlib.Core.Logic.{_≢_, _↔_}
 use mathlib.Core.Bool.{Bool, true, false, _&&_, _||_, true≢false, false≢true}
 use lib.Dec.{eqb, lit<}
-use lib.Arith.{bin-ind, lt-one}
+use lib.Arith.{bin-ind}
 use lib.Bits.{bitAnd, bitOr, and-step, or-step, and-shr, or-shr}
-use lib.Pow.{pow-pos, pow-mono, high}
-use borrow.Author.Tests.{eqb-true, eqb-false, eq-eqb, ne-eqb}
+use lib.Pow.{pow-pos, pow-mono}
 use Rattle.codec.specs.Bit.{bit}
 
 -- ---- The lowest bit, and the rest
@@ -44,23 +43,28 @@ same-digit a b =
 
 -- ---- Of two masks
 
-pub bit-or : (a b p : ℕ) → bit (bitOr a b) p ≡ (bit a p || bit b p)
+-- An operation that goes digit by digit, by f, goes bit by bit, by g, where g is f as a test.
+bit-of : (op f : ℕ → ℕ → ℕ) (g : Bool → Bool → Bool) → ((a b k : ℕ) → op a b / 2 ^ k ≡ op (a / 2 ^ k) (b / 2 ^ k))
+    → ((a b : ℕ) → op a b ≡ op (a / 2) (b / 2) * 2 + f (a % 2) (b % 2))
+    → ((x y : ℕ) → x < 2 → y < 2 → (f x y < 2) × (eqb (f x y) 1 ≡ g (eqb x 1) (eqb y 1)))
+    → (a b p : ℕ) → bit (op a b) p ≡ g (bit a p) (bit b p)
 unfolding bit
-bit-or a b p =
+bit-of op f g shr step test a b p =
     let x : ℕ = a / 2 ^ p in
     let y : ℕ = b / 2 ^ p in
-    let low : bitOr x y % 2 ≡ max (x % 2) (y % 2) = omega (arith, or-step x y) in
-    rw (or-shr a b p, low)
-    (digits (λ x y. eqb (max x y) 1 ≡ (eqb x 1 || eqb y 1)) refl refl refl refl (x % 2) (y % 2) (omega arith) (omega arith))
+    let here = test (x % 2) (y % 2) (omega arith) (omega arith) in
+    let low : op x y % 2 ≡ f (x % 2) (y % 2) = omega (arith, step x y, here .0) in
+    rw (shr a b p, low) (here .1)
+
+pub bit-or : (a b p : ℕ) → bit (bitOr a b) p ≡ (bit a p || bit b p)
+bit-or =
+    bit-of bitOr max _||_ or-shr or-step
+    (digits (λ x y. (max x y < 2) × (eqb (max x y) 1 ≡ (eqb x 1 || eqb y 1))) (lit< tt, refl) (lit< tt, refl) (lit< tt, refl) (lit< tt, refl))
 
 pub bit-and : (a b p : ℕ) → bit (bitAnd a b) p ≡ (bit a p && bit b p)
-unfolding bit
-bit-and a b p =
-    let x : ℕ = a / 2 ^ p in
-    let y : ℕ = b / 2 ^ p in
-    let low : bitAnd x y % 2 ≡ min (x % 2) (y % 2) = omega (arith, and-step x y) in
-    rw (and-shr a b p, low)
-    (digits (λ x y. eqb (min x y) 1 ≡ (eqb x 1 && eqb y 1)) refl refl refl refl (x % 2) (y % 2) (omega arith) (omega arith))
+bit-and =
+    bit-of bitAnd min _&&_ and-shr and-step
+    (digits (λ x y. (min x y < 2) × (eqb (min x y) 1 ≡ (eqb x 1 && eqb y 1))) (lit< tt, refl) (lit< tt, refl) (lit< tt, refl) (lit< tt, refl))
 
 -- ---- Masks with the same bits are equal
 

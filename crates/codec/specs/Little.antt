@@ -1,4 +1,4 @@
--- Numbers as bytes, low byte first.
+-- Numbers as bytes, low byte first, as record and window hold them (01, The window).
 use Prim.Native.Nat.{ℕ, zero, suc, _+_, _*_, _/_, _%_, _<_}
 use mathlib.Core.List.{List, [], _∷_}
 use lib.ListN.{take, drop, getD}

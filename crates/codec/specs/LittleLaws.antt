@@ -1,12 +1,12 @@
 -- Bytes and numbers go back and forth: laws of `bytesOf`, `valueOf` and `Bytes`, each over the width.
-use Prim.Native.Nat.{ℕ, zero, suc, _+_, _*_, _/_, _%_, _^_, _≤_, _<_}
-use native.Mathlib.Nat.{zero-add, suc-add, pow-suc, mod-one, mod-lt, mod-eq-of-lt, mul-add, mul-assoc, mul-comm, add-assoc, pow-zero, pow-succ', one-mul, mul-zero, one-le-pow, div-div-eq-div-mul, div-one, lt-of-lt-of-le, pow-le-pow-right, le-of-eq}
+use Prim.Native.Nat.{ℕ, zero, suc, _+_, _*_, _/_, _%_, _^_, _<_}
+use native.Mathlib.Nat.{zero-add, suc-add, pow-suc, mod-one, mod-eq-of-lt, mul-assoc, pow-succ', one-le-pow, div-div-eq-div-mul, div-one}
 use native.Mathlib.Omega.{arith}
-use mathlib.Core.Path.{_≡_, refl, sym, ap, ap₂, _∙_}
+use mathlib.Core.Path.{_≡_, refl, sym, ap, _∙_}
 use mathlib.Core.List.{List, [], _∷_, _++_}
-use lib.ListN.{length, take, drop, getD, set}
-use lib.Seq.{sets, take-nil, getD-drop}
-use lib.Arith.{mod-mul, digits-lt}
+use lib.ListN.{length, take, drop, set}
+use lib.Seq.{sets, getD-drop}
+use lib.Arith.{mod-mul}
 use lib.Dec.{lit<}
 use Rattle.codec.specs.Little.{bytesOf, valueOf, Bytes}
 

@@ -1,13 +1,12 @@
--- The lowest set bit of a mask stands at its count of trailing zeros.
-use Prim.Native.Nat.{ℕ, zero, suc, _+_, _*_, _/_, _%_, _^_, _≤_, _<_, suc-le-suc}
-use native.Mathlib.Nat.{two-pow-succ, pow-suc, le-of-suc-le-suc}
+-- The lowest set bit of a mask stands at its count of trailing zeros, `trailingZeros` of lib.Count.
+use Prim.Native.Nat.{ℕ, zero, suc, _*_, _/_, _%_, _^_, _≤_, _<_, suc-le-suc}
+use native.Mathlib.Nat.{pow-suc}
 use native.Mathlib.Omega.{arith}
-use mathlib.Core.Path.{_≡_, refl, sym, ap, _∙_}
+use mathlib.Core.Path.{_≡_, refl, sym, _∙_}
 use mathlib.Core.Logic.{_≢_}
-use mathlib.Core.Bool.{Bool, true, false, true≢false}
-use lib.Dec.{eqb, lit<}
-use lib.Count.{trailingZeros, under}
-use borrow.Author.Tests.{eq-eqb}
+use mathlib.Core.Bool.{true, false, true≢false}
+use lib.Dec.{lit<}
+use lib.Count.{trailingZeros}
 use Rattle.codec.specs.Bit.{bit}
 use Rattle.codec.specs.BitLaws.{bit-first, bit-suc}
 

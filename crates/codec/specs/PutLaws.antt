@@ -1,15 +1,15 @@
 -- Reading and storing numbers at places of a list: laws of `number` and `put`, each over the width.
 use Prim.Native.Nat.{ℕ, zero, suc, _+_, _*_, _/_, _%_, _^_, _≤_, _<_}
-use native.Mathlib.Nat.{zero-add, suc-add, mod-eq-of-lt, mul-assoc, pow-succ', mul-zero, lt-of-lt-of-le, pow-le-pow-right, div-one}
+use native.Mathlib.Nat.{zero-add, suc-add, mod-eq-of-lt, mul-assoc, pow-succ', mul-zero, lt-of-lt-of-le, pow-le-pow-right}
 use native.Mathlib.Omega.{arith}
 use mathlib.Core.Path.{_≡_, refl, sym, ap, _∙_}
 use mathlib.Core.List.{List, [], _∷_, _++_}
 use lib.ListN.{length, take, drop, getD, set, length-take, length-drop}
-use lib.Seq.{sets, take-nil, drop-nil, length-sets, length-take-le, drop-drop}
+use lib.Seq.{sets, take-nil, drop-nil, length-sets, length-take-le, drop-drop, take-take}
 use lib.Dec.{lit<}
 use Rattle.codec.specs.Little.{bytesOf, valueOf, number, put, Bytes}
 use Rattle.codec.specs.LittleLaws.{length-bytesOf, Bytes-bytesOf, valueOf-bytesOf-mod, bytesOf-valueOf, bytesOf-mod, valueOf-lt, bytesOf-add, Bytes-drop, Bytes-take, Bytes-sets}
-use Rattle.codec.specs.SetsLaws.{sets-append, sets-same, sets-comm, sets-sets, sets-tail, take-sets, drop-sets, getD-sets-before, getD-sets-after, part-sets, part-sets-before, part-sets-after}
+use Rattle.codec.specs.SetsLaws.{sets-append, sets-same, sets-comm, sets-sets, sets-tail, sets-middle, take-drop, take-sets, drop-sets, getD-sets-before, getD-sets-after, part-sets, part-sets-before, part-sets-after}
 
 -- ---- One number
 
@@ -50,14 +50,17 @@ number-put-mod s at n v h =
 pub number-put-same : (s : List ℕ) (at n v : ℕ) → at + n ≤ length s → v < 256 ^ n → number (put s at n v) at n ≡ v
 number-put-same s at n v h l = number-put-mod s at n v h ∙ mod-eq-of-lt l
 
--- What is there, stored again, changes nothing.
-pub put-number : (s : List ℕ) (at n : ℕ) → Bytes s → at + n ≤ length s → put s at n (number s at n) ≡ s
-unfolding number put
-put-number s at n b h =
+-- The bytes of the number that is there are what is there, and stored again they change nothing.
+pub bytesOf-number : (s : List ℕ) (at n : ℕ) → Bytes s → at + n ≤ length s → bytesOf n (number s at n) ≡ take n (drop at s)
+unfolding number
+bytesOf-number s at n b h =
     let part : List ℕ = take n (drop at s) in
     let width : length part ≡ n = length-take-le n (drop at s) (simp length-drop (omega arith)) in
-    let back : bytesOf n (valueOf part) ≡ part = rw width at (bytesOf-valueOf part (Bytes-take n (drop at s) (Bytes-drop at s b))) in
-    ap (sets s at) back ∙ sets-same s at n
+    rw width at (bytesOf-valueOf part (Bytes-take n (drop at s) (Bytes-drop at s b)))
+
+pub put-number : (s : List ℕ) (at n : ℕ) → Bytes s → at + n ≤ length s → put s at n (number s at n) ≡ s
+unfolding put
+put-number s at n b h = ap (sets s at) (bytesOf-number s at n b h) ∙ sets-same s at n
 
 -- ---- The rest is left
 
@@ -123,3 +126,14 @@ number-drop s a at n = rw (drop-drop at a s)
 pub put-tail : (s : List ℕ) (a at n v : ℕ) → take a s ++ put (drop a s) at n v ≡ put s (a + at) n v
 unfolding put
 put-tail s a at n v = sets-tail s a at (bytesOf n v)
+
+-- A part that was lent, the k elements from a on: reading and storing in it is reading and storing in the whole.
+pub number-middle : (s : List ℕ) (a k at n : ℕ) → at + n ≤ k → number (take k (drop a s)) at n ≡ number s (a + at) n
+unfolding number
+number-middle s a k at n h =
+    rw (← drop-drop at a s, take-drop n at (take k (drop a s)), take-take (at + n) k (drop a s) h, take-drop n at (drop a s))
+
+pub put-middle : (s : List ℕ) (a k at n v : ℕ) → at + n ≤ k
+    → take a s ++ (put (take k (drop a s)) at n v ++ drop k (drop a s)) ≡ put s (a + at) n v
+unfolding put
+put-middle s a k at n v h = sets-middle s a k at (bytesOf n v) (rw (length-bytesOf n v) h)

@@ -2,10 +2,10 @@
 use Prim.Native.Nat.{ℕ, zero, suc, _+_, _≤_, _<_}
 use native.Mathlib.Nat.{add-zero, add-suc, suc-add, zero-add}
 use native.Mathlib.Omega.{arith}
-use mathlib.Core.Path.{_≡_, refl, sym, ap, _∙_}
+use mathlib.Core.Path.{_≡_, refl, ap, _∙_}
 use mathlib.Core.List.{List, [], _∷_, _++_, append-assoc}
-use lib.ListN.{length, take, drop, getD, set, length-set, take-append-drop}
-use lib.Seq.{sets, sets-eq, take-nil, set-set, set-comm, length-take-le, take-at, drop-at, take-set-le, drop-set-lt, drop-set-add, getD-set-other}
+use lib.ListN.{length, take, drop, getD, set, take-append-drop}
+use lib.Seq.{sets, sets-eq, take-nil, set-set, set-comm, length-take-le, take-at, drop-at, take-set-le, take-set-lt, drop-set-lt, drop-set-add, getD-set-other}
 
 module _ {ℓ} {A : Type ℓ} where
   sets-nil : (at : ℕ) (vs : List A) → sets [] at vs ≡ []
@@ -34,6 +34,17 @@ module _ {ℓ} {A : Type ℓ} where
   sets-tail xs a i (b ∷ bs) =
       rw (← drop-set-add a xs i b, ← take-set-le a xs (a + i) b (omega arith), ← add-suc) (sets-tail (set xs (a + i) b) a (suc i) bs)
 
+  -- Stores into the first k are stores into the whole.
+  pub sets-front : (l : List A) (k i : ℕ) (bs : List A) → i + length bs ≤ k → sets (take k l) i bs ++ drop k l ≡ sets l i bs
+  sets-front l k i [] h = take-append-drop k l
+  sets-front l k i (b ∷ bs) h =
+      rw (← take-set-lt k l i b (omega arith), ← drop-set-lt k l i b (omega arith)) (sets-front (set l i b) k (suc i) bs (omega arith))
+
+  -- Stores into a part that was lent, the k elements from a on, are stores into the whole.
+  pub sets-middle : (xs : List A) (a k i : ℕ) (bs : List A) → i + length bs ≤ k
+      → take a xs ++ (sets (take k (drop a xs)) i bs ++ drop k (drop a xs)) ≡ sets xs (a + i) bs
+  sets-middle xs a k i bs h = rw (sets-front (drop a xs) k i bs h) (sets-tail xs a i bs)
+
   -- What stands before and after the run is as it was.
   pub take-sets : (a : ℕ) (s : List A) (at : ℕ) (bs : List A) → a ≤ at → take a (sets s at bs) ≡ take a s
   take-sets a s at [] h = refl
@@ -58,12 +69,13 @@ module _ {ℓ} {A : Type ℓ} where
   part-sets s at bs h =
       rw (sets-eq bs s at h, append-assoc, drop-at (take at s) _ at (length-take-le at s (omega arith))) (take-at bs _ (length bs) refl)
 
-  -- A part that ends before the run, and one that begins after it, are as they were.
-  take-drop : (n a : ℕ) (l : List A) → take n (drop a l) ≡ drop a (take (a + n) l)
+  -- A part of the list, taken either way.
+  pub take-drop : (n a : ℕ) (l : List A) → take n (drop a l) ≡ drop a (take (a + n) l)
   take-drop n zero l = rw zero-add
   take-drop n (suc a) [] = rw (take-nil n, take-nil (suc a + n))
   take-drop n (suc a) (x ∷ xs) = rw suc-add (take-drop n a xs)
 
+  -- A part that ends before the run, and one that begins after it, are as they were.
   pub part-sets-before : (s : List A) (at : ℕ) (bs : List A) (a n : ℕ) → a + n ≤ at → take n (drop a (sets s at bs)) ≡ take n (drop a s)
   part-sets-before s at bs a n h = rw (take-drop n a s, take-drop n a (sets s at bs), take-sets (a + n) s at bs h)
 

@@ -1,7 +1,6 @@
 -- The count of trailing zeros is at most the width.
 use mathlib.Core.Path.{refl}
 use lib.Count.{trailing-le}
-use borrow.Author.Needs.{needs}
 use Rattle.codec.proofs.lowest_bit.Statement.{statement}
 use Rattle.codec.proofs.lowest_bit.Tie as tie
 
