@@ -33,19 +33,19 @@ agree-within ts us S a p w = go (decLt 0 (S p))
     go (yes z) = let f = event-exists ts p (S p) z w in event-numbered us p (S p) (f .0) (sym (a .events p (S p) (omega arith)) ∙ f .1) .within
 
 pub agree-consistent : (ts us : List Event) (S : Cut) → Agree S ts us → Consistent ts S → Consistent us S
-agree-consistent ts us S a c = record
-  { within = λ p. agree-within ts us S a p (c .within p)
-  ; closed = λ p q. rw (← clock-same ts us p (S p) (a .events p (S p) (omega arith)) q) (c .closed p q)
-  }
+agree-consistent ts us S a c = record {
+  within = λ p. agree-within ts us S a p (c .within p);
+  closed = λ p q. rw (← clock-same ts us p (S p) (a .events p (S p) (omega arith)) q) (c .closed p q);
+}
 
 pub agree-precedes : (ts us : List Event) → Causal ts → Causal us → (S : Cut) → Agree S ts us → (S′ : Cut) → Precedes ts S′ S → Precedes us S′ S
-agree-precedes ts us c d S a S′ h = record
-  { before = agree-consistent ts us S′ (agree-below S S′ ts us below a) (h .before)
-  ; by = h .by
-  ; among = there (in-occupied ts c (h .by) (h .among))
-  ; enabled = h .enabled
-  ; leads = h .leads
-  }
+agree-precedes ts us c d S a S′ h = record {
+  before = agree-consistent ts us S′ (agree-below S S′ ts us below a) (h .before);
+  by = h .by;
+  among = there (in-occupied ts c (h .by) (h .among));
+  enabled = h .enabled;
+  leads = h .leads;
+}
   where
     below : (p : ℕ) → S′ p ≤ S p
     below p = omega (arith, apply-up (h .by) S′ p, ap (λ (R : Cut). R p) (h .leads))

@@ -81,17 +81,17 @@ pub exchange : (k : ℕ) (valid : List Event → Event → Type 0) → ClockRule
 exchange k valid r e f ts h a n =
     let fr : Ready f (taken ts) = second-ready e f ts (h .1 .0 .ready) (h .0 .ready) a n in
     let er : Ready e (taken (f ∷ ts)) = first-ready e f ts (h .1 .0 .ready) a in
-    let ft : Takeable k valid ts f = record
-          { formed = h .0 .formed
-          ; ready = fr
-          ; true-clock = r .local (e ∷ ts) ts f (h .1) (h .1 .1) (h .0 .ready) fr (agree-sym (agree-old e ts (lowered f) (lowered-ready f (taken ts) fr))) (h .0 .true-clock)
-          } in
+    let ft : Takeable k valid ts f = record {
+      formed = h .0 .formed;
+      ready = fr;
+      true-clock = r .local (e ∷ ts) ts f (h .1) (h .1 .1) (h .0 .ready) fr (agree-sym (agree-old e ts (lowered f) (lowered-ready f (taken ts) fr))) (h .0 .true-clock);
+    } in
     let fh : History k valid (f ∷ ts) = (ft, h .1 .1) in
-    let et : Takeable k valid (f ∷ ts) e = record
-          { formed = h .1 .0 .formed
-          ; ready = er
-          ; true-clock = r .local ts (f ∷ ts) e (h .1 .1) fh (h .1 .0 .ready) er (agree-old f ts (lowered e) (lowered-ready e (taken ts) (h .1 .0 .ready))) (h .1 .0 .true-clock)
-          } in
+    let et : Takeable k valid (f ∷ ts) e = record {
+      formed = h .1 .0 .formed;
+      ready = er;
+      true-clock = r .local ts (f ∷ ts) e (h .1 .1) fh (h .1 .0 .ready) er (agree-old f ts (lowered e) (lowered-ready e (taken ts) (h .1 .0 .ready))) (h .1 .0 .true-clock);
+    } in
     (et, fh)
 
 -- ---- Theorem: for the base's rule no common process is enough

@@ -55,7 +55,7 @@ joined-local n ts us e r s a j = record { each = λ q. rw (← join-same n (invo
 
 -- ---- Theorem
 pub joined-rule : (k n : ℕ) → ClockRule k (Joined n)
-joined-rule k n = record
-  { sound = λ ts e h t. joined-knows n ts e (joined-causal k n ts h) (t .true-clock)
-  ; local = λ ts us e h i r s a j. joined-local n ts us e r s a j
-  }
+joined-rule k n = record {
+  sound = λ ts e h t. joined-knows n ts e (joined-causal k n ts h) (t .true-clock);
+  local = λ ts us e h i r s a j. joined-local n ts us e r s a j;
+}

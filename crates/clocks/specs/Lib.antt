@@ -20,3 +20,7 @@ pub mod BoundedLaws
 pub mod Tested
 pub mod TestedLaws
 pub mod Predecessors
+pub mod Kept
+pub mod KeptStep
+pub mod SourceDropping
+pub mod ConsistentWords

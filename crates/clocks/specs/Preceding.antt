@@ -52,9 +52,9 @@ module _ (ts : List Event) (c : Causal ts) (S : Cut) (s : Consistent ts S) (p : 
       go (no l) = omega (arith, known q)
       go (yes l) =
           let k : clockOf ts q (count f q) p ≤ clockOf ts q (less f S q) p =
-              clock-grows ts c q (count f q) (less f S q) (omega (arith, less-next f S q b)) (r .within q) p in
+          clock-grows ts c q (count f q) (less f S q) (omega (arith, less-next f S q b)) (r .within q) p in
           let g : clockOf ts q (count f q) p ≡ count f p =
-              clock-some ts q (count f q) f (number-of ts c f (event-numbered ts p (S p) f h .among) q b) p in
+          clock-some ts q (count f q) f (number-of ts c f (event-numbered ts p (S p) f h .among) q b) p in
           absurd (omega (arith, n, r .closed q p, less-next f S p t, event-numbered ts p (S p) f h .first))
 
   -- f is one of the events, so its counts at its own processes are above 0
@@ -65,15 +65,15 @@ module _ (ts : List Event) (c : Causal ts) (S : Cut) (s : Consistent ts S) (p : 
   less-precedes = ((λ k. k .before), back)
     where
       back : Consistent ts (less f S) → Precedes ts (less f S) S
-      back r = record
-        { before = r
-        ; by = f
-        ; among = event-numbered ts p (S p) f h .among
-        ; enabled = ready-i f (less f S)
+      back r = record {
+        before = r;
+        by = f;
+        among = event-numbered ts p (S p) f h .among;
+        enabled = ready-i f (less f S)
             (λ q b. omega (arith, last-of r q b, less-next f S q b, present q b))
-            (λ q b. omega (arith, less-other f S q b, known q))
-        ; leads = sym (apply-less f S present)
-        }
+            (λ q b. omega (arith, less-other f S q b, known q));
+        leads = sym (apply-less f S present);
+      }
 
 -- ... said of the mask alone
 pub mask-precedes : (ts : List Event) → Causal ts → (S : Cut) → Consistent ts S → (p : ℕ) → 0 < S p

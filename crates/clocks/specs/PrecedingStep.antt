@@ -41,4 +41,3 @@ precedes-new e ts c f S₀ S′ r h = go (List·Memᴰ·cases-cons (h .among)) (
 
 pub origin-precedes : (e : Event) (ts : List Event) (S₀ : Cut) → Consistent ts S₀ → Ready e S₀ → Precedes (e ∷ ts) S₀ (apply e S₀)
 origin-precedes e ts S₀ c r = record { before = consistent-old e ts S₀ c; by = e; among = List·Memᴰ·head refl; enabled = r; leads = refl }
-

@@ -53,15 +53,15 @@ module _ (n : ℕ) (valid : List Event → Event → Type 0) (r : ClockRule n va
   passes : (f : Event) → In f ts → T (leadsTo n f S) → T (consistent n ts (less f S)) → Precedes ts (less f S) S
   passes f m t c =
       let own : (p : ℕ) → involved f p ≡ true → 0 < S p = λ p b. omega (arith, asks-own f t m p b, count-positive ts causal f m p b) in
-      record
-        { before = consistent-test n valid ts h (less f S) (less-silent f) .0 c
-        ; by = f
-        ; among = m
-        ; enabled = ready-i f (less f S)
+      record {
+        before = consistent-test n valid ts h (less f S) (less-silent f) .0 c;
+        by = f;
+        among = m;
+        enabled = ready-i f (less f S)
             (λ p b. omega (arith, asks-own f t m p b, own p b, less-next f S p b))
-            (λ p b. omega (arith, asks-other f t m p b, less-other f S p b))
-        ; leads = sym (apply-less f S own)
-        }
+            (λ p b. omega (arith, asks-other f t m p b, less-other f S p b));
+        leads = sym (apply-less f S own);
+      }
 
   -- ---- an event that leads here passes
   leads-passes : (S′ : Cut) (k : Precedes ts S′ S) → T (leadsTo n (k .by) S) × T (consistent n ts (less (k .by) S)) × (S′ ≡ less (k .by) S)

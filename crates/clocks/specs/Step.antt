@@ -5,7 +5,7 @@ use native.Mathlib.Omega.{arith}
 use native.Mathlib.Nat.{le-trans}
 use mathlib.Core.Path.{_≡_, sym}
 use mathlib.Core.Bool.{true, false}
-use mathlib.Core.List.{List, _∷_}
+use mathlib.Core.List.{List, _∷_, [], _++_}
 use mathlib.Core.Logic.{_⊎_, inl, inr, ⊎-elim, _↔_}
 use Rattle.clocks.specs.declared.Event.{Event}
 use Rattle.clocks.specs.Event.{Cut, involved, count, Ready, apply, less, lowered}
@@ -13,6 +13,7 @@ use Rattle.clocks.specs.EventLaws.{either, T-true, ready-next, ready-sam
 use Rattle.clocks.specs.History.{taken, clockOf, Consistent, Follows, Causal}
 use Rattle.clocks.specs.HistoryLaws.{taken-next, taken-other, taken-up, taken-cases, event-next, event-old}
 use Rattle.clocks.specs.CausalLaws.{clock-some, clock-same, clock-within}
+use Rattle.clocks.specs.Tested.{ready}
 
 -- ---- Statement
 
@@ -30,23 +31,27 @@ pub clock-old : (e : Event) (ts : List Event) (p n : ℕ) → n ≤ taken ts p �
 clock-old e ts p n h q = clock-same (e ∷ ts) ts p n (event-old e ts p n h) q
 
 pub consistent-old : (e : Event) (ts : List Event) (S : Cut) → Consistent ts S → Consistent (e ∷ ts) S
-consistent-old e ts S c = record
-  { within = λ p. omega (arith, c .within p, taken-up e ts p)
-  ; closed = λ p q. rw (clock-old e ts p (S p) (c .within p) q) (c .closed p q)
-  }
+consistent-old e ts S c = record {
+  within = λ p. omega (arith, c .within p, taken-up e ts p);
+  closed = λ p q. rw (clock-old e ts p (S p) (c .within p) q) (c .closed p q);
+}
+
+pub consistent-later : (us ts : List Event) (S : Cut) → Consistent ts S → Consistent (us ++ ts) S
+consistent-later [] ts S c = c
+consistent-later (e ∷ us) ts S c = consistent-old e (us ++ ts) S (consistent-later us ts S c)
 
 pub consistent-within : (e : Event) (ts : List Event) (S : Cut) → Consistent (e ∷ ts) S → ((p : ℕ) → S p ≤ taken ts p) → Consistent ts S
-consistent-within e ts S c w = record
-  { within = w
-  ; closed = λ p q. rw (clock-old e ts p (S p) (w p) q) at (c .closed p q)
-  }
+consistent-within e ts S c w = record {
+  within = w;
+  closed = λ p q. rw (clock-old e ts p (S p) (w p) q) at (c .closed p q);
+}
 
 -- ---- New cuts
 pub consistent-new : (e : Event) (ts : List Event) (S : Cut) → Ready e (taken ts) → Consistent ts S → Ready e S → Consistent (e ∷ ts) (apply e S)
-consistent-new e ts S t c r = record
-  { within = λ p. within p (either (involved e p))
-  ; closed = λ p q. closed p q (either (involved e p))
-  }
+consistent-new e ts S t c r = record {
+  within = λ p. within p (either (involved e p));
+  closed = λ p q. closed p q (either (involved e p));
+}
   where
     within : (p : ℕ) → (involved e p ≡ true) ⊎ (involved e p ≡ false) → apply e S p ≤ taken (e ∷ ts) p
     within p (inl b) = omega (arith, apply-next e S p b, taken-next e ts p b, c .within p)
@@ -101,12 +106,12 @@ module _ (e : Event) (ts : List Event) (cs : Causal ts) (f : Follows ts e) (S : 
       go (inr b) (inr d) = omega (arith, less-other e S q d, other b)
 
   back : ((q : ℕ) → count e q ≤ S q) → Advanced ts e S
-  back h = record
-    { from = less e S
-    ; consistent = record { within = back-within h; closed = back-closed h }
-    ; enabled = back-enabled h
-    ; leads = sym (apply-less e S (λ p b. omega (arith, has-all h p b)))
-    }
+  back h = record {
+    from = less e S;
+    consistent = record { within = back-within h; closed = back-closed h };
+    enabled = back-enabled h;
+    leads = sym (apply-less e S (λ p b. omega (arith, has-all h p b)));
+  }
 
   -- a cut without the event is an old one
   without : ((p : ℕ) → involved e p ≡ true → S p ≡ suc (taken ts p) → ⊥) → Consistent ts S
