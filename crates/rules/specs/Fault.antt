@@ -1,0 +1,107 @@
+-- The faults of a rule's text, apart from any reader (01, Turned back, from the input: 1 to 4), and what is to be shown of the reader.
+use Prim.Native.Nat.{ℕ, suc, _+_, _<_, _≤_}
+use mathlib.Core.Path.{_≡_}
+use mathlib.Core.Logic.{_⊎_, _↔_}
+use mathlib.Core.Bool.{Bool, true, false, cond, _&&_}
+use mathlib.Core.List.{List, [], _∷_, _++_}
+use lib.Dec.{eqb}
+use lib.ListN.{length, getD, take, drop}
+use Rattle.rules.specs.declared.Constant.{Constant}
+use Rattle.rules.specs.declared.Constant.the-variants.{True, False}
+use Rattle.rules.specs.declared.Unary.{Unary}
+use Rattle.rules.specs.declared.Unary.the-variants.{Not, Ey, Ep, Ap, Ay, Eh, Ah}
+use Rattle.rules.specs.declared.Binary.{Binary}
+use Rattle.rules.specs.declared.Binary.the-variants.{And, Es, As, Or}
+use Rattle.rules.specs.Formula.{Formula}
+use Rattle.rules.specs.Line.{constantWeight, unaryWeight, binaryWeight}
+use Rattle.rules.specs.Text.{ascii, byteAt, constantLetters, unaryLetters, binaryLetters, textOf, Grammatical, Within}
+use Rattle.rules.specs.Reader.{formed, refused, readRule}
+
+-- 1: no text of the grammar begins with the bytes up to and with this one; or the text ends here and is no whole text of the grammar.
+unfoldable pub Fault1 : List ℕ → ℕ → Type 0
+Fault1 s i =
+    ((i < length s) × ((f : Formula) → Grammatical f → take (i + 1) (textOf f) ≡ take (i + 1) s → ⊥))
+    ⊎ ((i ≡ length s) × ((f : Formula) → Grammatical f → textOf f ≡ s → ⊥))
+
+-- How often a byte stands in a text.
+unfoldable pub count : ℕ → List ℕ → ℕ
+count b [] = 0
+count b (c ∷ s) = cond (eqb c b) 1 0 + count b s
+
+-- 2: an opening bracket before which 32 or more are open.
+unfoldable pub Fault2 : List ℕ → ℕ → Type 0
+Fault2 s i = (byteAt s i ≡ 40) × (32 + count 41 (take i s) ≤ count 40 (take i s))
+
+-- A text begins with these bytes.
+unfoldable pub begins : List ℕ → List ℕ → Bool
+begins [] s = true
+begins (b ∷ bs) [] = false
+begins (b ∷ bs) (c ∷ s) = eqb c b && begins bs s
+
+-- The words, each with the lines that its form adds to those of its inner forms.
+unfoldable pub words : List (List ℕ × ℕ)
+words =
+    (ascii "at", 1)
+    ∷ (constantLetters True, constantWeight True) ∷ (constantLetters False, constantWeight False)
+    ∷ (unaryLetters Not, unaryWeight Not) ∷ (unaryLetters Ey, unaryWeight Ey) ∷ (unaryLetters Ep, unaryWeight Ep)
+    ∷ (unaryLetters Ap, unaryWeight Ap) ∷ (unaryLetters Ay, unaryWeight Ay) ∷ (unaryLetters Eh, unaryWeight Eh)
+    ∷ (unaryLetters Ah, unaryWeight Ah)
+    ∷ (binaryLetters And, binaryWeight And) ∷ (binaryLetters Es, binaryWeight Es) ∷ (binaryLetters As, binaryWeight As)
+    ∷ (binaryLetters Or, binaryWeight Or) ∷ []
+
+-- The weight of the word that a text begins with: none is the beginning of another; 0 where there is none.
+unfoldable pub weightOf : List (List ℕ × ℕ) → List ℕ → ℕ
+weightOf [] s = 0
+weightOf (w ∷ ws) s = cond (begins (w .0) s) (w .1) (weightOf ws s)
+
+-- The lines of the forms closed in a text, each counted with its weight. Open forms' weights stand in a list, the innermost first.
+unfoldable pub linesClosed : List ℕ → List ℕ → ℕ
+linesClosed opened [] = 0
+linesClosed opened (c ∷ s) =
+    cond (eqb c 40) (linesClosed (weightOf words s ∷ opened) s)
+    (cond (eqb c 41) (getD opened 0 0 + linesClosed (drop 1 opened) s) (linesClosed opened s))
+
+-- 3: a closing bracket after which the forms closed so far have over 64 lines.
+unfoldable pub Fault3 : List ℕ → ℕ → Type 0
+Fault3 s i = (byteAt s i ≡ 41) × (64 < linesClosed [] (take (i + 1) s))
+
+-- These bytes stand in a text from a place on.
+unfoldable pub Stands : List ℕ → ℕ → List ℕ → Type 0
+Stands s i [] = Unit {0}
+Stands s i (b ∷ bs) = (byteAt s i ≡ b) × Stands s (i + 1) bs
+
+-- 4: a digit in p's place of an (at p b) that is not below k, or one in b's place that is above 7; the bracket stands at q.
+unfoldable pub Fault4 : List ℕ → ℕ → ℕ → Type 0
+Fault4 s k i =
+    ((q d : ℕ) × Stands s q (ascii "(at " ++ (48 + d) ∷ []) × (d ≤ 9) × (k ≤ d) × (i ≡ q + 4))
+    ⊎ ((q c d : ℕ) × Stands s q (ascii "(at " ++ (48 + c) ∷ 32 ∷ (48 + d) ∷ []) × (c ≤ 9) × (d ≤ 9) × (7 < d) × (i ≡ q + 6))
+
+-- The text, with k processes, has fault n at place i.
+unfoldable pub Fault : ℕ → List ℕ → ℕ → ℕ → Type 0
+Fault n s k i = ((n ≡ 1) × Fault1 s i) ⊎ (((n ≡ 2) × Fault2 s i) ⊎ (((n ≡ 3) × Fault3 s i) ⊎ ((n ≡ 4) × Fault4 s k i)))
+
+-- The first fault, and of those at its place the one with the lowest number.
+pub record FirstFault (n : ℕ) (s : List ℕ) (k i : ℕ) : Type 0 where
+  pub here : Fault n s k i
+  pub none-before : (m j : ℕ) → j < i → Fault m s k j → ⊥
+  pub none-lower : (m : ℕ) → m < n → Fault m s k i → ⊥
+
+-- The statements
+
+-- The reader refuses a text exactly by its first fault.
+abbrev pub ReaderFindsFirstFault : Type 0
+ReaderFindsFirstFault = (s : List ℕ) (k n i : ℕ) → (readRule s k ≡ refused n i) ↔ FirstFault n s k i
+
+-- It accepts a text exactly if that is the text of a form of the grammar within the limits, and reads that form.
+abbrev pub ReaderAcceptsForms : Type 0
+ReaderAcceptsForms =
+    (s : List ℕ) (k i : ℕ) (f : Formula) → (readRule s k ≡ formed i f) ↔ ((textOf f ≡ s) × (i ≡ length s) × Grammatical f × Within k f)
+
+-- It accepts a text exactly if that has no fault.
+abbrev pub ReaderAcceptsFaultless : Type 0
+ReaderAcceptsFaultless =
+    (s : List ℕ) (k : ℕ) → ((i : ℕ) × (f : Formula) × (readRule s k ≡ formed i f)) ↔ ((n i : ℕ) → Fault n s k i → ⊥)
+
+-- A first fault stands below 1,024, however long the text is.
+abbrev pub FaultPlaceBelow1024 : Type 0
+FaultPlaceBelow1024 = (s : List ℕ) (k n i : ℕ) → readRule s k ≡ refused n i → i < 1024

@@ -1,0 +1,151 @@
+-- The lines of a rule's table: those laid down for a form, their bytes, and what a good line is.
+use Prim.Native.Nat.{ℕ, _+_, _-_}
+use mathlib.Core.Bool.{Bool, true, false, cond, _&&_, _||_}
+use mathlib.Core.List.{List, [], _∷_, _++_}
+use lib.Dec.{leb, ltb, eqb}
+use lib.ListN.{length}
+use Rattle.rules.specs.declared.Line.{Line}
+use Rattle.rules.specs.declared.Constant.{Constant}
+use Rattle.rules.specs.declared.Constant.the-variants.{True, False}
+use Rattle.rules.specs.declared.Unary.{Unary}
+use Rattle.rules.specs.declared.Unary.the-variants.{Not, Ey, Ep, Ap, Ay, Eh, Ah}
+use Rattle.rules.specs.declared.Binary.{Binary}
+use Rattle.rules.specs.declared.Binary.the-variants.{And, Es, As, Or}
+use Rattle.rules.specs.Formula.{Formula, atom, constant, unary, binary}
+
+-- The six kinds of line (01, The rule: kinds 0 to 5). In the first the numbers are a process and a proposition, in the others lines.
+abbrev pub line : ℕ → ℕ → ℕ → Line
+line kind a b = record { kind = kind; a = a; b = b }
+
+abbrev pub propositionLine : ℕ → ℕ → Line
+propositionLine p b = line 0 p b
+
+abbrev pub notLine : ℕ → Line
+notLine a = line 1 a 0
+
+abbrev pub andLine : ℕ → ℕ → Line
+andLine a b = line 2 a b
+
+abbrev pub eyLine : ℕ → Line
+eyLine a = line 3 a 0
+
+abbrev pub esLine : ℕ → ℕ → Line
+esLine a b = line 4 a b
+
+abbrev pub asLine : ℕ → ℕ → Line
+asLine a b = line 5 a b
+
+-- The lines of true from line n on: proposition 0 of process 0, not, and of those two, not.
+unfoldable pub trueLines : ℕ → List Line
+trueLines n = propositionLine 0 0 ∷ notLine n ∷ andLine n (n + 1) ∷ notLine (n + 2) ∷ []
+
+-- The lines of a word alone, from line n on.
+unfoldable pub constantLines : Constant → ℕ → List Line
+constantLines True n = trueLines n
+constantLines False n = trueLines n ++ notLine (n + 3) ∷ []
+
+-- The lines that a word with one form has before that form's, from line n on: those of true, or none.
+unfoldable pub linesBefore : Unary → ℕ → List Line
+linesBefore Not n = []
+linesBefore Ey n = []
+linesBefore Ep n = trueLines n
+linesBefore Ap n = trueLines n
+linesBefore Ay n = []
+linesBefore Eh n = trueLines n
+linesBefore Ah n = trueLines n
+
+-- The lines that it has after that form's. t is the last line of true, a the last line of the form.
+unfoldable pub linesAfter : Unary → ℕ → ℕ → List Line
+linesAfter Not t a = notLine a ∷ []
+linesAfter Ey t a = eyLine a ∷ []
+linesAfter Ep t a = esLine t a ∷ []
+linesAfter Ap t a = asLine t a ∷ []
+linesAfter Ay t a = notLine a ∷ eyLine (a + 1) ∷ notLine (a + 2) ∷ []
+linesAfter Eh t a = notLine a ∷ asLine t (a + 1) ∷ notLine (a + 2) ∷ []
+linesAfter Ah t a = notLine a ∷ esLine t (a + 1) ∷ notLine (a + 2) ∷ []
+
+-- The lines that a word with two forms has between them. a is the last line of the first form.
+unfoldable pub linesBetween : Binary → ℕ → List Line
+linesBetween And a = []
+linesBetween Es a = []
+linesBetween As a = []
+linesBetween Or a = notLine a ∷ []
+
+-- The lines that it has after both. a and b are the last lines of the two forms.
+unfoldable pub linesAfterBoth : Binary → ℕ → ℕ → List Line
+linesAfterBoth And a b = andLine a b ∷ []
+linesAfterBoth Es a b = esLine a b ∷ []
+linesAfterBoth As a b = asLine a b ∷ []
+linesAfterBoth Or a b = notLine b ∷ andLine (a + 1) (b + 1) ∷ notLine (b + 2) ∷ []
+
+-- The number of lines that a word adds to those of the forms inside (01, Turned back, from the input: 3).
+unfoldable pub constantWeight : Constant → ℕ
+constantWeight True = 4
+constantWeight False = 5
+
+unfoldable pub unaryWeight : Unary → ℕ
+unaryWeight Not = 1
+unaryWeight Ey = 1
+unaryWeight Ep = 5
+unaryWeight Ap = 5
+unaryWeight Ay = 3
+unaryWeight Eh = 7
+unaryWeight Ah = 7
+
+unfoldable pub binaryWeight : Binary → ℕ
+binaryWeight And = 1
+binaryWeight Es = 1
+binaryWeight As = 1
+binaryWeight Or = 4
+
+-- The number of lines of a form, those of the forms inside it included.
+unfoldable pub lineCount : Formula → ℕ
+lineCount (atom p b) = 1
+lineCount (constant w) = constantWeight w
+lineCount (unary w f) = lineCount f + unaryWeight w
+lineCount (binary w f g) = lineCount f + lineCount g + binaryWeight w
+
+-- The last line of a form whose lines begin at n.
+abbrev pub lastLine : ℕ → Formula → ℕ
+lastLine n f = n + lineCount f - 1
+
+-- The lines of a form, laid down from line n on: inner forms first, left to right, nothing shared (01, The rule).
+unfoldable pub linesAt : ℕ → Formula → List Line
+linesAt n (atom p b) = propositionLine p b ∷ []
+linesAt n (constant w) = constantLines w n
+linesAt n (unary w f) =
+    let m = n + length (linesBefore w n) in
+    linesBefore w n ++ linesAt m f ++ linesAfter w (n + 3) (lastLine m f)
+linesAt n (binary w f g) =
+    let a = lastLine n f in
+    let m = n + lineCount f + length (linesBetween w a) in
+    linesAt n f ++ linesBetween w a ++ linesAt m g ++ linesAfterBoth w a (lastLine m g)
+
+-- The bytes of a table: three for each line (01, The rule).
+unfoldable pub tableBytes : List Line → List ℕ
+tableBytes [] = []
+tableBytes (l ∷ ls) = l .kind ∷ l .a ∷ l .b ∷ tableBytes ls
+
+-- Line i is good, with k processes (01, Turned back, from the state: 34): its kind is at most 5, its process below k and its
+-- proposition at most 7, the lines it names are earlier, an unused b is 0.
+unfoldable pub goodLine : ℕ → ℕ → Line → Bool
+goodLine k i l =
+    cond (eqb (l .kind) 0) (ltb (l .a) k && leb (l .b) 7)
+    (cond (eqb (l .kind) 1 || eqb (l .kind) 3) (ltb (l .a) i && eqb (l .b) 0)
+    (leb (l .kind) 5 && (ltb (l .a) i && ltb (l .b) i)))
+
+-- Lines that stand from line i on are good, each in its place.
+unfoldable pub goodFrom : ℕ → ℕ → List Line → Bool
+goodFrom k i [] = true
+goodFrom k i (l ∷ ls) = goodLine k i l && goodFrom k (i + 1) ls
+
+-- A table's lines are good.
+abbrev pub goodTable : ℕ → List Line → Bool
+goodTable k ls = goodFrom k 0 ls
+
+-- A line with every line that it names raised by n.
+unfoldable pub raised : ℕ → Line → Line
+raised n l =
+    cond (eqb (l .kind) 0) l
+    (cond (eqb (l .kind) 1 || eqb (l .kind) 3) (line (l .kind) (n + l .a) (l .b))
+    (line (l .kind) (n + l .a) (n + l .b)))
