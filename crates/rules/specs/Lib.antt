@@ -4,5 +4,7 @@ pub mod Line
 pub mod LineLaws
 pub mod Text
 pub mod Reader
+pub mod Truth
+pub mod TruthLaws
 pub mod ReaderExamples
 pub mod Fault
