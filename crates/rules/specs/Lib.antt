@@ -6,5 +6,6 @@ pub mod Text
 pub mod Reader
 pub mod Truth
 pub mod TruthLaws
+pub mod TruthLocal
 pub mod ReaderExamples
 pub mod Fault

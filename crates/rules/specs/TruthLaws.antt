@@ -116,20 +116,20 @@ module _ (M : Model) (valid : List Event → Event → Type 0) (m : Ruled M vali
         ∙ looks (unrolled F (size (M .processes) S)) (recursive M F) S
           (λ S′ n. let l = before-leads S c S′ .0 n in enough (size (M .processes) S) (size (M .processes) S′) S′ (l .before) (omega (arith, leads-smaller S S′ l)) (omega arith))
 
-  es-looks : (a b x y : Property) (S : Cut) → ((S′ : Cut) → List·Memᴰ S′ (before M S) → x S′ ≡ y S′) → esStep M a b x S ≡ esStep M a b y S
+  pub es-looks : (a b x y : Property) (S : Cut) → ((S′ : Cut) → List·Memᴰ S′ (before M S) → x S′ ≡ y S′) → esStep M a b x S ≡ esStep M a b y S
   unfolding esStep
   es-looks a b x y S h = rw (any-of-same x y (before M S) h)
 
-  as-looks : (a b x y : Property) (S : Cut) → ((S′ : Cut) → List·Memᴰ S′ (before M S) → x S′ ≡ y S′) → asStep M a b x S ≡ asStep M a b y S
+  pub as-looks : (a b x y : Property) (S : Cut) → ((S′ : Cut) → List·Memᴰ S′ (before M S) → x S′ ≡ y S′) → asStep M a b x S ≡ asStep M a b y S
   unfolding asStep
   as-looks a b x y S h = rw (all-of-same x y (before M S) h)
 
-  some-before : (x : Property) (S : Cut) → CutOf M S → T (anyOf x (before M S)) ↔ ((S′ : Cut) × Leads M S′ S × T (x S′))
+  pub some-before : (x : Property) (S : Cut) → CutOf M S → T (anyOf x (before M S)) ↔ ((S′ : Cut) × Leads M S′ S × T (x S′))
   some-before x S c =
       ( (λ t. let w = any-of-e x (before M S) t in (w .0, before-leads S c (w .0) .0 (w .1), w .2))
       , (λ w. any-of-i x (before M S) (w .0) (before-leads S c (w .0) .1 (w .1)) (w .2)))
 
-  all-before : (x : Property) (S : Cut) → CutOf M S → T (allOf x (before M S)) ↔ ((S′ : Cut) → Leads M S′ S → T (x S′))
+  pub all-before : (x : Property) (S : Cut) → CutOf M S → T (allOf x (before M S)) ↔ ((S′ : Cut) → Leads M S′ S → T (x S′))
   all-before x S c =
       ( (λ t S′ l. all-of-e x (before M S) t S′ (before-leads S c S′ .1 l))
       , (λ h. all-of-i x (before M S) (λ S′ n. h S′ (before-leads S c S′ .0 n))))
