@@ -1,8 +1,11 @@
 -- The definitions of rules, and their laws.
 pub mod Formula
 pub mod Line
+pub mod Table
 pub mod LineLaws
+pub mod TableLaws
 pub mod Text
 pub mod Reader
 pub mod ReaderExamples
 pub mod Fault
+pub mod ReaderLaws
