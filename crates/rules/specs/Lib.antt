@@ -8,4 +8,6 @@ pub mod Text
 pub mod Reader
 pub mod ReaderExamples
 pub mod Fault
+pub mod WordLaws
 pub mod ReaderLaws
+pub mod ReaderPlace

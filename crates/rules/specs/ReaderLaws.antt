@@ -1,122 +1,22 @@
 -- What the reader reads is a form's own text: a form read from one place to another stands there, byte by byte, and is within the limits.
-use Prim.Native.Nat.{ℕ, zero, suc, _+_, _-_, _<_, _≤_, max}
-use native.Mathlib.Nat.{add-zero, max-le}
+use Prim.Native.Nat.{ℕ, zero, suc, _+_, _-_, _<_, _≤_}
 use native.Mathlib.Omega.{arith}
-use mathlib.Core.Path.{_≡_, refl, sym, ap, _∙_, subst}
+use mathlib.Core.Path.{_≡_, refl, sym, ap, subst}
 use mathlib.Core.Bool.{Bool, true, false, cond, _&&_}
 use mathlib.Core.List.{List, [], _∷_, _++_}
-use lib.Dec.{leb, ltb, eqb}
-use lib.ListN.{length, length-append}
-use borrow.Author.Tests.{eqb-true, eqb-false, leb-true, ltb-true}
+use lib.Dec.{leb, ltb}
+use borrow.Author.Tests.{leb-true, ltb-true}
 use Rattle.rules.specs.declared.Constant.{Constant}
-use Rattle.rules.specs.declared.Constant.the-variants.{True, False}
 use Rattle.rules.specs.declared.Unary.{Unary}
-use Rattle.rules.specs.declared.Unary.the-variants.{Not, Ey, Ep, Ap, Ay, Eh, Ah}
 use Rattle.rules.specs.declared.Binary.{Binary}
-use Rattle.rules.specs.declared.Binary.the-variants.{And, Es, As, Or}
 use Rattle.rules.specs.declared.WordRead.{WordRead}
 use Rattle.rules.specs.declared.WordRead.the-variants.{AtWord, ConstantWord, UnaryWord, BinaryWord, NoWord}
+use Rattle.rules.specs.declared.Read.the-variants.{Form, Refused}
 use Rattle.rules.specs.Formula.{Formula, atom, constant, unary, binary, Atoms, AtomsBelow}
 use Rattle.rules.specs.Line.{lineCount}
 use Rattle.rules.specs.Text.{ascii, byteAt, constantLetters, unaryLetters, binaryLetters, textOf, Grammatical, depth}
-use Rattle.rules.specs.Reader.{restAt, aWordAt, eWordAt, wordAt, Reading, formed, refused, andThen, expect, expectDigit, closeAt, atomAt, innerWith, unaryWith, binaryWith, bodyWith, formAt, readRule}
-use Rattle.rules.specs.Fault.{Stands}
-
--- Bytes from place to place
-
--- These bytes stand in a text from place i to before place j.
-pub record Span (s : List ℕ) (i : ℕ) (bs : List ℕ) (j : ℕ) : Type 0 where
-  pub stands : Stands s i bs
-  pub ends : j ≡ i + length bs
-
-pub span-next : (s : List ℕ) (i b j : ℕ) → byteAt s i ≡ b → j ≡ i + 1 → Span s i (b ∷ []) j
-unfolding Stands
-span-next s i b j e h = record { stands = (e, tt); ends = h }
-
-pub span-byte : (s : List ℕ) (i b : ℕ) → byteAt s i ≡ b → Span s i (b ∷ []) (i + 1)
-span-byte s i b e = span-next s i b (i + 1) e refl
-
-stands-append : (s : List ℕ) (i : ℕ) (xs ys : List ℕ) → Stands s i xs → Stands s (i + length xs) ys → Stands s i (xs ++ ys)
-unfolding Stands
-stands-append s i [] ys p q = rw (add-zero i) at q
-stands-append s i (x ∷ xs) ys p q =
-    (p .0, stands-append s (i + 1) xs ys (p .1) (subst (λ (j : ℕ). Stands s j ys) (omega arith) q))
-
-pub span-append : {s : List ℕ} {i j l : ℕ} {xs ys : List ℕ} → Span s i xs j → Span s j ys l → Span s i (xs ++ ys) l
-span-append {s} {i} {j} {l} {xs} {ys} p q = record {
-  stands = stands-append s i xs ys (p .stands) (rw (p .ends) at (q .stands));
-  ends = omega (arith, length-append xs ys, p .ends, q .ends);
-}
-
--- The word that was read stands there.
-
-unfoldable pub WordSpan : List ℕ → ℕ → WordRead → Type 0
-WordSpan s i (AtWord j) = Span s i (ascii "at") j
-WordSpan s i (ConstantWord w j) = Span s i (constantLetters w) j
-WordSpan s i (UnaryWord w j) = Span s i (unaryLetters w) j
-WordSpan s i (BinaryWord w j) = Span s i (binaryLetters w) j
-WordSpan s i (NoWord j) = Unit {0}
-
--- A test of a byte, by its two answers.
-pub if-byte {ℓ} : {A : Type ℓ} (P : A → Type 0) (c b : ℕ) (x y : A) → (c ≡ b → P x) → ((c ≡ b → ⊥) → P y) → P (cond (eqb c b) x y)
-if-byte P c b x y p q = go (eqb c b) refl
-  where
-    go : (t : Bool) → eqb c b ≡ t → P (cond t x y)
-    go true e = p (eqb-true c b e)
-    go false e = q (eqb-false c b e)
-
-pub rest-case : (P : WordRead → Type 0) (s : List ℕ) (i : ℕ) (bs : List ℕ) (word : WordRead)
-    → (Stands s i bs → P word) → ((j : ℕ) → P (NoWord j)) → P (restAt s i bs word)
-unfolding restAt Stands
-rest-case P s i [] word p q = p tt
-rest-case P s i (b ∷ bs) word p q =
-    if-byte P (byteAt s i) b (restAt s (i + 1) bs word) (NoWord i)
-    (λ e. rest-case P s (i + 1) bs word (λ h. p (e, h)) q)
-    (λ _. q i)
-
-two : (s : List ℕ) (i : ℕ) {a b : ℕ} → byteAt s i ≡ a → byteAt s (i + 1) ≡ b → Span s i (a ∷ b ∷ []) (i + 1 + 1)
-two s i e h = span-append (span-byte s i _ e) (span-byte s (i + 1) _ h)
-
-more : (s : List ℕ) (i : ℕ) {a j : ℕ} {bs : List ℕ} → byteAt s i ≡ a → Stands s (i + 1) bs → j ≡ i + suc (length bs) → Span s i (a ∷ bs) j
-unfolding Stands
-more s i e h q = record { stands = (e, h); ends = q }
-
-aWord-span : (s : List ℕ) (i : ℕ) → byteAt s i ≡ 97 → WordSpan s i (aWordAt s (i + 1))
-unfolding WordSpan aWordAt unaryLetters binaryLetters
-aWord-span s i e =
-    let P = WordSpan s i in
-    let c = byteAt s (i + 1) in
-    if-byte P c 116 _ _ (λ h. two s i e h)
-    (λ _. if-byte P c 115 _ _ (λ h. two s i e h)
-    (λ _. if-byte P c 112 _ _ (λ h. two s i e h)
-    (λ _. if-byte P c 121 _ _ (λ h. two s i e h)
-    (λ _. if-byte P c 104 _ _ (λ h. two s i e h)
-    (λ _. if-byte P c 110 _ _ (λ h. rest-case P s (i + 1 + 1) (100 ∷ []) (BinaryWord And (i + 1 + 2)) (λ q. unfold Stands in (more s i e (h, q) (omega arith))) (λ _. tt))
-    (λ _. tt))))))
-
-eWord-span : (s : List ℕ) (i : ℕ) → byteAt s i ≡ 101 → WordSpan s i (eWordAt s (i + 1))
-unfolding WordSpan eWordAt unaryLetters binaryLetters
-eWord-span s i e =
-    let P = WordSpan s i in
-    let c = byteAt s (i + 1) in
-    if-byte P c 121 _ _ (λ h. two s i e h)
-    (λ _. if-byte P c 115 _ _ (λ h. two s i e h)
-    (λ _. if-byte P c 112 _ _ (λ h. two s i e h)
-    (λ _. if-byte P c 104 _ _ (λ h. two s i e h)
-    (λ _. tt))))
-
-pub wordAt-span : (s : List ℕ) (i : ℕ) → WordSpan s i (wordAt s i)
-unfolding WordSpan wordAt constantLetters unaryLetters binaryLetters
-wordAt-span s i =
-    let P = WordSpan s i in
-    let c = byteAt s i in
-    if-byte P c 97 _ _ (aWord-span s i)
-    (λ _. if-byte P c 101 _ _ (eWord-span s i)
-    (λ _. if-byte P c 110 _ _ (λ e. rest-case P s (i + 1) (111 ∷ 116 ∷ []) _ (λ q. more s i e q (omega arith)) (λ _. tt))
-    (λ _. if-byte P c 116 _ _ (λ e. rest-case P s (i + 1) (114 ∷ 117 ∷ 101 ∷ []) _ (λ q. more s i e q (omega arith)) (λ _. tt))
-    (λ _. if-byte P c 102 _ _ (λ e. rest-case P s (i + 1) (97 ∷ 108 ∷ 115 ∷ 101 ∷ []) _ (λ q. more s i e q (omega arith)) (λ _. tt))
-    (λ _. if-byte P c 111 _ _ (λ e. rest-case P s (i + 1) (114 ∷ []) _ (λ q. more s i e q (omega arith)) (λ _. tt))
-    (λ _. tt))))))
+use Rattle.rules.specs.Reader.{wordAt, Reading, formed, refused, andThen, expect, expectDigit, closeAt, atomAt, innerWith, unaryWith, binaryWith, bodyWith, formAt, readOf}
+use Rattle.rules.specs.WordLaws.{Span, span-next, span-byte, span-append, WordSpan, wordAt-span, if-byte}
 
 -- A reading that came to a form, step by step
 
@@ -230,7 +130,7 @@ module _ (s : List ℕ) (k : ℕ) where
   abbrev pub Sound : ℕ → (ℕ → ℕ → Reading) → Type 0
   Sound a reader = (closed i j : ℕ) (f : Formula) → reader closed i ≡ formed j f → FormRead a s k closed i j f
 
-  inner-formed : (a : ℕ) (reader : ℕ → ℕ → Reading) → Sound a reader → (closed i j : ℕ) (f : Formula)
+  pub inner-formed : (a : ℕ) (reader : ℕ → ℕ → Reading) → Sound a reader → (closed i j : ℕ) (f : Formula)
       → innerWith reader s closed i ≡ formed j f → (byteAt s i ≡ 32) × FormRead a s k closed (i + 1) j f
   unfolding innerWith
   inner-formed a reader sound closed i j f h =
@@ -297,3 +197,16 @@ module _ (s : List ℕ) (k : ℕ) where
   formAt-formed (suc a) closed i j f h =
       let x = expect-formed s i 40 (bodyWith (formAt a s k) s k closed (wordAt s (i + 1))) h in
       body-formed a (formAt a s k) (formAt-formed a) closed i j f (wordAt s (i + 1)) (x .0) (wordAt-span s (i + 1)) (x .1)
+
+-- The code's answer, back to the reading that it stands for
+
+pub readOf-form : (laid closed : ℕ) (r : Reading) (i l c : ℕ) → readOf laid closed r ≡ Form i l c
+    → (f : Formula) × (r ≡ formed i f) × (l ≡ laid + lineCount f) × (c ≡ closed + lineCount f)
+unfolding readOf
+readOf-form laid closed (formed j f) i l c h = (f, ap (λ (x : ℕ). formed x f) (cc), cc, cc)
+readOf-form laid closed (refused n j) i l c h = let z : _≡_ {A = ℕ} 0 1 = cc in absurd (omega arith)
+
+pub readOf-refused : (laid closed : ℕ) (r : Reading) (n i : ℕ) → readOf laid closed r ≡ Refused n i → r ≡ refused n i
+unfolding readOf
+readOf-refused laid closed (formed j f) n i h = let z : _≡_ {A = ℕ} 0 1 = cc in absurd (omega arith)
+readOf-refused laid closed (refused m j) n i h = cc
