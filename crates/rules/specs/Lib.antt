@@ -5,6 +5,7 @@ pub mod Table
 pub mod LineLaws
 pub mod TableLaws
 pub mod Text
+pub mod TextLaws
 pub mod Reader
 pub mod ReaderExamples
 pub mod Fault
