@@ -54,12 +54,14 @@ unfoldable pub weightOf : List (List ℕ × ℕ) → List ℕ → ℕ
 weightOf [] s = 0
 weightOf (w ∷ ws) s = cond (begins (w .0) s) (w .1) (weightOf ws s)
 
--- The lines of the forms closed in a text, each counted with its weight. Open forms' weights stand in a list, the innermost first.
+-- The weights of the open forms, the innermost first, after a byte c with the text s behind it.
+unfoldable pub openedAfter : List ℕ → ℕ → List ℕ → List ℕ
+openedAfter opened c s = cond (eqb c 40) (weightOf words s ∷ opened) (cond (eqb c 41) (drop 1 opened) opened)
+
+-- The lines of the forms closed in a text, each counted with its weight, where forms of these weights are open before it.
 unfoldable pub linesClosed : List ℕ → List ℕ → ℕ
 linesClosed opened [] = 0
-linesClosed opened (c ∷ s) =
-    cond (eqb c 40) (linesClosed (weightOf words s ∷ opened) s)
-    (cond (eqb c 41) (getD opened 0 0 + linesClosed (drop 1 opened) s) (linesClosed opened s))
+linesClosed opened (c ∷ s) = cond (eqb c 41) (getD opened 0 0) 0 + linesClosed (openedAfter opened c s) s
 
 -- 3: a closing bracket after which the forms closed so far have over 64 lines.
 unfoldable pub Fault3 : List ℕ → ℕ → Type 0

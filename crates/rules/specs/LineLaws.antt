@@ -17,7 +17,8 @@ use Rattle.rules.specs.declared.Unary.the-variants.{Not, Ey, Ep, Ap, Ay,
 use Rattle.rules.specs.declared.Binary.{Binary}
 use Rattle.rules.specs.declared.Binary.the-variants.{And, Es, As, Or}
 use Rattle.rules.specs.Formula.{Formula, atom, constant, unary, binary, Atoms, AtomsBelow}
-use Rattle.rules.specs.Line.{line, propositionLine, notLine, andLine, eyLine, esLine, asLine, trueLines, constantLines, linesBefore, linesAfter, linesBetween, linesAfterBoth, constantWeight, unaryWeight, binaryWeight, lineCount, lastLine, linesAt, goodLine, goodFrom, goodTable, raised}
+use Rattle.rules.specs.Line.{line, propositionLine, notLine, andLine, eyLine, esLine, asLine, trueLines, constantLines, linesBefore, linesAfter, linesBetween, linesAfterBoth, constantWeight, unaryWeight, binaryWeight, lineCount, lastLine, linesAt, raised}
+use Rattle.rules.specs.Table.{tableBytes, goodLine, goodFrom}
 
 -- How many lines
 

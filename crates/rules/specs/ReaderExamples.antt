@@ -10,6 +10,7 @@ use Rattle.rules.specs.declared.Binary.the-variants.{And, Es, As, Or}
 use Rattle.rules.specs.Formula.{Formula, atom, constant, unary, binary}
 use Rattle.rules.specs.Line.{line, propositionLine, trueLines, constantLines, linesBefore, linesAfter, linesBetween, linesAfterBoth, constantWeight, unaryWeight, binaryWeight, lineCount, linesAt}
 use Rattle.rules.specs.Text.{ascii, textOf, constantLetters, unaryLetters, binaryLetters}
+use Rattle.rules.specs.Fault.{begins, words, weightOf, openedAfter, linesClosed}
 use Rattle.rules.specs.Reader.{restAt, aWordAt, eWordAt, wordAt, Reading, formed, refused, andThen, expect, expectDigit, closeAt, atomAt, innerWith, unaryWith, binaryWith, bodyWith, formAt, readRule}
 
 -- A text read with two processes, and a form's text and lines: all definitions open.
@@ -74,3 +75,9 @@ example-lines : map laid (unary Ep (atom 1 2) ∷ binary Or (binary Or (atom 0 0
     ∷ [])
 unfolding laid
 example-lines = refl
+
+-- The plain scan of the closed forms' lines agrees with the count of a form's lines.
+example-scan : linesClosed [] (written (over 2 Ah (over 3 Ay (binary Or (binary As (atom 0 0) (constant False)) (unary Ey (unary Ap (over 1 Eh (constant True))))))))
+    ≡ 51
+unfolding written over linesClosed openedAfter weightOf words begins constantLetters unaryLetters binaryLetters constantWeight unaryWeight binaryWeight
+example-scan = refl
