@@ -1,11 +1,12 @@
 -- Locality of truth: at a consistent cut every formula and every table line is as true in one history as in another that has the
 -- same events inside the cut. So one more event changes nothing, and neither does another order of the same events.
-use Prim.Native.Nat.{ℕ, _≤_}
+use Prim.Native.Nat.{ℕ, zero, suc, _<_}
 use native.Mathlib.Omega.{arith}
-use mathlib.Core.Path.{_≡_, sym, ap, ap₂, subst, subst⁻¹, _∙_}
-use mathlib.Core.Bool.{_&&_, _||_}
-use mathlib.Core.List.{List}
-use lib.Dec.{T}
+use mathlib.Core.Path.{_≡_, sym, ap, ap₂, subst, subst⁻¹, _∙_, refl}
+use mathlib.Core.Bool.{_&&_, _||_, Bool, true, false, cond}
+use mathlib.Core.List.{List, [], _∷_, _++_}
+use lib.Dec.{T, eqb}
+use lib.ListN.{getD}
 use Rattle.clocks.specs.declared.Event.{Event}
 use Rattle.clocks.specs.History.{labelOf, Consistent, Agree, Causal}
 use Rattle.clocks.specs.Event.{Cut}
@@ -15,8 +16,10 @@ use Rattle.clocks.specs.EventLaws.{apply-up}
 use Rattle.clocks.specs.BoundedLaws.{same-test}
 use Rattle.clocks.specs.Agree.{agree-sym, agree-below, agree-consistent, agree-precedes}
 use Rattle.clocks.specs.Valid.{History, ClockRule}
-use Rattle.rules.specs.TruthLaws.{Ruled, Leads, recursive-is, es-looks, some-before, all-before}
-use Rattle.rules.specs.Truth.{Model, Property, before, allOf, size, propositionHolds, notHolds, andHolds, eyHolds, esStep, esHolds}
+use Rattle.rules.specs.TruthLaws.{Ruled, Leads, recursive-is, es-looks, some-before, all-before, leads-smaller, as-looks}
+use Rattle.rules.specs.Truth.{Model, Property, before, allOf, size, propositionHolds, notHolds, andHolds, eyHolds, esStep, esHolds, asStep, asHolds, holds, lineHolds, linesHold, lineTruth}
+use Rattle.rules.specs.declared.Line.{Line}
+use Rattle.rules.specs.Formula.{Pactl, proposition, negation, conjunction, existsYesterday, existsSince, allSince}
 
 -- ---- Two histories of the same processes and start labels
 module _ (n : ℕ) (start : Cut) (valid : List Event → Event → Type 0) (r : ClockRule n valid) (ts us : List Event) (h : History n valid ts) (i : History n valid us) where
@@ -84,21 +87,82 @@ module _ (n : ℕ) (start : Cut) (valid : List Event → Event → Type 0) (r : 
   unfolding eyHolds
   ey-local a a′ l S c g = some-local S c g a a′ (λ S′ k. l S′ (k .before) (inside S S′ g k))
 
+  -- since, of both kinds: two properties that say the same wherever they do at the preceding cuts say the same
+  by-size : (x y : Property) → ((S : Cut) → Consistent ts S → Agree S ts us → ((S′ : Cut) → Leads here S′ S → x S′ ≡ y S′) → x S ≡ y S)
+      → (d : ℕ) (S : Cut) → Consistent ts S → Agree S ts us → size n S < d → x S ≡ y S
+  by-size x y at zero S c g l = absurd (omega arith)
+  by-size x y at (suc d) S c g l = at S c g (λ S′ k. by-size x y at d S′ (k .before) (inside S S′ g k) (omega (arith, leads-smaller here valid ruled-here S S′ k)))
+
   es-local : (a b a′ b′ : Property) → Local a a′ → Local b b′ → Local (esHolds here a b) (esHolds there a′ b′)
   unfolding esHolds esStep
-  es-local a b a′ b′ l k S c g = upTo (size n S) S c g (omega arith)
+  es-local a b a′ b′ l k S c g = by-size (esHolds here a b) (esHolds there a′ b′)
+      (λ R d f e.
+          recursive-is here valid ruled-here (esStep here a b) (es-looks here valid ruled-here a b) R d
+          ∙ ap₂ _||_ (k R d f) (ap₂ _&&_ (l R d f) (some-local R d f (esHolds here a b) (esHolds there a′ b′) e))
+          ∙ sym (recursive-is there valid ruled-there (esStep there a′ b′) (es-looks there valid ruled-there a′ b′) R (agree-consistent ts us R f d)))
+      (suc (size n S)) S c g (omega arith)
+
+  as-local : (a b a′ b′ : Property) → Local a a′ → Local b b′ → Local (asHolds here a b) (asHolds there a′ b′)
+  unfolding asHolds asStep
+  as-local a b a′ b′ l k S c g = by-size (asHolds here a b) (asHolds there a′ b′)
+      (λ R d f e.
+          recursive-is here valid ruled-here (asStep here a b) (as-looks here valid ruled-here a b) R d
+          ∙ ap₂ _||_ (k R d f) (ap₂ _&&_ (l R d f) (ap₂ _&&_ (some-local R d f (λ Q. true) (λ Q. true) (λ S′ m. refl)) (all-local R d f (asHolds here a b) (asHolds there a′ b′) e)))
+          ∙ sym (recursive-is there valid ruled-there (asStep there a′ b′) (as-looks there valid ruled-there a′ b′) R (agree-consistent ts us R f d)))
+      (suc (size n S)) S c g (omega arith)
+
+  -- ---- Theorem: a formula
+  pub holds-local : (f : Pactl) (S : Cut) → Consistent ts S → Agree S ts us → holds here f S ≡ holds there f S
+  unfolding holds
+  holds-local (proposition p b) = proposition-local p b
+  holds-local (negation f) = not-local (holds here f) (holds there f) (holds-local f)
+  holds-local (conjunction f g) = and-local (holds here f) (holds here g) (holds there f) (holds there g) (holds-local f) (holds-local g)
+  holds-local (existsYesterday f) = ey-local (holds here f) (holds there f) (holds-local f)
+  holds-local (existsSince f g) = es-local (holds here f) (holds here g) (holds there f) (holds there g) (holds-local f) (holds-local g)
+  holds-local (allSince f g) = as-local (holds here f) (holds here g) (holds there f) (holds there g) (holds-local f) (holds-local g)
+
+  -- ---- Theorem: a table's lines
+  abbrev Locals : List Property → List Property → Type 0
+  Locals [] [] = Unit {0}
+  Locals [] (y ∷ ys) = ⊥
+  Locals (x ∷ xs) [] = ⊥
+  Locals (x ∷ xs) (y ∷ ys) = Local x y × Locals xs ys
+
+  locals-at : (xs ys : List Property) → Locals xs ys → (j : ℕ) → Local (getD xs j (λ S. false)) (getD ys j (λ S. false))
+  locals-at [] [] l j = λ S c g. refl
+  locals-at [] (y ∷ ys) l j = absurd l
+  locals-at (x ∷ xs) [] l j = absurd l
+  locals-at (x ∷ xs) (y ∷ ys) l zero = l .0
+  locals-at (x ∷ xs) (y ∷ ys) l (suc j) = locals-at xs ys (l .1) j
+
+  locals-more : (xs ys : List Property) → Locals xs ys → (x y : Property) → Local x y → Locals (xs ++ (x ∷ [])) (ys ++ (y ∷ []))
+  locals-more [] [] l x y m = (m, tt)
+  locals-more [] (z ∷ ys) l x y m = absurd l
+  locals-more (z ∷ xs) [] l x y m = absurd l
+  locals-more (z ∷ xs) (w ∷ ys) l x y m = (l .0, locals-more xs ys (l .1) x y m)
+
+  line-local : (xs ys : List Property) → Locals xs ys → (l : Line) → Local (lineHolds here xs l) (lineHolds there ys l)
+  unfolding lineHolds
+  line-local xs ys m l =
+      let a = locals-at xs ys m (l .a) in
+      let b = locals-at xs ys m (l .b) in
+      pick (eqb (l .kind) 0) (proposition-local (l .a) (l .b))
+      (pick (eqb (l .kind) 1) (not-local (getD xs (l .a) (λ S. false)) (getD ys (l .a) (λ S. false)) a)
+      (pick (eqb (l .kind) 2) (and-local (getD xs (l .a) (λ S. false)) (getD xs (l .b) (λ S. false)) (getD ys (l .a) (λ S. false)) (getD ys (l .b) (λ S. false)) a b)
+      (pick (eqb (l .kind) 3) (ey-local (getD xs (l .a) (λ S. false)) (getD ys (l .a) (λ S. false)) a)
+      (pick (eqb (l .kind) 4) (es-local (getD xs (l .a) (λ S. false)) (getD xs (l .b) (λ S. false)) (getD ys (l .a) (λ S. false)) (getD ys (l .b) (λ S. false)) a b)
+      (as-local (getD xs (l .a) (λ S. false)) (getD xs (l .b) (λ S. false)) (getD ys (l .a) (λ S. false)) (getD ys (l .b) (λ S. false)) a b)))))
     where
-      x : Property
-      x = esHolds here a b
+      pick : (t : Bool) {x y x′ y′ : Property} → Local x y → Local x′ y′ → Local (cond t x x′) (cond t y y′)
+      pick true m n = m
+      pick false m n = n
 
-      y : Property
-      y = esHolds there a′ b′
+  lines-local : (ls : List Line) (xs ys : List Property) → Locals xs ys → Locals (linesHold here xs ls) (linesHold there ys ls)
+  unfolding linesHold
+  lines-local [] xs ys m = m
+  lines-local (l ∷ ls) xs ys m = lines-local ls (xs ++ (lineHolds here xs l ∷ [])) (ys ++ (lineHolds there ys l ∷ []))
+      (locals-more xs ys m (lineHolds here xs l) (lineHolds there ys l) (line-local xs ys m l))
 
-      at : (S : Cut) (c : Consistent ts S) (g : Agree S ts us) → ((S′ : Cut) → Leads here S′ S → x S′ ≡ y S′) → x S ≡ y S
-      at S c g e =
-          recursive-is here valid ruled-here (esStep here a b) (es-looks here valid ruled-here a b) S c
-          ∙ ap₂ _||_ (k S c g) (ap₂ _&&_ (l S c g) (some-local S c g x y e))
-          ∙ sym (recursive-is there valid ruled-there (esStep there a′ b′) (es-looks there valid ruled-there a′ b′) S (agree-consistent ts us S g c))
-
-      upTo : (d : ℕ) (S : Cut) (c : Consistent ts S) (g : Agree S ts us) → size n S ≤ d → x S ≡ y S
-      upTo d S c g m = ?
+  pub line-truth-local : (ls : List Line) (j : ℕ) (S : Cut) → Consistent ts S → Agree S ts us → lineTruth here ls j S ≡ lineTruth there ls j S
+  unfolding lineTruth
+  line-truth-local ls j = locals-at (linesHold here [] ls) (linesHold there [] ls) (lines-local ls [] [] tt) j
