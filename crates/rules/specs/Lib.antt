@@ -10,6 +10,8 @@ pub mod Reader
 pub mod Truth
 pub mod TruthLaws
 pub mod TruthLocal
+pub mod LineTruthLaws
+pub mod LinesMean
 pub mod ReaderExamples
 pub mod Fault
 pub mod WordLaws

@@ -88,11 +88,15 @@ holds M (allSince f g) = asHolds M (holds M f) (holds M g)
 
 -- ---- A table line's truth
 
+-- The property of a line that is not there.
+abbrev pub never : Property
+never S = false
+
 -- The property of a line, from those of the earlier lines (01, The rule: kinds 0 to 5). No line of another kind is good.
 unfoldable pub lineHolds : Model → List Property → Line → Property
 lineHolds M earlier l =
-    let a = getD earlier (l .a) (λ S. false) in
-    let b = getD earlier (l .b) (λ S. false) in
+    let a = getD earlier (l .a) never in
+    let b = getD earlier (l .b) never in
     cond (eqb (l .kind) 0) (propositionHolds M (l .a) (l .b))
     (cond (eqb (l .kind) 1) (notHolds a)
     (cond (eqb (l .kind) 2) (andHolds a b)
@@ -107,4 +111,4 @@ linesHold M earlier (l ∷ ls) = linesHold M (earlier ++ (lineHolds M earlier l 
 
 -- The truth of line i of a table.
 unfoldable pub lineTruth : Model → List Line → ℕ → Property
-lineTruth M ls i = getD (linesHold M [] ls) i (λ S. false)
+lineTruth M ls i = getD (linesHold M [] ls) i never

@@ -17,7 +17,7 @@ use Rattle.clocks.specs.BoundedLaws.{same-test}
 use Rattle.clocks.specs.Agree.{agree-sym, agree-below, agree-consistent, agree-precedes}
 use Rattle.clocks.specs.Valid.{History, ClockRule}
 use Rattle.rules.specs.TruthLaws.{Ruled, Leads, recursive-is, es-looks, some-before, all-before, leads-smaller, as-looks}
-use Rattle.rules.specs.Truth.{Model, Property, before, allOf, size, propositionHolds, notHolds, andHolds, eyHolds, esStep, esHolds, asStep, asHolds, holds, lineHolds, linesHold, lineTruth}
+use Rattle.rules.specs.Truth.{Model, Property, before, allOf, size, propositionHolds, notHolds, andHolds, eyHolds, esStep, esHolds, asStep, asHolds, holds, lineHolds, linesHold, lineTruth, never}
 use Rattle.rules.specs.declared.Line.{Line}
 use Rattle.rules.specs.Formula.{Pactl, proposition, negation, conjunction, existsYesterday, existsSince, allSince}
 
@@ -97,18 +97,18 @@ module _ (n : ℕ) (start : Cut) (valid : List Event → Event → Type 0) (r : 
   unfolding esHolds esStep
   es-local a b a′ b′ l k S c g = by-size (esHolds here a b) (esHolds there a′ b′)
       (λ R d f e.
-          recursive-is here valid ruled-here (esStep here a b) (es-looks here valid ruled-here a b) R d
-          ∙ ap₂ _||_ (k R d f) (ap₂ _&&_ (l R d f) (some-local R d f (esHolds here a b) (esHolds there a′ b′) e))
-          ∙ sym (recursive-is there valid ruled-there (esStep there a′ b′) (es-looks there valid ruled-there a′ b′) R (agree-consistent ts us R f d)))
+      recursive-is here valid ruled-here (esStep here a b) (es-looks here valid ruled-here a b) R d
+      ∙ ap₂ _||_ (k R d f) (ap₂ _&&_ (l R d f) (some-local R d f (esHolds here a b) (esHolds there a′ b′) e))
+      ∙ sym (recursive-is there valid ruled-there (esStep there a′ b′) (es-looks there valid ruled-there a′ b′) R (agree-consistent ts us R f d)))
       (suc (size n S)) S c g (omega arith)
 
   as-local : (a b a′ b′ : Property) → Local a a′ → Local b b′ → Local (asHolds here a b) (asHolds there a′ b′)
   unfolding asHolds asStep
   as-local a b a′ b′ l k S c g = by-size (asHolds here a b) (asHolds there a′ b′)
       (λ R d f e.
-          recursive-is here valid ruled-here (asStep here a b) (as-looks here valid ruled-here a b) R d
-          ∙ ap₂ _||_ (k R d f) (ap₂ _&&_ (l R d f) (ap₂ _&&_ (some-local R d f (λ Q. true) (λ Q. true) (λ S′ m. refl)) (all-local R d f (asHolds here a b) (asHolds there a′ b′) e)))
-          ∙ sym (recursive-is there valid ruled-there (asStep there a′ b′) (as-looks there valid ruled-there a′ b′) R (agree-consistent ts us R f d)))
+      recursive-is here valid ruled-here (asStep here a b) (as-looks here valid ruled-here a b) R d
+      ∙ ap₂ _||_ (k R d f) (ap₂ _&&_ (l R d f) (ap₂ _&&_ (some-local R d f (λ Q. true) (λ Q. true) (λ S′ m. refl)) (all-local R d f (asHolds here a b) (asHolds there a′ b′) e)))
+      ∙ sym (recursive-is there valid ruled-there (asStep there a′ b′) (as-looks there valid ruled-there a′ b′) R (agree-consistent ts us R f d)))
       (suc (size n S)) S c g (omega arith)
 
   -- ---- Theorem: a formula
@@ -128,7 +128,7 @@ module _ (n : ℕ) (start : Cut) (valid : List Event → Event → Type 0) (r : 
   Locals (x ∷ xs) [] = ⊥
   Locals (x ∷ xs) (y ∷ ys) = Local x y × Locals xs ys
 
-  locals-at : (xs ys : List Property) → Locals xs ys → (j : ℕ) → Local (getD xs j (λ S. false)) (getD ys j (λ S. false))
+  locals-at : (xs ys : List Property) → Locals xs ys → (j : ℕ) → Local (getD xs j never) (getD ys j never)
   locals-at [] [] l j = λ S c g. refl
   locals-at [] (y ∷ ys) l j = absurd l
   locals-at (x ∷ xs) [] l j = absurd l
@@ -147,11 +147,11 @@ module _ (n : ℕ) (start : Cut) (valid : List Event → Event → Type 0) (r : 
       let a = locals-at xs ys m (l .a) in
       let b = locals-at xs ys m (l .b) in
       pick (eqb (l .kind) 0) (proposition-local (l .a) (l .b))
-      (pick (eqb (l .kind) 1) (not-local (getD xs (l .a) (λ S. false)) (getD ys (l .a) (λ S. false)) a)
-      (pick (eqb (l .kind) 2) (and-local (getD xs (l .a) (λ S. false)) (getD xs (l .b) (λ S. false)) (getD ys (l .a) (λ S. false)) (getD ys (l .b) (λ S. false)) a b)
-      (pick (eqb (l .kind) 3) (ey-local (getD xs (l .a) (λ S. false)) (getD ys (l .a) (λ S. false)) a)
-      (pick (eqb (l .kind) 4) (es-local (getD xs (l .a) (λ S. false)) (getD xs (l .b) (λ S. false)) (getD ys (l .a) (λ S. false)) (getD ys (l .b) (λ S. false)) a b)
-      (as-local (getD xs (l .a) (λ S. false)) (getD xs (l .b) (λ S. false)) (getD ys (l .a) (λ S. false)) (getD ys (l .b) (λ S. false)) a b)))))
+      (pick (eqb (l .kind) 1) (not-local (getD xs (l .a) never) (getD ys (l .a) never) a)
+      (pick (eqb (l .kind) 2) (and-local (getD xs (l .a) never) (getD xs (l .b) never) (getD ys (l .a) never) (getD ys (l .b) never) a b)
+      (pick (eqb (l .kind) 3) (ey-local (getD xs (l .a) never) (getD ys (l .a) never) a)
+      (pick (eqb (l .kind) 4) (es-local (getD xs (l .a) never) (getD xs (l .b) never) (getD ys (l .a) never) (getD ys (l .b) never) a b)
+      (as-local (getD xs (l .a) never) (getD xs (l .b) never) (getD ys (l .a) never) (getD ys (l .b) never) a b)))))
     where
       pick : (t : Bool) {x y x′ y′ : Property} → Local x y → Local x′ y′ → Local (cond t x x′) (cond t y y′)
       pick true m n = m
