@@ -10,6 +10,8 @@ pub mod Preceding
 pub mod Agree
 pub mod PrecedingStep
 pub mod SameEvents
+pub mod Counts
+pub mod CountsLaws
 pub mod Valid
 pub mod ClockRule
 pub mod JoinLaws

@@ -1,0 +1,142 @@
+-- The step of a window for an event (01, The window; source 000, section 3): the frontiers that stay and the advanced ones, merged by
+-- counts, each new one judged from the frontiers laid down before it.
+use Prim.Native.Nat.{ℕ, zero, suc, _+_}
+use mathlib.Core.Bool.{Bool, not, cond, _&&_, _||_, true}
+use mathlib.Core.List.{List, [], _∷_, map, _++_}
+use lib.Dec.{eqb, leb, ltb}
+use lib.ListN.{getD, set, length, replicate}
+use lib.Bits.{bitOr, bitAnd}
+use lib.Count.{trailingZeros}
+use Rattle.rules.specs.declared.Line.{Line}
+use Rattle.clocks.specs.declared.Event.{Event}
+use Rattle.codec.specs.Bit.{bit}
+use Rattle.clocks.specs.Event.{Cut, involved, apply, minus}
+use Rattle.clocks.specs.Bounded.{allBelow, anyBelow}
+use Rattle.clocks.specs.Counts.{at, listOf}
+use Rattle.clocks.specs.Tested.{ready}
+use Rattle.rules.specs.Judge.{judge}
+use Rattle.window.specs.declared.Frontier.{Frontier}
+use Rattle.window.specs.Seek.{seek, standsAt}
+use Rattle.window.specs.Order.{before}
+
+-- What a step is taken in: how many processes are stored, how many there are, which are closed, the rule's table, the event, and the
+-- taken counts with it.
+pub record Setting : Type 0 where
+  pub stored : ℕ
+  pub processes : ℕ
+  pub closed : ℕ
+  pub table : List Line
+  pub event : Event
+  pub reached : Cut
+
+-- ---- Which frontiers stay, which are advanced
+
+-- Some open process has all its taken events in the frontier, or it is the largest (01: dropped).
+unfoldable pub stays : Setting → Frontier → Bool
+stays s f =
+    anyBelow (s .processes) (λ p. not (bit (s .closed) p) && eqb (at (f .counts) p) (s .reached p))
+    || allBelow (s .stored) (λ p. eqb (at (f .counts) p) (s .reached p))
+
+-- The event is enabled at the frontier.
+unfoldable pub enabledAt : Setting → Frontier → Bool
+enabledAt s f = ready (s .stored) (s .event) (at (f .counts))
+
+-- The frontier that the event leads to, not judged yet: it carries the values of the one that it came from.
+unfoldable pub advanced : Setting → Frontier → Frontier
+advanced s f = record {
+  counts = listOf (s .stored) (apply (s .event) (at (f .counts)));
+  labels = listOf (s .stored) (λ p. cond (involved (s .event) p) (getD (s .event .labels) p 0) (getD (f .labels) p 0));
+  masks = listOf (s .stored) (λ p. cond (involved (s .event) p) (s .event .mask) (getD (f .masks) p 0));
+  values = f .values;
+}
+
+-- The elements that pass a test.
+unfoldable pub filtered : {A : Type 0} → (A → Bool) → List A → List A
+filtered t [] = []
+filtered t (x ∷ xs) = cond (t x) (x ∷ filtered t xs) (filtered t xs)
+
+-- ---- The merge
+
+-- A frontier to be laid down: one that stays, or a new one to be judged.
+pub data Slot : Type 0 where
+  staying : Frontier → Slot
+  fresh : Frontier → Slot
+
+unfoldable pub slotCounts : Slot → List ℕ
+slotCounts (staying f) = f .counts
+slotCounts (fresh f) = f .counts
+
+-- The slot x and what is merged after it, where y and those behind it may come first; the staying one first where counts are equal.
+unfoldable pub mergeInto : Slot → (List Slot → List Slot) → List Slot → List Slot
+mergeInto x rest [] = x ∷ rest []
+mergeInto x rest (y ∷ ys) = cond (before (slotCounts y) (slotCounts x)) (y ∷ mergeInto x rest ys) (x ∷ rest (y ∷ ys))
+
+unfoldable pub merge : List Slot → List Slot → List Slot
+merge [] ys = ys
+merge (x ∷ xs) ys = mergeInto x (merge xs) ys
+
+unfoldable pub slots : Setting → List Frontier → List Slot
+slots s fs = merge (map staying (filtered (stays s) fs)) (map (λ f. fresh (advanced s f)) (filtered (enabledAt s) fs))
+
+-- ---- Judging a new frontier
+
+-- What is gathered from the cuts that precede: the OR and the AND of their values, and where each process's look-up ended.
+pub record Gathered : Type 0 where
+  pub ors : ℕ
+  pub ands : ℕ
+  pub hints : List ℕ
+
+-- Process p's last event in the new frontier g may lead to it: it is not the event itself, and p is the first of its processes.
+unfoldable pub sought : Setting → Frontier → ℕ → Bool
+sought s g p = not (involved (s .event) p) && (not (eqb (getD (g .masks) p 0) 0) && eqb (trailingZeros (s .stored) (getD (g .masks) p 0)) p)
+
+-- The counts of the new frontier less that event.
+unfoldable pub withoutLast : Setting → Frontier → ℕ → List ℕ
+withoutLast s g p = listOf (s .stored) (minus (getD (g .masks) p 0) (at (g .counts)))
+
+-- The values of a frontier among those laid down.
+abbrev pub valuesAt : List Frontier → ℕ → ℕ
+valuesAt laid i = getD (map (λ f. f .values) laid) i 0
+
+abbrev pub keysOf : List Frontier → List (List ℕ)
+keysOf laid = map (λ f. f .counts) laid
+
+-- Process p is considered: looked up from its hint, and counted in where it is found.
+unfoldable pub consider : Setting → List Frontier → Frontier → ℕ → Gathered → Gathered
+consider s laid g p w =
+    let place = seek (keysOf laid) (withoutLast s g p) (getD (w .hints) p 0) in
+    let hints = set (w .hints) p place in
+    cond (sought s g p)
+    (cond (standsAt (keysOf laid) (withoutLast s g p) place)
+    (record { ors = bitOr (w .ors) (valuesAt laid place); ands = bitAnd (w .ands) (valuesAt laid place); hints = hints })
+    (record { ors = w .ors; ands = w .ands; hints = hints }))
+    w
+
+-- The first n processes are considered; the frontier that g came from precedes it always.
+unfoldable pub gathered : Setting → List Frontier → List ℕ → Frontier → ℕ → Gathered
+gathered s laid hints g zero = record { ors = g .values; ands = g .values; hints = hints }
+gathered s laid hints g (suc p) = consider s laid g p (gathered s laid hints g p)
+
+-- A new frontier, judged by what was gathered.
+unfoldable pub judgedBy : Setting → Frontier → Gathered → Frontier
+judgedBy s g w = record { counts = g .counts; labels = g .labels; masks = g .masks; values = judge (g .labels) (w .ors) (w .ands) true (s .table) }
+
+-- ---- Laying down
+unfoldable pub lay : Setting → List Frontier → List ℕ → List Slot → List Frontier
+lay s laid hints [] = laid
+lay s laid hints (staying f ∷ rest) = lay s (laid ++ (f ∷ [])) hints rest
+lay s laid hints (fresh g ∷ rest) =
+    let w = gathered s laid hints g (s .stored) in
+    lay s (laid ++ (judgedBy s g w ∷ [])) (w .hints) rest
+
+-- The frontiers after the event.
+unfoldable pub stepped : Setting → List Frontier → List Frontier
+stepped s fs = lay s [] (replicate (s .stored) 0) (slots s fs)
+
+-- How many frontiers there are after the event.
+unfoldable pub keptAfter : Setting → List Frontier → ℕ
+keptAfter s fs = length (filtered (stays s) fs) + length (filtered (enabledAt s) fs)
+
+-- They fit where so many are allowed. (An empty window fits nowhere: 0 kept would read as nothing ready.)
+unfoldable pub fits : Setting → ℕ → List Frontier → Bool
+fits s allowed fs = ltb 0 (keptAfter s fs) && leb (keptAfter s fs) allowed

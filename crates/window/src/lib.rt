@@ -1,0 +1,9 @@
+// Frontiers in bytes: a window of the kept cuts.
+
+// A kept cut: its counts, each process's labels and the mask of its last event there, and the truth of each line.
+pub struct Frontier {
+    pub counts: [u32; 8],
+    pub labels: [u8; 8],
+    pub masks: [u8; 8],
+    pub values: u64,
+}
