@@ -14,6 +14,7 @@ pub mod LineTruthLaws
 pub mod LinesMean
 pub mod Judge
 pub mod JudgeLaws
+pub mod JudgeTruth
 pub mod ReaderExamples
 pub mod Fault
 pub mod WordLaws
