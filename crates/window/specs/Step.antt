@@ -66,17 +66,18 @@ unfoldable pub slotCounts : Slot → List ℕ
 slotCounts (staying f) = f .counts
 slotCounts (fresh f) = f .counts
 
--- The slot x and what is merged after it, where y and those behind it may come first; the staying one first where counts are equal.
-unfoldable pub mergeInto : Slot → (List Slot → List Slot) → List Slot → List Slot
-mergeInto x rest [] = x ∷ rest []
-mergeInto x rest (y ∷ ys) = cond (before (slotCounts y) (slotCounts x)) (y ∷ mergeInto x rest ys) (x ∷ rest (y ∷ ys))
+-- x and what is merged after it, where y and those behind it may come first; x first where keys are equal.
+unfoldable pub mergeInto : {A : Type 0} → (A → List ℕ) → A → (List A → List A) → List A → List A
+mergeInto key x rest [] = x ∷ rest []
+mergeInto key x rest (y ∷ ys) = cond (before (key y) (key x)) (y ∷ mergeInto key x rest ys) (x ∷ rest (y ∷ ys))
 
-unfoldable pub merge : List Slot → List Slot → List Slot
-merge [] ys = ys
-merge (x ∷ xs) ys = mergeInto x (merge xs) ys
+-- Two lists in one, by their keys; the first list's elements first where keys are equal.
+unfoldable pub merge : {A : Type 0} → (A → List ℕ) → List A → List A → List A
+merge key [] ys = ys
+merge key (x ∷ xs) ys = mergeInto key x (merge key xs) ys
 
 unfoldable pub slots : Setting → List Frontier → List Slot
-slots s fs = merge (map staying (filtered (stays s) fs)) (map (λ f. fresh (advanced s f)) (filtered (enabledAt s) fs))
+slots s fs = merge slotCounts (map staying (filtered (stays s) fs)) (map (λ f. fresh (advanced s f)) (filtered (enabledAt s) fs))
 
 -- ---- Judging a new frontier
 

@@ -1,0 +1,71 @@
+-- Members of lists by their places; maps and filters of members.
+use Prim.Native.Nat.{ℕ, zero, suc, _<_}
+use native.Mathlib.Omega.{arith}
+use mathlib.Core.Path.{_≡_, refl, sym, ap, subst, _∙_}
+use mathlib.Core.Bool.{Bool, true, false, cond}
+use mathlib.Core.List.{List, [], _∷_, map, List·Memᴰ, List·Memᴰ·head, List·Memᴰ·tail, List·Memᴰ·cases-cons, List·Memᴰ·not-nil}
+use mathlib.Core.Logic.{_⊎_, inl, inr, ⊎-elim}
+use lib.Dec.{T}
+use lib.ListN.{length, getD}
+use Rattle.window.specs.Step.{filtered}
+
+module _ {A : Type 0} where
+  pub member-at : (xs : List A) (i : ℕ) (d : A) → i < length xs → List·Memᴰ (getD xs i d) xs
+  member-at [] i d l = absurd (omega arith)
+  member-at (x ∷ xs) zero d l = List·Memᴰ·head refl
+  member-at (x ∷ xs) (suc i) d l = List·Memᴰ·tail (member-at xs i d (omega arith))
+
+  pub place-of : (xs : List A) (x d : A) → List·Memᴰ x xs → (i : ℕ) × (i < length xs) × (getD xs i d ≡ x)
+  place-of [] x d m = absurd (List·Memᴰ·not-nil m)
+  place-of (y ∷ ys) x d m = go (List·Memᴰ·cases-cons m) (place-of ys x d)
+    where
+      go : (x ≡ y) ⊎ List·Memᴰ x ys → (List·Memᴰ x ys → (i : ℕ) × (i < length ys) × (getD ys i d ≡ x)) → (i : ℕ) × (i < length (y ∷ ys)) × (getD (y ∷ ys) i d ≡ x)
+      go (inl s) r = (0, omega arith, sym s)
+      go (inr k) r = let w = r k in (suc (w .0), omega (arith, w .1), w .2)
+
+  pub filtered-e : (t : A → Bool) (xs : List A) (x : A) → List·Memᴰ x (filtered t xs) → List·Memᴰ x xs × T (t x)
+  unfolding filtered
+  filtered-e t [] x m = absurd (List·Memᴰ·not-nil m)
+  filtered-e t (y ∷ ys) x m = go (t y) refl (filtered-e t ys x) m
+    where
+      go : (b : Bool) → t y ≡ b → (List·Memᴰ x (filtered t ys) → List·Memᴰ x ys × T (t x)) → List·Memᴰ x (cond b (y ∷ filtered t ys) (filtered t ys)) → List·Memᴰ x (y ∷ ys) × T (t x)
+      go true e r m = ⊎-elim (λ s. (List·Memᴰ·head s, subst T (sym (ap t s ∙ e)) tt)) (λ k. let w = r k in (List·Memᴰ·tail (w .0), w .1)) (List·Memᴰ·cases-cons m)
+      go false e r m = let w = r m in (List·Memᴰ·tail (w .0), w .1)
+
+  pub filtered-i : (t : A → Bool) (xs : List A) (x : A) → List·Memᴰ x xs → T (t x) → List·Memᴰ x (filtered t xs)
+  unfolding filtered
+  filtered-i t [] x m h = absurd (List·Memᴰ·not-nil m)
+  filtered-i t (y ∷ ys) x m h = go (t y) refl (List·Memᴰ·cases-cons m) (λ k. filtered-i t ys x k h)
+    where
+      go : (b : Bool) → t y ≡ b → (x ≡ y) ⊎ List·Memᴰ x ys → (List·Memᴰ x ys → List·Memᴰ x (filtered t ys)) → List·Memᴰ x (cond b (y ∷ filtered t ys) (filtered t ys))
+      go true e (inl s) r = List·Memᴰ·head s
+      go true e (inr k) r = List·Memᴰ·tail (r k)
+      go false e (inl s) r = absurd (subst T (ap t s ∙ e) h)
+      go false e (inr k) r = r k
+
+-- a filter of mapped elements maps the filtered ones
+pub filtered-map : {A B : Type 0} (f : A → B) (t : B → Bool) (u : A → Bool) (xs : List A) → ((x : A) → List·Memᴰ x xs → t (f x) ≡ u x) → filtered t (map f xs) ≡ map f (filtered u xs)
+unfolding filtered
+filtered-map f t u [] h = refl
+filtered-map f t u (x ∷ xs) h = go (u x) refl (filtered-map f t u xs (λ y m. h y (List·Memᴰ·tail m)))
+  where
+    go : (b : Bool) → u x ≡ b → filtered t (map f xs) ≡ map f (filtered u xs) → cond (t (f x)) (f x ∷ filtered t (map f xs)) (filtered t (map f xs)) ≡ map f (cond (u x) (x ∷ filtered u xs) (filtered u xs))
+    go true e r = rw (h x (List·Memᴰ·head refl), e, r)
+    go false e r = rw (h x (List·Memᴰ·head refl), e, r)
+
+pub map-map : {A B C : Type 0} (g : B → C) (f : A → B) (xs : List A) → map g (map f xs) ≡ map (λ x. g (f x)) xs
+map-map g f [] = refl
+map-map g f (x ∷ xs) = rw (map-map g f xs)
+
+pub getD-mapped : {A B : Type 0} (f : A → B) (xs : List A) (i : ℕ) (d : A) (e : B) → i < length xs → getD (map f xs) i e ≡ f (getD xs i d)
+getD-mapped f [] i d e l = absurd (omega arith)
+getD-mapped f (x ∷ xs) zero d e l = refl
+getD-mapped f (x ∷ xs) (suc i) d e l = getD-mapped f xs i d e (omega arith)
+
+pub mapped-e : {A B : Type 0} (f : A → B) (xs : List A) (z : B) → List·Memᴰ z (map f xs) → (x : A) × List·Memᴰ x xs × (z ≡ f x)
+mapped-e f [] z m = absurd (List·Memᴰ·not-nil m)
+mapped-e {A} f (x ∷ xs) z m = ⊎-elim (λ q. (x, List·Memᴰ·head refl, q)) (λ k. let w = mapped-e f xs z k in (w .0, List·Memᴰ·tail (w .1), w .2)) (List·Memᴰ·cases-cons m)
+
+pub mapped-i : {A B : Type 0} (f : A → B) (xs : List A) (x : A) → List·Memᴰ x xs → List·Memᴰ (f x) (map f xs)
+mapped-i f [] x m = absurd (List·Memᴰ·not-nil m)
+mapped-i f (y ∷ ys) x m = ⊎-elim (λ q. List·Memᴰ·head (ap f q)) (λ k. List·Memᴰ·tail (mapped-i f ys x k)) (List·Memᴰ·cases-cons m)
