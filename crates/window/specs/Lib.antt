@@ -10,4 +10,5 @@ pub mod MergeLaws
 pub mod FrontierLaws
 pub mod LookUp
 pub mod JudgingNew
+pub mod StepTheorem
 pub mod Bytes

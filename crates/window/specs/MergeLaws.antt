@@ -126,10 +126,11 @@ sorted-filtered {A} key t (x ∷ xs) s = go (t x) (sorted-filtered key t xs (s .
     go false r = r
 
 -- keys mapped along another list
-pub sorted-map : {A B : Type 0} (key : A → List ℕ) (key′ : B → List ℕ) (f : A → B) (xs : List A) → ((x y : A) → T (before (key x) (key y)) → T (before (key′ (f x)) (key′ (f y))))
+pub sorted-map : {A B : Type 0} (key : A → List ℕ) (key′ : B → List ℕ) (f : A → B) (xs : List A)
+    → ((x y : A) → List·Memᴰ x xs → List·Memᴰ y xs → T (before (key x) (key y)) → T (before (key′ (f x)) (key′ (f y))))
     → SortedBy key xs → SortedBy key′ (map f xs)
 sorted-map key key′ f [] h s = tt
-sorted-map {A} {B} key key′ f (x ∷ xs) h s = ((λ z m. go z (mapped-e f xs z m)), sorted-map key key′ f xs h (s .1))
+sorted-map {A} {B} key key′ f (x ∷ xs) h s = ((λ z m. go z (mapped-e f xs z m)), sorted-map key key′ f xs (λ u v a b. h u v (List·Memᴰ·tail a) (List·Memᴰ·tail b)) (s .1))
   where
     go : (z : B) → (y : A) × List·Memᴰ y xs × (z ≡ f y) → T (before (key′ (f x)) (key′ z))
-    go z w = rw (w .2) (h x (w .0) (s .0 (w .0) (w .1)))
+    go z w = rw (w .2) (h x (w .0) (List·Memᴰ·head refl) (List·Memᴰ·tail (w .1)) (s .0 (w .0) (w .1)))
