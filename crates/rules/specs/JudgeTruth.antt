@@ -27,10 +27,10 @@ use Rattle.rules.specs.LineTruthLaws.{Made, line-made}
 
 -- ---- Statement
 
--- What is gathered from the cuts that precede a cut S: bit i of `any` says that some of them has line i, bit i of `all` that all have it.
+-- What is gathered from the cuts that precede a cut S: bit i of `any` says that some of them has line i, bit i of `all` that all have it (where there is one).
 pub record Preceding (M : Model) (ls : List Line) (S : Cut) (any all : ℕ) (preceded : Bool) : Type 0 where
   pub some-has : (i : ℕ) → i < length ls → T (bit any i) ↔ ((S′ : Cut) × Leads M S′ S × T (lineTruth M ls i S′))
-  pub all-have : (i : ℕ) → i < length ls → T (bit all i) ↔ ((S′ : Cut) → Leads M S′ S → T (lineTruth M ls i S′))
+  pub all-have : T preceded → (i : ℕ) → i < length ls → T (bit all i) ↔ ((S′ : Cut) → Leads M S′ S → T (lineTruth M ls i S′))
   pub some-precedes : T preceded ↔ ((S′ : Cut) × Leads M S′ S)
 
 -- The label bytes at a cut.
@@ -82,10 +82,10 @@ module _ (M : Model) (valid : List Event → Event → Type 0) (m : Ruled M vali
       let rest : Bool = preceded && bit all i in
       rw (ra, rb) (same-test (y S || (x S && rest)) (q S)
       (λ t. rw e (as-clause M valid m x y S c .1 (⊎-elim (λ u. inl u)
-      (λ u. let v = and-r (x S) rest u in inr (and-l (x S) rest u, g .some-precedes .0 (and-l preceded (bit all i) v), rw e at (g .all-have i l .0 (and-r preceded (bit all i) v))))
+      (λ u. let v = and-r (x S) rest u in inr (and-l (x S) rest u, g .some-precedes .0 (and-l preceded (bit all i) v), rw e at (g .all-have (and-l preceded (bit all i) v) i l .0 (and-r preceded (bit all i) v))))
       (or-e (y S) (x S && rest) t))))
       (λ t. ⊎-elim (λ u. or-l (y S) (x S && rest) u)
-      (λ u. or-r (y S) (x S && rest) (and-i (x S) rest (u .0) (and-i preceded (bit all i) (g .some-precedes .1 (u .1)) (g .all-have i l .1 (rw e (u .2))))))
+      (λ u. or-r (y S) (x S && rest) (and-i (x S) rest (u .0) (and-i preceded (bit all i) (g .some-precedes .1 (u .1)) (g .all-have (g .some-precedes .1 (u .1)) i l .1 (rw e (u .2))))))
       (as-clause M valid m x y S c .0 (rw e at t))))
 
   -- line i is right where the lines before it are

@@ -335,7 +335,7 @@ module _ (W : World) (valid : List Event → Event → Type 0) (ts : List Event)
       preceding = record
         { some-has = λ i l. ((λ t. let w = right (W .stored) i l .some-has .0 t in (w .0, from-leads (w .0) (w .1), w .2))
             , λ w. right (W .stored) i l .some-has .1 (w .0, leads-from (w .0) (w .1), w .2))
-        ; all-have = λ i l. ((λ t S′ k. right (W .stored) i l .all-have .0 t S′ (leads-from S′ k))
+        ; all-have = λ _ i l. ((λ t S′ k. right (W .stored) i l .all-have .0 t S′ (leads-from S′ k))
             , λ h. right (W .stored) i l .all-have .1 (λ S′ w. h S′ (from-leads S′ w)))
         ; some-precedes = ((λ t. (S₀, origin-precedes e ts S₀ c₀ r₀)), λ w. tt)
         }

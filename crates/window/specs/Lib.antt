@@ -11,4 +11,8 @@ pub mod FrontierLaws
 pub mod LookUp
 pub mod JudgingNew
 pub mod StepTheorem
+pub mod Start
+pub mod StartTheorem
+pub mod Unique
+pub mod Verdict
 pub mod Bytes

@@ -21,3 +21,6 @@ before-shift n h f g = ?
 
 pub before-total : (n : ℕ) (f g : ℕ → ℕ) → T (before (listOf n f) (listOf n g)) ⊎ ((listOf n f ≡ listOf n g) ⊎ T (before (listOf n g) (listOf n f)))
 before-total n f g = ?
+
+pub before-above : (n : ℕ) (f g : ℕ → ℕ) → ((p : ℕ) → f p ≤ g p) → T (before (listOf n g) (listOf n f)) → ⊥
+before-above n f g h t = ?

@@ -1,0 +1,16 @@
+-- The first frontier: the cut of zeros, with the start labels, judged where nothing precedes (01, The calls: open).
+use Prim.Native.Nat.{ℕ}
+use mathlib.Core.Bool.{false}
+use mathlib.Core.List.{List}
+use lib.ListN.{replicate}
+use Rattle.rules.specs.declared.Line.{Line}
+use Rattle.rules.specs.Judge.{judge}
+use Rattle.window.specs.declared.Frontier.{Frontier}
+
+unfoldable pub startFrontier : ℕ → List ℕ → List Line → Frontier
+startFrontier stored labels table = record
+  { counts = replicate stored 0
+  ; labels = labels
+  ; masks = replicate stored 0
+  ; values = judge labels 0 0 false table
+  }
