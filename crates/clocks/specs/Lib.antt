@@ -20,3 +20,15 @@ pub mod BoundedLaws
 pub mod Tested
 pub mod TestedLaws
 pub mod Predecessors
+pub mod BoundedSteps
+pub mod Counts
+pub mod CountsLaws
+pub mod Refusal
+pub mod ValidTest
+pub mod Key
+pub mod SameEvent
+pub mod RefusalLaws
+pub mod ValidTestLaws
+pub mod KeyLaws
+pub mod SameEventLaws
+pub mod JoinSteps
