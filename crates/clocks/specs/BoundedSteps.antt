@@ -4,7 +4,6 @@ use native.Mathlib.Numerals.{add-one}
 use mathlib.Core.Path.{_≡_, refl, sym, _∙_}
 use mathlib.Core.Bool.{Bool, true, false, true≢false}
 use mathlib.Core.Logic.{⊎-elim}
-use lib.Dec.{T}
 use Rattle.clocks.specs.Bounded.{allBelow, anyBelow}
 use Rattle.clocks.specs.BoundedLaws.{all-e, any-i, any-e}
 use Rattle.clocks.specs.EventLaws.{either, true-T, T-true}

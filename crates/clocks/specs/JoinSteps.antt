@@ -1,7 +1,7 @@
 -- The join as it is computed over stored clocks, one process after the other.
-use Prim.Native.Nat.{ℕ, suc, _+_, _<_}
+use Prim.Native.Nat.{ℕ, suc, _+_}
 use native.Mathlib.Numerals.{add-one}
-use mathlib.Core.Path.{_≡_, refl, sym}
+use mathlib.Core.Path.{_≡_}
 use mathlib.Core.Bool.{Bool, true, false}
 use Rattle.clocks.specs.Event.{Cut}
 use Rattle.clocks.specs.Lattice.{upper}

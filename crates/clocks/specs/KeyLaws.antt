@@ -2,16 +2,16 @@
 use Prim.Native.Nat.{ℕ, _^_, _<_}
 use native.Mathlib.Omega.{arith}
 use native.Mathlib.Decide.{decLt}
-use mathlib.Core.Path.{_≡_, refl, sym, ap, _∙_}
-use mathlib.Core.Bool.{Bool, true, false, _&&_, _||_}
-use mathlib.Core.Logic.{_⊎_, inl, inr, _↔_, ⊎-elim}
-use lib.Dec.{T, ltb, eqb, eqb→eq, eqb-refl, ltb→lt, lt→ltb}
+use mathlib.Core.Path.{_≡_}
+use mathlib.Core.Bool.{true, false, _&&_}
+use mathlib.Core.Logic.{_⊎_, inl, inr, ⊎-elim}
+use lib.Dec.{T, ltb, eqb, eqb→eq, ltb→lt, lt→ltb}
 use lib.Count.{trailing-of-zero}
 use borrow.Author.Tests.{eq-eqb}
 use Rattle.codec.specs.LowestBit.{trailing-lt, bit-trailing, bit-below-trailing}
 use Rattle.clocks.specs.declared.Event.{Event}
 use Rattle.clocks.specs.declared.Key.{Key}
-use Rattle.clocks.specs.Event.{involved}
+use Rattle.clocks.specs.Event.{involved, count}
 use Rattle.clocks.specs.EventLaws.{true-T}
 use Rattle.clocks.specs.BoundedLaws.{and-i, and-l, and-r, or-l, or-r, or-e}
 use Rattle.clocks.specs.Key.{lowest, keyBefore, Before}
@@ -23,8 +23,10 @@ before-e a b t = ⊎-elim (λ l. inl (ltb→lt (a .process) (b .process) l)) bot
   where
     both : T (eqb (a .process) (b .process) && ltb (a .count) (b .count)) → Before a b
     both w =
-        inr (eqb→eq (a .process) (b .process) (and-l (eqb (a .process) (b .process)) (ltb (a .count) (b .count)) w)
-        , ltb→lt (a .count) (b .count) (and-r (eqb (a .process) (b .process)) (ltb (a .count) (b .count)) w))
+        inr (
+          eqb→eq (a .process) (b .process) (and-l (eqb (a .process) (b .process)) (ltb (a .count) (b .count)) w),
+          ltb→lt (a .count) (b .count) (and-r (eqb (a .process) (b .process)) (ltb (a .count) (b .count)) w),
+        )
 
 pub before-i : (a b : Key) → Before a b → T (keyBefore a b)
 unfolding keyBefore

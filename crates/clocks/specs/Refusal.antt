@@ -15,15 +15,15 @@ use Rattle.clocks.specs.Counts.{at}
 unfoldable pub badMask : ℕ → ℕ → Bool
 badMask k m = eqb m 0 || anyBelow 64 (λ p. leb k p && bit m p)
 
--- What 8 asks of process p: its count is 0 and it takes part, or its count is not 0 and it is not one of the k.
+-- What 8 asks of process p: it takes part and its count is 0, or it is none of the k and its count is not 0.
 abbrev pub badCount : ℕ → ℕ → List ℕ → ℕ → Bool
-badCount k m clock p = cond (eqb (at clock p) 0) (bit m p) (leb k p)
+badCount k m clock p = (bit m p && eqb (at clock p) 0) || (leb k p && not (eqb (at clock p) 0))
 
 -- 8: count 0 at a process that takes part, or not 0 from process k up.
 unfoldable pub badClock : ℕ → ℕ → List ℕ → Bool
 badClock k m clock = anyBelow 8 (badCount k m clock)
 
--- What 9 asks of process p: its label byte is not 0 and it does not take part; at open, and it is not one of the k.
+-- What 9 asks of process p: it does not take part, or at open is none of the k, and its label byte is not 0.
 abbrev pub badLabel : ℕ → List ℕ → ℕ → Bool
 badLabel m labels p = not (bit m p) && not (eqb (at labels p) 0)
 

@@ -6,8 +6,8 @@ use native.Mathlib.Nat.{div-eq-of-lt, div-lt-iff-lt-mul, lt-of-lt-of-le}
 use mathlib.Core.Path.{_≡_, refl, sym, ap, _∙_}
 use mathlib.Core.Bool.{Bool, true, false, cond, not, _&&_, _||_, true≢false}
 use mathlib.Core.List.{List}
-use mathlib.Core.Logic.{_⊎_, inl, inr, _↔_, _≢_, ⊎-elim}
-use lib.Dec.{T, leb, eqb, eqb→eq}
+use mathlib.Core.Logic.{_↔_, _≢_, ⊎-elim}
+use lib.Dec.{T, leb, eqb}
 use lib.ListN.{length}
 use lib.Pow.{pow-pos, pow-mono}
 use borrow.Author.Tests.{le-leb, lt-leb, leb-true, eq-eqb, ne-eqb, eqb-true, eqb-false, not-true, not-false}
@@ -16,13 +16,12 @@ use Rattle.codec.specs.BitLaws.{bit-zero, bit-above, lt-of-bits}
 use Rattle.codec.specs.LowestBit.{some-bit}
 use Rattle.clocks.specs.declared.Event.{Event}
 use Rattle.clocks.specs.Event.{involved, count}
-use Rattle.clocks.specs.EventLaws.{either, true-T, T-true}
+use Rattle.clocks.specs.EventLaws.{either, true-T}
 use Rattle.clocks.specs.Bounded.{anyBelow}
 use Rattle.clocks.specs.BoundedSteps.{any-false-i, any-false-e}
 use Rattle.clocks.specs.Counts.{at}
 use Rattle.clocks.specs.CountsLaws.{at-beyond}
-use Rattle.clocks.specs.Valid.{WellFormed}
-use Rattle.clocks.specs.Refusal.{badMask, badCount, badClock, badLabel, badLabels, badStartLabel, badStart, eventFault, Faultless}
+use Rattle.clocks.specs.Refusal.{badMask, badCount, badClock, badLabels, badStart, eventFault, Faultless}
 
 -- ---- Two tests together, both ways
 or-false : (a b : Bool) → (a || b ≡ false) ↔ ((a ≡ false) × (b ≡ false))
@@ -74,12 +73,27 @@ is-false : (b : Bool) → (b ≡ true → ⊥) → b ≡ false
 is-false true h = absurd (h refl)
 is-false false h = refl
 
+-- a choice by a third test
+pub choice : (z a b : Bool) → cond z a b ≡ ((a && z) || (b && not z))
+choice true true b = refl
+choice true false true = refl
+choice true false false = refl
+choice false true true = refl
+choice false true false = refl
+choice false false true = refl
+choice false false false = refl
+
 -- one process: with b whether it takes part and n its count
-count-fine : (b : Bool) (k p n : ℕ) → (cond (eqb n 0) b (leb k p) ≡ false) ↔ ((b ≡ true → 0 < n) × (k ≤ p → n ≡ 0))
-count-fine b k p zero =
-    (λ h. (λ t. absurd (true≢false (sym t ∙ h)), λ l. refl), λ w. is-false b (λ t. let z : 0 < 0 = w .0 t in omega arith))
-count-fine b k p (suc n) = rw (ne-eqb (suc n) 0 (λ (z : suc n ≡ 0). omega arith))
-    (λ h. (λ t. omega arith, λ l. absurd (true≢false (sym (le-leb k p l) ∙ h))), λ w. is-false (leb k p) (λ t. let z : suc n ≡ 0 = w .1 (leb-true k p t) in omega arith))
+count-fine : (b : Bool) (k p n : ℕ) → (((b && eqb n 0) || (leb k p && not (eqb n 0))) ≡ false) ↔ ((b ≡ true → 0 < n) × (k ≤ p → n ≡ 0))
+count-fine b k p n = rw (← choice (eqb n 0) b (leb k p)) (chosen n)
+  where
+    chosen : (n : ℕ) → (cond (eqb n 0) b (leb k p) ≡ false) ↔ ((b ≡ true → 0 < n) × (k ≤ p → n ≡ 0))
+    chosen zero =
+        (λ h. (λ t. absurd (true≢false (sym t ∙ h)), λ l. refl), λ w. is-false b (λ t. let z : 0 < 0 = w .0 t in omega arith))
+    chosen (suc n) = rw (ne-eqb (suc n) 0 (λ (z : suc n ≡ 0). omega arith)) (
+      λ h. (λ t. omega arith, λ l. absurd (true≢false (sym (le-leb k p l) ∙ h))),
+      λ w. is-false (leb k p) (λ t. let z : suc n ≡ 0 = w .1 (leb-true k p t) in omega arith),
+    )
 
 pub clock-fine : (k m : ℕ) (clock : List ℕ) → m < 2 ^ 8 → length clock ≤ 8 → (badClock k m clock ≡ false) ↔ ((p : ℕ) → (bit m p ≡ true → 0 < at clock p) × (k ≤ p → at clock p ≡ 0))
 unfolding badClock
@@ -177,17 +191,17 @@ no-fault k e eight word c8 l8 = (there, back)
         let m = mask-fine k (e .mask) word .0 (w .0) in
         let c = clock-fine k (e .mask) (e .clock) (below-256 k (e .mask) eight (m .1)) (omega arith) .0 (w .1) in
         let b = some-bit (e .mask) (λ (q : e .mask ≡ 0). omega (arith, m .0)) in
-        record
-          { formed = record { occupied = (b .0, true-T (b .1)); below = λ p l. bit-above (e .mask) k p (m .1) l; silent = λ p l. c p .1 l }
-          ; counted = λ p b. c p .0 b
-          ; unlabelled = event-labels-fine (e .mask) (e .labels) (omega arith) .0 (w .2)
-          }
+        record {
+          formed = record { occupied = (b .0, true-T (b .1)); below = λ p l. bit-above (e .mask) k p (m .1) l; silent = λ p l. c p .1 l };
+          counted = λ p b. c p .0 b;
+          unlabelled = event-labels-fine (e .mask) (e .labels) (omega arith) .0 (w .2);
+        }
 
     back : Faultless k e → eventFault k (e .mask) (e .clock) (e .labels) ≡ 0
     back f =
         let m : e .mask < 2 ^ k = lt-of-bits k (e .mask) (f .formed .below) in
-        fault-0 k (e .mask) (e .clock) (e .labels) .1
-        ( mask-fine k (e .mask) word .1 (bit-positive (e .mask) (f .formed .occupied .0) (f .formed .occupied .1), m)
-        , clock-fine k (e .mask) (e .clock) (below-256 k (e .mask) eight m) (omega arith) .1 (λ p. (f .counted p, f .formed .silent p))
-        , event-labels-fine (e .mask) (e .labels) (omega arith) .1 (f .unlabelled)
+        fault-0 k (e .mask) (e .clock) (e .labels) .1 (
+          mask-fine k (e .mask) word .1 (bit-positive (e .mask) (f .formed .occupied .0) (f .formed .occupied .1), m),
+          clock-fine k (e .mask) (e .clock) (below-256 k (e .mask) eight m) (omega arith) .1 (λ p. (f .counted p, f .formed .silent p)),
+          event-labels-fine (e .mask) (e .labels) (omega arith) .1 (f .unlabelled),
         )

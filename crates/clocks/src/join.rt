@@ -2,7 +2,6 @@
 
 use crate::Event;
 use crate::step::is_next;
-
 ghost use Prim.Native.Nat.{_+_, max};
 ghost use mathlib.Core.Path.{_≡_};
 ghost use lib.Dec.{eqb};
@@ -17,11 +16,7 @@ ghost use Rattle.clocks.specs.Lattice.{upper};
 fn larger_count(a: u32, b: u32) -> u32
     ensures { λ r. ⌜ r ≡ max a b ⌝ }
 {
-    if a < b {
-        b
-    } else {
-        a
-    }
+    if a < b { b } else { a }
 }
 
 // The larger of two clocks, count by count.

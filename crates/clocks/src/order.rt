@@ -2,7 +2,6 @@
 
 use crate::Event;
 use crate::Key;
-
 ghost use mathlib.Core.Path.{_≡_};
 ghost use Rattle.clocks.specs.Key.{keyOf, keyBefore};
 ghost use Rattle.clocks.specs.SameEvent.{sameEvent};

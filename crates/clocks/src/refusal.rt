@@ -2,7 +2,7 @@
 
 ghost use Prim.Native.Nat.{_≤_};
 ghost use mathlib.Core.Path.{_≡_};
-ghost use mathlib.Core.Bool.{cond, not, _&&_};
+ghost use mathlib.Core.Bool.{not, _&&_, _||_};
 ghost use lib.Dec.{eqb};
 ghost use Rattle.clocks.specs.Refusal.{badMask, badClock, badLabels, badStart, eventFault};
 
@@ -19,13 +19,9 @@ pub fn bad_mask(k: u32, mask: u64) -> bool
 
 // What 8 asks of one process: count 0 where it takes part, or not 0 where it is none of the k.
 fn bad_count(count: u32, involved: bool, beyond: bool) -> bool
-    ensures { λ r. ⌜ r ≡ cond (eqb count 0) involved beyond ⌝ }
+    ensures { λ r. ⌜ r ≡ ((involved && eqb count 0) || (beyond && not (eqb count 0))) ⌝ }
 {
-    if count == 0 {
-        involved
-    } else {
-        beyond
-    }
+    if count == 0 { involved } else { beyond }
 }
 
 // 8: count 0 at a process that takes part, or not 0 from process k up.
@@ -46,11 +42,7 @@ pub fn bad_clock(k: u32, mask: u64, clock: [u32; 8]) -> bool
 fn stray(outside: bool, label: u8) -> bool
     ensures { λ r. ⌜ r ≡ (outside && not (eqb label 0)) ⌝ }
 {
-    if outside {
-        label != 0
-    } else {
-        false
-    }
+    if outside { label != 0 } else { false }
 }
 
 // 9, of an event: a label byte not 0 at a process that does not take part.

@@ -1,7 +1,6 @@
 // When an event may be taken, and where it leads (01, Clocks and cuts: ready, enabled).
 
 use crate::Event;
-
 ghost use Prim.Native.Nat.{_+_, _-_};
 ghost use mathlib.Core.Path.{_≡_};
 ghost use mathlib.Core.Bool.{cond};
@@ -51,11 +50,7 @@ pub fn ready(e: Event, counts: [u32; 8]) -> bool
 fn chosen(first: bool, a: u32, b: u32) -> u32
     ensures { λ r. ⌜ r ≡ cond first a b ⌝ }
 {
-    if first {
-        a
-    } else {
-        b
-    }
+    if first { a } else { b }
 }
 
 // Where a ready event leads from a cut: its own count at each process that takes part.
@@ -79,11 +74,7 @@ fn lower(involved: bool, c: u32) -> u32
     ensures { λ r. ⌜ r ≡ c - one involved ⌝ }
 {
     if involved {
-        if c > 0 {
-            c - 1
-        } else {
-            0
-        }
+        if c > 0 { c - 1 } else { 0 }
     } else {
         c
     }

@@ -1,21 +1,18 @@
+-- The join so far is that of the processes passed: a member's clock is joined to it, another's is passed over.
+use Prim.Native.Nat.{ℕ, _≤_, _-_}
 use native.Mathlib.Omega.{arith}
 use mathlib.Core.Path.{_≡_, refl, sym, ap, _∙_}
-use Prim.Native.Nat.{ℕ, _≤_, _<_, _-_, _+_, _*_}
-use mathlib.Core.List.{List, _++_}
-use lib.ListN.{length, getD, take, drop, set, length-set}
+use mathlib.Core.List.{List}
 use mathlib.Core.Logic.{⊎-elim}
+use lib.ListN.{set}
+use borrow.Author.Needs.{needs}
+use Rattle.codec.specs.Bit.{bit}
 use Rattle.clocks.specs.Counts.{listOf, rows, at}
 use Rattle.clocks.specs.Valid.{joinTo}
-use Rattle.codec.specs.Bit.{bit}
 use Rattle.clocks.specs.JoinSteps.{join-next, join-skip}
 use Rattle.clocks.specs.Lattice.{upper}
-use borrow.Author.Needs.{needs}
 use Rattle.clocks.proofs.join.join.Statement.{statement}
 use Rattle.clocks.proofs.join.join.Tie as tie
-use Rattle.clocks.proofs.join.join.Reads as reads
-use Rattle.clocks.proofs.join.join.Lts as lts
-use Rattle.clocks.proofs.join.larger.Reads as larger-reads
-use Rattle.codec.proofs.has_bit.Reads as has-bit-reads
 
 abbrev Inv-loop : tie.InvT-loop
 Inv-loop mask last word out₀ p₀ out p = (p ≤ 8) × (out ≡ listOf 8 (joinTo p (bit mask) (rows last)))
@@ -23,52 +20,42 @@ Inv-loop mask last word out₀ p₀ out p = (p ≤ 8) × (out ≡ listOf 8 (join
 abbrev μ-loop : tie.MeasureT-loop
 μ-loop mask last word out₀ p₀ out p = 8 - p
 
--- src/join.rt:47:5
 loop-holds : tie.Need-loop-holds Inv-loop μ-loop
 unfolding listOf joinTo
 loop-holds c = (search needs, refl)
 
--- src/join.rt:48:12
 has-bit-requires : tie.Need-has-bit-requires Inv-loop μ-loop
 has-bit-requires c κs = search needs
 
--- src/join.rt:49:30
 cast-clock : tie.Need-cast-clock Inv-loop μ-loop
 cast-clock c = search needs
 
--- src/join.rt:49:25
 mul-clock : tie.Need-mul-clock Inv-loop μ-loop
 mul-clock c = search needs
 
--- src/join.rt:49:25
 array-copy-out-clock : tie.Need-array-copy-out-clock Inv-loop μ-loop
 array-copy-out-clock c = search needs
 
--- src/join.rt:50:17
 larger-requires : tie.Need-larger-requires Inv-loop μ-loop
 larger-requires c κs = search needs
 
--- src/join.rt:53:9
 add-p : tie.Need-add-p Inv-loop μ-loop
 add-p c = search needs
 
--- src/join.rt:47:5
 loop-less : tie.Need-loop-less Inv-loop μ-loop
 loop-less c = search needs
 
--- src/join.rt:47:5
 loop-again : tie.Need-loop-again Inv-loop μ-loop
 loop-again c = let a = c .before .before .before .before .args in
     let p = c .before .before .before .loop .p in
-    let set = c .before .has-bit .ensures in
-    ( search needs
-    , ⊎-elim
-      (λ w. w .3 ∙ w .2 .ensures ∙ ap (λ (o : List ℕ). listOf 8 (upper (rows (a .t1) p) (at o))) (c .before .before .before .loop .inv .1) ∙ join-next 8 p (bit (a .mask)) (rows (a .t1)) (sym set ∙ w .0 .taken))
-      (λ w. w .1 ∙ c .before .before .before .loop .inv .1 ∙ join-skip 8 p (bit (a .mask)) (rows (a .t1)) (sym set ∙ w .0 .left))
-      (c .if1 .came)
+    let set = c .before .has-bit .ensures in (
+      search needs,
+      ⊎-elim
+          (λ w. w .3 ∙ w .2 .ensures ∙ ap (λ (o : List ℕ). listOf 8 (upper (rows (a .t1) p) (at o))) (c .before .before .before .loop .inv .1) ∙ join-next 8 p (bit (a .mask)) (rows (a .t1)) (sym set ∙ w .0 .taken))
+          (λ w. w .1 ∙ c .before .before .before .loop .inv .1 ∙ join-skip 8 p (bit (a .mask)) (rows (a .t1)) (sym set ∙ w .0 .left))
+          (c .if1 .came),
     )
 
--- src/join.rt:41:1
 returns : tie.Need-returns Inv-loop μ-loop
 returns c = let e : c .before .loop .p ≡ 8 = omega arith in rw e at (c .before .loop .inv .1)
 

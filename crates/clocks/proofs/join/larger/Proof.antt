@@ -1,19 +1,13 @@
-use native.Mathlib.Omega.{arith}
-use mathlib.Core.Path.{_≡_, refl, sym, ap, _∙_}
-use Prim.Native.Nat.{ℕ, _≤_, _<_, _-_, _+_, _*_}
-use mathlib.Core.List.{List, _++_}
-use lib.ListN.{length, getD, take, drop, set, length-set}
-use mathlib.Core.Logic.{⊎-elim}
-use Rattle.clocks.specs.Counts.{at, listOf}
-use Rattle.clocks.specs.Event.{apply, minus, one}
+-- The result agrees with the larger counts below i.
+use Prim.Native.Nat.{ℕ, _≤_, _<_, _-_}
+use mathlib.Core.Path.{_≡_}
+use lib.ListN.{length, getD}
+use borrow.Author.Needs.{needs}
+use Rattle.clocks.specs.Counts.{at}
 use Rattle.clocks.specs.Lattice.{upper}
 use Rattle.clocks.specs.CountsLaws.{filled, fill-next}
-use borrow.Author.Needs.{needs}
 use Rattle.clocks.proofs.join.larger.Statement.{statement}
 use Rattle.clocks.proofs.join.larger.Tie as tie
-use Rattle.clocks.proofs.join.larger.Reads as reads
-use Rattle.clocks.proofs.join.larger.Lts as lts
-use Rattle.clocks.proofs.join.larger_count.Reads as larger-count-reads
 
 abbrev Inv-loop : tie.InvT-loop
 Inv-loop a b out₀ i₀ out i = (i ≤ 8) × (length out ≡ 8) × ((q : ℕ) → q < i → getD out q 0 ≡ upper (at a) (at b) q)
@@ -21,51 +15,39 @@ Inv-loop a b out₀ i₀ out i = (i ≤ 8) × (length out ≡ 8) × ((q : ℕ) �
 abbrev μ-loop : tie.MeasureT-loop
 μ-loop a b out₀ i₀ out i = 8 - i
 
--- src/join.rt:33:5
 loop-holds : tie.Need-loop-holds Inv-loop μ-loop
 loop-holds c = search needs
 
--- src/join.rt:34:31
 mul-larger-count : tie.Need-mul-larger-count Inv-loop μ-loop
 mul-larger-count c = search needs
 
--- src/join.rt:34:31
 array-read-larger-count : tie.Need-array-read-larger-count Inv-loop μ-loop
 array-read-larger-count c = search needs
 
--- src/join.rt:34:37
 mul-larger-count-2 : tie.Need-mul-larger-count-2 Inv-loop μ-loop
 mul-larger-count-2 c = search needs
 
--- src/join.rt:34:37
 array-read-larger-count-2 : tie.Need-array-read-larger-count-2 Inv-loop μ-loop
 array-read-larger-count-2 c = search needs
 
--- src/join.rt:34:18
 larger-count-requires : tie.Need-larger-count-requires Inv-loop μ-loop
 larger-count-requires c κs = search needs
 
--- src/join.rt:34:9
 mul-out : tie.Need-mul-out Inv-loop μ-loop
 mul-out c = search needs
 
--- src/join.rt:34:9
 array-write-out : tie.Need-array-write-out Inv-loop μ-loop
 array-write-out c = search needs
 
--- src/join.rt:35:9
 add-i : tie.Need-add-i Inv-loop μ-loop
 add-i c = search needs
 
--- src/join.rt:33:5
 loop-less : tie.Need-loop-less Inv-loop μ-loop
 loop-less c = search needs
 
--- src/join.rt:33:5
 loop-again : tie.Need-loop-again Inv-loop μ-loop
 loop-again c = (search needs, search needs, fill-next _ 0 (c .before .before .loop .out) (c .before .before .loop .i) (c .larger-count .result) (search needs) (c .larger-count .ensures) (c .before .before .loop .inv .2))
 
--- src/join.rt:28:1
 returns : tie.Need-returns Inv-loop μ-loop
 returns c = filled 8 _ 0 (c .before .loop .out) (search needs) (λ q l. c .before .loop .inv .2 q (search needs))
 

@@ -1,23 +1,15 @@
-use native.Mathlib.Omega.{arith}
-use mathlib.Core.Path.{_≡_, refl, sym, ap, _∙_}
-use Prim.Native.Nat.{ℕ, _≤_, _<_, _-_, _+_, _*_}
-use mathlib.Core.List.{List, _++_}
-use lib.ListN.{length, getD, take, drop, set, length-set}
-use mathlib.Core.Logic.{⊎-elim}
+-- The test of count 0 chooses which of the two conditions can hold.
+use mathlib.Core.Bool.{true, false}
 use borrow.Author.Tests.{eq-eqb, ne-eqb}
-use borrow.Author.Needs.{needs}
+use Rattle.clocks.specs.RefusalLaws.{choice}
 use Rattle.clocks.proofs.refusal.bad_count.Statement.{statement}
 use Rattle.clocks.proofs.refusal.bad_count.Tie as tie
-use Rattle.clocks.proofs.refusal.bad_count.Reads as reads
-use Rattle.clocks.proofs.refusal.bad_count.Lts as lts
 
--- src/refusal.rt:21:1
 returns : tie.Need-returns
-returns c = rw (eq-eqb _ _ (c .if1 .taken))
+returns c = rw (eq-eqb _ _ (c .if1 .taken)) (choice true (c .before .args .involved) (c .before .args .beyond))
 
--- src/refusal.rt:21:1
 returns-2 : tie.Need-returns-2
-returns-2 c = rw (ne-eqb _ _ (c .if1 .left))
+returns-2 c = rw (ne-eqb _ _ (c .if1 .left)) (choice false (c .before .args .involved) (c .before .args .beyond))
 
 pub bad-count-spec : {M : Type 1} → statement M
 bad-count-spec = tie.close (tie.spec returns returns-2)

@@ -1,21 +1,14 @@
-use native.Mathlib.Omega.{arith}
-use mathlib.Core.Path.{_≡_, refl, sym, ap, _∙_}
-use Prim.Native.Nat.{ℕ, _≤_, _<_, _-_, _+_, _*_}
-use mathlib.Core.List.{List, _++_}
-use lib.ListN.{length, getD, take, drop, set, length-set}
-use mathlib.Core.Logic.{⊎-elim}
-use Rattle.clocks.specs.Counts.{at, listOf}
-use Rattle.clocks.specs.Event.{apply, minus, one}
-use Rattle.clocks.specs.Lattice.{upper}
-use Rattle.clocks.specs.CountsLaws.{filled, fill-next}
+-- The result agrees with the cut less the mask below p.
+use Prim.Native.Nat.{ℕ, _≤_, _<_, _-_}
+use mathlib.Core.Path.{_≡_, ap, _∙_}
 use mathlib.Core.Bool.{Bool}
+use lib.ListN.{length, getD}
 use borrow.Author.Needs.{needs}
+use Rattle.clocks.specs.Counts.{at}
+use Rattle.clocks.specs.Event.{minus, one}
+use Rattle.clocks.specs.CountsLaws.{filled, fill-next}
 use Rattle.clocks.proofs.step.minus.Statement.{statement}
 use Rattle.clocks.proofs.step.minus.Tie as tie
-use Rattle.clocks.proofs.step.minus.Reads as reads
-use Rattle.clocks.proofs.step.minus.Lts as lts
-use Rattle.clocks.proofs.step.lower.Reads as lower-reads
-use Rattle.codec.proofs.has_bit.Reads as has-bit-reads
 
 abbrev Inv-loop : tie.InvT-loop
 Inv-loop mask counts word out₀ p₀ out p = (p ≤ 8) × (length out ≡ 8) × ((q : ℕ) → q < p → getD out q 0 ≡ minus mask (at counts) q)
@@ -23,52 +16,40 @@ Inv-loop mask counts word out₀ p₀ out p = (p ≤ 8) × (length out ≡ 8) ×
 abbrev μ-loop : tie.MeasureT-loop
 μ-loop mask counts word out₀ p₀ out p = 8 - p
 
--- src/step.rt:99:5
 loop-holds : tie.Need-loop-holds Inv-loop μ-loop
 loop-holds c = search needs
 
--- src/step.rt:100:17
 cast-i : tie.Need-cast-i Inv-loop μ-loop
 cast-i c = search needs
 
--- src/step.rt:101:24
 has-bit-requires : tie.Need-has-bit-requires Inv-loop μ-loop
 has-bit-requires c κs = search needs
 
--- src/step.rt:101:49
 mul-lower : tie.Need-mul-lower Inv-loop μ-loop
 mul-lower c = search needs
 
--- src/step.rt:101:49
 array-read-lower : tie.Need-array-read-lower Inv-loop μ-loop
 array-read-lower c = search needs
 
--- src/step.rt:101:18
 lower-requires : tie.Need-lower-requires Inv-loop μ-loop
 lower-requires c κs = search needs
 
--- src/step.rt:101:9
 mul-out : tie.Need-mul-out Inv-loop μ-loop
 mul-out c = search needs
 
--- src/step.rt:101:9
 array-write-out : tie.Need-array-write-out Inv-loop μ-loop
 array-write-out c = search needs
 
--- src/step.rt:102:9
 add-p : tie.Need-add-p Inv-loop μ-loop
 add-p c = search needs
 
--- src/step.rt:99:5
 loop-less : tie.Need-loop-less Inv-loop μ-loop
 loop-less c = search needs
 
--- src/step.rt:99:5
 loop-again : tie.Need-loop-again Inv-loop μ-loop
 unfolding minus
 loop-again c = (search needs, search needs, fill-next _ 0 (c .before .before .before .loop .out) (c .before .before .before .loop .p) (c .lower .result) (search needs) (c .lower .ensures ∙ ap (λ (b : Bool). getD (c .before .before .before .before .args .t2) (c .before .before .before .loop .p) 0 - one b) (c .before .has-bit .ensures)) (c .before .before .before .loop .inv .2))
 
--- src/step.rt:93:1
 returns : tie.Need-returns Inv-loop μ-loop
 returns c = filled 8 _ 0 (c .before .loop .out) (search needs) (λ q l. c .before .loop .inv .2 q (search needs))
 
