@@ -1,12 +1,13 @@
 -- The order of keys is a strict order in which any two different keys compare; a key's process is the lowest that takes part.
-use Prim.Native.Nat.{ℕ, _^_, _<_}
+use Prim.Native.Nat.{ℕ, _^_, _<_, _≤_}
 use native.Mathlib.Omega.{arith}
 use native.Mathlib.Decide.{decLt}
-use mathlib.Core.Path.{_≡_}
+use mathlib.Core.Path.{_≡_, sym, ap, _∙_}
 use mathlib.Core.Bool.{true, false, _&&_}
 use mathlib.Core.Logic.{_⊎_, inl, inr, ⊎-elim}
 use lib.Dec.{T, ltb, eqb, eqb→eq, ltb→lt, lt→ltb}
 use lib.Count.{trailing-of-zero}
+use lib.ListN.{length}
 use borrow.Author.Tests.{eq-eqb}
 use Rattle.codec.specs.LowestBit.{trailing-lt, bit-trailing, bit-below-trailing}
 use Rattle.clocks.specs.declared.Event.{Event}
@@ -14,7 +15,9 @@ use Rattle.clocks.specs.declared.Key.{Key}
 use Rattle.clocks.specs.Event.{involved, count}
 use Rattle.clocks.specs.EventLaws.{true-T}
 use Rattle.clocks.specs.BoundedLaws.{and-i, and-l, and-r, or-l, or-r, or-e}
-use Rattle.clocks.specs.Key.{lowest, keyBefore, Before}
+use Rattle.clocks.specs.Key.{lowest, keyBefore, Before, keyOf}
+use Rattle.clocks.specs.Counts.{at}
+use Rattle.clocks.specs.CountsLaws.{at-beyond}
 
 -- ---- The test, in plain statements
 pub before-e : (a b : Key) → T (keyBefore a b) → Before a b
@@ -84,3 +87,15 @@ lowest-least e q l = bit-below-trailing 8 (e .mask) q l
 pub lowest-none : (e : Event) → e .mask ≡ 0 → lowest e ≡ 8
 unfolding lowest
 lowest-none e z = rw z (trailing-of-zero 8)
+
+-- ---- A key, put together from a process and a count
+abbrev pub pair : ℕ → ℕ → Key
+pair p n = record { process = p; count = n }
+
+pub key-at : (e : Event) (p : ℕ) → p ≡ lowest e → pair p (at (e .clock) p) ≡ keyOf e
+unfolding keyOf
+key-at e p q = ap (λ (r : ℕ). pair r (at (e .clock) r)) q
+
+-- past the end of the clock the count is 0
+pub key-beyond : (e : Event) (p : ℕ) → length (e .clock) ≤ p → p ≡ lowest e → pair p 0 ≡ keyOf e
+key-beyond e p l q = ap (pair p) (sym (at-beyond (e .clock) p l)) ∙ key-at e p q

@@ -66,13 +66,13 @@ pub fn valid(e: Event, last: [[u32; 8]; 8]) -> bool
 {
     let known = join(last, e.mask);
     let mask = e.mask as u64;
-    let mut p: u32 = 0;
-    while p < 8 {
-        let i = p as usize;
-        if !valid_at(codec::has_bit(mask, p), e.clock[i], known[i]) {
+    let mut q: u32 = 0;
+    while q < 8 {
+        let i = q as usize;
+        if !valid_at(codec::has_bit(mask, q), e.clock[i], known[i]) {
             return false;
         }
-        p += 1;
+        q += 1;
     }
     true
 }

@@ -16,10 +16,10 @@ use Rattle.clocks.proofs.join.valid.Statement.{statement}
 use Rattle.clocks.proofs.join.valid.Tie as tie
 
 abbrev Inv-loop : tie.InvT-loop
-Inv-loop e known mask p₀ p = (p ≤ 8) × (allBelow p (equalsKnown e known) ≡ true)
+Inv-loop e known mask q₀ q = (q ≤ 8) × (allBelow q (equalsKnown e known) ≡ true)
 
 abbrev μ-loop : tie.MeasureT-loop
-μ-loop e known mask p₀ p = 8 - p
+μ-loop e known mask q₀ q = 8 - q
 
 join-requires : tie.Need-join-requires Inv-loop μ-loop
 join-requires c κs = search needs
@@ -51,13 +51,13 @@ array-read-valid-at c = search needs
 valid-at-requires : tie.Need-valid-at-requires Inv-loop μ-loop
 valid-at-requires c κs = search needs
 
--- The call's answer is the test at p.
-here : (c : tie.After-valid-at Inv-loop μ-loop) → equalsKnown (c .before .before .before .before .before .before .args .t1) (c .before .before .before .before .before .join .result) (c .before .before .before .before .loop .p) ≡ c .valid-at .result
+-- The call's answer is the test at q.
+here : (c : tie.After-valid-at Inv-loop μ-loop) → equalsKnown (c .before .before .before .before .before .before .args .t1) (c .before .before .before .before .before .join .result) (c .before .before .before .before .loop .q) ≡ c .valid-at .result
 unfolding involved count
 here c =
     let e = c .before .before .before .before .before .before .args .t1 in
-    let p = c .before .before .before .before .loop .p in
-    ap (λ (b : Bool). eqb (at (e .clock) p) (at (c .before .before .before .before .before .join .result) p + one b)) (sym (c .before .before .has-bit .ensures)) ∙ sym (c .valid-at .ensures)
+    let q = c .before .before .before .before .loop .q in
+    ap (λ (b : Bool). eqb (at (e .clock) q) (at (c .before .before .before .before .before .join .result) q + one b)) (sym (c .before .before .has-bit .ensures)) ∙ sym (c .valid-at .ensures)
 
 -- With the join that was computed, the test is the definition's.
 known : (c : tie.After-join Inv-loop μ-loop) → allBelow 8 (equalsKnown (c .before .args .t1) (c .join .result)) ≡ validBy 8 (c .before .args .t1) (rows (c .before .args .last))
@@ -65,19 +65,19 @@ unfolding involved
 known c = valid-known 8 (c .before .args .t1) (rows (c .before .args .last)) (c .join .result) (c .join .ensures)
 
 returns : tie.Need-returns Inv-loop μ-loop
-returns c = let e = c .before .before .before .before .before .before .before .args .t1 in let j = c .before .before .before .before .before .before .join .result in let p = c .before .before .before .before .before .loop .p in sym (sym (known (c .before .before .before .before .before .before)) ∙ all-stop 8 p (equalsKnown e j) (search needs) (here (c .before) ∙ not-true _ (c .if1 .taken)))
+returns c = let e = c .before .before .before .before .before .before .before .args .t1 in let j = c .before .before .before .before .before .before .join .result in let q = c .before .before .before .before .before .loop .q in sym (sym (known (c .before .before .before .before .before .before)) ∙ all-stop 8 q (equalsKnown e j) (search needs) (here (c .before) ∙ not-true _ (c .if1 .taken)))
 
-add-p : tie.Need-add-p Inv-loop μ-loop
-add-p c = search needs
+add-q : tie.Need-add-q Inv-loop μ-loop
+add-q c = search needs
 
 loop-less : tie.Need-loop-less Inv-loop μ-loop
 loop-less c = search needs
 
 loop-again : tie.Need-loop-again Inv-loop μ-loop
-loop-again c = let e = c .before .before .before .before .before .before .before .args .t1 in let j = c .before .before .before .before .before .before .join .result in let p = c .before .before .before .before .before .loop .p in (search needs, all-next p (equalsKnown e j) (c .before .before .before .before .before .loop .inv .1) (here (c .before) ∙ not-false _ (c .if1 .left)))
+loop-again c = let e = c .before .before .before .before .before .before .before .args .t1 in let j = c .before .before .before .before .before .before .join .result in let q = c .before .before .before .before .before .loop .q in (search needs, all-next q (equalsKnown e j) (c .before .before .before .before .before .loop .inv .1) (here (c .before) ∙ not-false _ (c .if1 .left)))
 
 returns-2 : tie.Need-returns-2 Inv-loop μ-loop
-returns-2 c = let z : c .before .loop .p ≡ 8 = omega arith in sym (sym (known (c .before .before)) ∙ rw z at (c .before .loop .inv .1))
+returns-2 c = let z : c .before .loop .q ≡ 8 = omega arith in sym (sym (known (c .before .before)) ∙ rw z at (c .before .loop .inv .1))
 
 pub valid-spec : {M : Type 1} → statement M
 valid-spec =
@@ -96,7 +96,7 @@ valid-spec =
     array-read-valid-at
     valid-at-requires
     returns
-    add-p
+    add-q
     loop-less
     loop-again
     returns-2)
