@@ -23,6 +23,7 @@ pub mod Predecessors
 pub mod BoundedSteps
 pub mod Counts
 pub mod CountsLaws
+pub mod StepCounts
 pub mod Refusal
 pub mod ValidTest
 pub mod Key

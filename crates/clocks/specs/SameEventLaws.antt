@@ -42,10 +42,6 @@ same-equal e f ec fc el fl t = λ i. record { mask = masks i; clock = clocks i; 
     labels : e .labels ≡ f .labels
     labels = same-eight (e .labels) (f .labels) el fl (λ p l. eqb→eq _ _ (and-r (eqb (at (e .clock) p) (at (f .clock) p)) (eqb (at (e .labels) p) (at (f .labels) p)) (each p l)))
 
--- ---- Theorem
-pub same-test-events : (e f : Event) → length (e .clock) ≡ 8 → length (f .clock) ≡ 8 → length (e .labels) ≡ 8 → length (f .labels) ≡ 8 → T (sameEvent e f) ↔ (e ≡ f)
-same-test-events e f ec fc el fl = (same-equal e f ec fc el fl, λ q. rw q (same-refl f))
-
 -- ---- What a look at the two events, process by process, tells
 pub differ-mask : (e f : Event) → (e .mask ≡ f .mask → ⊥) → sameEvent e f ≡ false
 unfolding sameEvent
@@ -62,3 +58,7 @@ differ-at e f p l d = rw (all-stop 8 p (sameAt e f) l d) (and-false (eqb (e .mas
 pub same-all : (e f : Event) → e .mask ≡ f .mask → allBelow 8 (sameAt e f) ≡ true → sameEvent e f ≡ true
 unfolding sameEvent
 same-all e f m a = rw (eq-eqb (e .mask) (f .mask) m) a
+
+-- ---- Theorem
+pub same-event-test : (e f : Event) → length (e .clock) ≡ 8 → length (f .clock) ≡ 8 → length (e .labels) ≡ 8 → length (f .labels) ≡ 8 → T (sameEvent e f) ↔ (e ≡ f)
+same-event-test e f ec fc el fl = (same-equal e f ec fc el fl, λ q. rw q (same-refl f))

@@ -46,19 +46,6 @@ valid-same n e last last′ h =
     same : (q : ℕ) → q < n → joinTo n (involved e) last q ≡ joinTo n (involved e) last′ q
     same q l = join-same n (involved e) last last′ q (λ p j m. h p q j l)
 
--- ---- Theorem
-pub valid-test : (k n : ℕ) (valid : List Event → Event → Type 0) (ts : List Event) → k ≤ n → History k valid ts → (e : Event) → WellFormed k e
-    → T (validBy n e (lastClock ts)) ↔ Joined n ts e
-unfolding validBy valid-at
-valid-test k n valid ts fit h e w = (there, λ j. all-i n (valid-at n e (lastClock ts)) (λ q l. rw (eq-eqb _ _ (j .each q)) tt))
-  where
-    equal : T (validBy n e (lastClock ts)) → (q : ℕ) → Dec (q < n) → count e q ≡ joinTo n (involved e) (lastClock ts) q + one (involved e q)
-    equal t q (yes l) = eqb→eq _ _ (all-e n (valid-at n e (lastClock ts)) t q l)
-    equal t q (no l) = rw (w .below q (omega arith)) (omega (arith, w .silent q (omega arith), join-silent k valid ts h n (involved e) q (omega arith)))
-
-    there : T (validBy n e (lastClock ts)) → Joined n ts e
-    there t = record { each = λ q. equal t q (decLt q n) }
-
 -- ---- The same test against a join that is already at hand, in a list
 abbrev pub equalsKnown : Event → List ℕ → ℕ → Bool
 equalsKnown e known q = eqb (count e q) (at known q + one (involved e q))
@@ -72,3 +59,16 @@ valid-known n e last known k =
   where
     here : (q : ℕ) → q < n → at known q ≡ joinTo n (involved e) last q
     here q l = rw k (at-listOf n (joinTo n (involved e) last) q l)
+
+-- ---- Theorem
+pub valid-test : (k n : ℕ) (valid : List Event → Event → Type 0) (ts : List Event) → k ≤ n → History k valid ts → (e : Event) → WellFormed k e
+    → T (validBy n e (lastClock ts)) ↔ Joined n ts e
+unfolding validBy valid-at
+valid-test k n valid ts fit h e w = (there, λ j. all-i n (valid-at n e (lastClock ts)) (λ q l. rw (eq-eqb _ _ (j .each q)) tt))
+  where
+    equal : T (validBy n e (lastClock ts)) → (q : ℕ) → Dec (q < n) → count e q ≡ joinTo n (involved e) (lastClock ts) q + one (involved e q)
+    equal t q (yes l) = eqb→eq _ _ (all-e n (valid-at n e (lastClock ts)) t q l)
+    equal t q (no l) = rw (w .below q (omega arith)) (omega (arith, w .silent q (omega arith), join-silent k valid ts h n (involved e) q (omega arith)))
+
+    there : T (validBy n e (lastClock ts)) → Joined n ts e
+    there t = record { each = λ q. equal t q (decLt q n) }

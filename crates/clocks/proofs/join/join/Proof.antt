@@ -4,7 +4,6 @@ use native.Mathlib.Omega.{arith}
 use mathlib.Core.Path.{_≡_, refl, sym, ap, _∙_}
 use mathlib.Core.List.{List}
 use mathlib.Core.Logic.{⊎-elim}
-use lib.ListN.{set}
 use borrow.Author.Needs.{needs}
 use Rattle.codec.specs.Bit.{bit}
 use Rattle.clocks.specs.Counts.{listOf, rows, at}
@@ -46,15 +45,18 @@ loop-less : tie.Need-loop-less Inv-loop μ-loop
 loop-less c = search needs
 
 loop-again : tie.Need-loop-again Inv-loop μ-loop
-loop-again c = let a = c .before .before .before .before .args in
-    let p = c .before .before .before .loop .p in
-    let set = c .before .has-bit .ensures in (
-      search needs,
-      ⊎-elim
-          (λ w. w .3 ∙ w .2 .ensures ∙ ap (λ (o : List ℕ). listOf 8 (upper (rows (a .t1) p) (at o))) (c .before .before .before .loop .inv .1) ∙ join-next 8 p (bit (a .mask)) (rows (a .t1)) (sym set ∙ w .0 .taken))
-          (λ w. w .1 ∙ c .before .before .before .loop .inv .1 ∙ join-skip 8 p (bit (a .mask)) (rows (a .t1)) (sym set ∙ w .0 .left))
-          (c .if1 .came),
-    )
+loop-again c =
+    let a = c .before .before .before .before .args in
+    let l = c .before .before .before .loop in
+    let join : List ℕ → List ℕ = λ o. listOf 8 (upper (rows (a .t1) (l .p)) (at o)) in
+    let member = sym (c .before .has-bit .ensures) in
+    let next = join-next 8 (l .p) (bit (a .mask)) (rows (a .t1)) in
+    let skip = join-skip 8 (l .p) (bit (a .mask)) (rows (a .t1)) in
+    let came = ⊎-elim
+    (λ w. w .3 ∙ w .2 .ensures ∙ ap join (l .inv .1) ∙ next (member ∙ w .0 .taken))
+    (λ w. w .1 ∙ l .inv .1 ∙ skip (member ∙ w .0 .left))
+    (c .if1 .came) in
+    (search needs, came)
 
 returns : tie.Need-returns Inv-loop μ-loop
 returns c = let e : c .before .loop .p ≡ 8 = omega arith in rw e at (c .before .loop .inv .1)

@@ -46,7 +46,9 @@ loop-less : tie.Need-loop-less Inv-loop μ-loop
 loop-less c = search needs
 
 loop-again : tie.Need-loop-again Inv-loop μ-loop
-loop-again c = (search needs, search needs, fill-next _ 0 (c .before .before .loop .out) (c .before .before .loop .i) (c .larger-count .result) (search needs) (c .larger-count .ensures) (c .before .before .loop .inv .2))
+loop-again c =
+    let l = c .before .before .loop in
+    (search needs, search needs, fill-next _ 0 (l .out) (l .i) (c .larger-count .result) (search needs) (c .larger-count .ensures) (l .inv .2))
 
 returns : tie.Need-returns Inv-loop μ-loop
 returns c = filled 8 _ 0 (c .before .loop .out) (search needs) (λ q l. c .before .loop .inv .2 q (search needs))

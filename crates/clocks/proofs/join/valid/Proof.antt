@@ -65,7 +65,11 @@ unfolding involved
 known c = valid-known 8 (c .before .args .t1) (rows (c .before .args .last)) (c .join .result) (c .join .ensures)
 
 returns : tie.Need-returns Inv-loop μ-loop
-returns c = let e = c .before .before .before .before .before .before .before .args .t1 in let j = c .before .before .before .before .before .before .join .result in let q = c .before .before .before .before .before .loop .q in sym (sym (known (c .before .before .before .before .before .before)) ∙ all-stop 8 q (equalsKnown e j) (search needs) (here (c .before) ∙ not-true _ (c .if1 .taken)))
+returns c =
+    let e = c .before .before .before .before .before .before .before .args .t1 in
+    let j = c .before .before .before .before .before .before .join .result in
+    let q = c .before .before .before .before .before .loop .q in
+    sym (sym (known (c .before .before .before .before .before .before)) ∙ all-stop 8 q (equalsKnown e j) (search needs) (here (c .before) ∙ not-true _ (c .if1 .taken)))
 
 add-q : tie.Need-add-q Inv-loop μ-loop
 add-q c = search needs
@@ -74,10 +78,16 @@ loop-less : tie.Need-loop-less Inv-loop μ-loop
 loop-less c = search needs
 
 loop-again : tie.Need-loop-again Inv-loop μ-loop
-loop-again c = let e = c .before .before .before .before .before .before .before .args .t1 in let j = c .before .before .before .before .before .before .join .result in let q = c .before .before .before .before .before .loop .q in (search needs, all-next q (equalsKnown e j) (c .before .before .before .before .before .loop .inv .1) (here (c .before) ∙ not-false _ (c .if1 .left)))
+loop-again c =
+    let e = c .before .before .before .before .before .before .before .args .t1 in
+    let j = c .before .before .before .before .before .before .join .result in
+    let q = c .before .before .before .before .before .loop .q in
+    (search needs, all-next q (equalsKnown e j) (c .before .before .before .before .before .loop .inv .1) (here (c .before) ∙ not-false _ (c .if1 .left)))
 
 returns-2 : tie.Need-returns-2 Inv-loop μ-loop
-returns-2 c = let z : c .before .loop .q ≡ 8 = omega arith in sym (sym (known (c .before .before)) ∙ rw z at (c .before .loop .inv .1))
+returns-2 c =
+    let z : c .before .loop .q ≡ 8 = omega arith in
+    sym (sym (known (c .before .before)) ∙ rw z at (c .before .loop .inv .1))
 
 pub valid-spec : {M : Type 1} → statement M
 valid-spec =

@@ -21,11 +21,16 @@ element-copy-out-count c = search needs
 
 returns : tie.Need-returns
 unfolding lowest
-returns c = let e = c .before .before .before .args .t1 in key-at e (c .before .before .lowest-bit .result) (c .before .before .lowest-bit .ensures .0)
+returns c =
+    let e = c .before .before .before .args .t1 in
+    key-at e (c .before .before .lowest-bit .result) (c .before .before .lowest-bit .ensures .0)
 
 returns-2 : tie.Need-returns-2
 unfolding lowest
-returns-2 c = let e = c .before .before .args .t1 in let h : length (e .clock) ≡ 8 = sym (length-map (e .clock) (λ v. v)) ∙ c .before .before .good .0 .1 .1 .1 .0 .1 .0 .1 in key-beyond e (c .before .lowest-bit .result) (search needs) (c .before .lowest-bit .ensures .0)
+returns-2 c =
+    let e = c .before .before .args .t1 in
+    let h : length (e .clock) ≡ 8 = sym (length-map (e .clock) (λ v. v)) ∙ c .before .before .good .0 .1 .1 .1 .0 .1 .0 .1 in
+    key-beyond e (c .before .lowest-bit .result) (search needs) (c .before .lowest-bit .ensures .0)
 
 pub key-spec : {M : Type 1} → statement M
 key-spec =

@@ -38,7 +38,9 @@ element-copy-out-if2-2 : tie.Need-element-copy-out-if2-2 Inv-loop μ-loop
 element-copy-out-if2-2 c = search needs
 
 returns-2 : tie.Need-returns-2 Inv-loop μ-loop
-returns-2 c = let a = c .before .before .before .before .before .before .args in sym (differ-at (a .t1) (a .t2) (c .before .before .before .before .loop .p) (search needs) (rw (ne-eqb _ _ (c .if2 .taken))))
+returns-2 c =
+    let a = c .before .before .before .before .before .before .args in
+    sym (differ-at (a .t1) (a .t2) (c .before .before .before .before .loop .p) (search needs) (rw (ne-eqb _ _ (c .if2 .taken))))
 
 element-copy-out-if3 : tie.Need-element-copy-out-if3 Inv-loop μ-loop
 element-copy-out-if3 c = search needs
@@ -47,7 +49,9 @@ element-copy-out-if3-2 : tie.Need-element-copy-out-if3-2 Inv-loop μ-loop
 element-copy-out-if3-2 c = search needs
 
 returns-3 : tie.Need-returns-3 Inv-loop μ-loop
-returns-3 c = let a = c .before .before .before .before .before .before .before .before .before .args in sym (differ-at (a .t1) (a .t2) (c .before .before .before .before .before .before .before .loop .p) (search needs) (rw (eq-eqb _ _ (c .before .before .before .if2 .left), ne-eqb _ _ (c .if3 .taken))))
+returns-3 c =
+    let a = c .before .before .before .before .before .before .before .before .before .args in
+    sym (differ-at (a .t1) (a .t2) (c .before .before .before .before .before .before .before .loop .p) (search needs) (rw (eq-eqb _ _ (c .before .before .before .if2 .left), ne-eqb _ _ (c .if3 .taken))))
 
 add-p : tie.Need-add-p Inv-loop μ-loop
 add-p c = search needs
@@ -56,10 +60,17 @@ loop-less : tie.Need-loop-less Inv-loop μ-loop
 loop-less c = search needs
 
 loop-again : tie.Need-loop-again Inv-loop μ-loop
-loop-again c = let a = c .before .before .before .before .before .before .before .before .before .args in (search needs, c .before .before .before .before .before .before .before .loop .inv .1, all-next (c .before .before .before .before .before .before .before .loop .p) (sameAt (a .t1) (a .t2)) (c .before .before .before .before .before .before .before .loop .inv .2) (rw (eq-eqb _ _ (c .before .before .before .if2 .left), eq-eqb _ _ (c .if3 .left))))
+loop-again c =
+    let a = c .before .before .before .before .before .before .before .before .before .args in
+    let l = c .before .before .before .before .before .before .before .loop in
+    let same : sameAt (a .t1) (a .t2) (l .p) ≡ true = rw (eq-eqb _ _ (c .before .before .before .if2 .left), eq-eqb _ _ (c .if3 .left)) in
+    (search needs, l .inv .1, all-next (l .p) (sameAt (a .t1) (a .t2)) (l .inv .2) same)
 
 returns-4 : tie.Need-returns-4 Inv-loop μ-loop
-returns-4 c = let a = c .before .before .before .args in let e : c .before .loop .p ≡ 8 = omega arith in sym (same-all (a .t1) (a .t2) (c .before .loop .inv .1) (rw e at (c .before .loop .inv .2)))
+returns-4 c =
+    let a = c .before .before .before .args in
+    let e : c .before .loop .p ≡ 8 = omega arith in
+    sym (same-all (a .t1) (a .t2) (c .before .loop .inv .1) (rw e at (c .before .loop .inv .2)))
 
 pub same-event-spec : {M : Type 1} → statement M
 same-event-spec =

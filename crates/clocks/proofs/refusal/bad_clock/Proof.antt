@@ -38,11 +38,17 @@ bad-count-requires c κs = search needs
 
 -- The call's answer is the test at p.
 here : (c : tie.After-bad-count Inv-loop μ-loop) → badCount (c .before .before .before .before .args .k) (c .before .before .before .before .args .mask) (c .before .before .before .before .args .t3) (c .before .before .before .loop .p) ≡ c .bad-count .result
-here c = let a = c .before .before .before .before .args in let p = c .before .before .before .loop .p in let x = at (a .t3) p in ap (λ (b : Bool). (b && eqb x 0) || (leb (a .k) p && not (eqb x 0))) (sym (c .before .has-bit .ensures)) ∙ sym (c .bad-count .ensures)
+here c =
+    let a = c .before .before .before .before .args in
+    let p = c .before .before .before .loop .p in
+    let x = at (a .t3) p in
+    ap (λ (b : Bool). (b && eqb x 0) || (leb (a .k) p && not (eqb x 0))) (sym (c .before .has-bit .ensures)) ∙ sym (c .bad-count .ensures)
 
 returns : tie.Need-returns Inv-loop μ-loop
 unfolding badClock
-returns c = let a = c .before .before .before .before .before .args in sym (any-stop 8 (c .before .before .before .before .loop .p) (badCount (a .k) (a .mask) (a .t3)) (search needs) (here (c .before) ∙ c .if1 .taken))
+returns c =
+    let a = c .before .before .before .before .before .args in
+    sym (any-stop 8 (c .before .before .before .before .loop .p) (badCount (a .k) (a .mask) (a .t3)) (search needs) (here (c .before) ∙ c .if1 .taken))
 
 add-p : tie.Need-add-p Inv-loop μ-loop
 add-p c = search needs
@@ -51,7 +57,9 @@ loop-less : tie.Need-loop-less Inv-loop μ-loop
 loop-less c = search needs
 
 loop-again : tie.Need-loop-again Inv-loop μ-loop
-loop-again c = let a = c .before .before .before .before .before .args in (search needs, any-next (c .before .before .before .before .loop .p) (badCount (a .k) (a .mask) (a .t3)) (c .before .before .before .before .loop .inv .1) (here (c .before) ∙ c .if1 .left))
+loop-again c =
+    let a = c .before .before .before .before .before .args in
+    (search needs, any-next (c .before .before .before .before .loop .p) (badCount (a .k) (a .mask) (a .t3)) (c .before .before .before .before .loop .inv .1) (here (c .before) ∙ c .if1 .left))
 
 returns-2 : tie.Need-returns-2 Inv-loop μ-loop
 unfolding badClock

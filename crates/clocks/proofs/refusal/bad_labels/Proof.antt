@@ -35,11 +35,16 @@ stray-requires c κs = search needs
 
 -- The call's answer is the test at p.
 here : (c : tie.After-stray Inv-loop μ-loop) → badLabel (c .before .before .before .before .args .mask) (c .before .before .before .before .args .t2) (c .before .before .before .loop .p) ≡ c .stray .result
-here c = let a = c .before .before .before .before .args in let p = c .before .before .before .loop .p in ap (λ (b : Bool). not b && not (eqb (at (a .t2) p) 0)) (sym (c .before .has-bit .ensures)) ∙ sym (c .stray .ensures)
+here c =
+    let a = c .before .before .before .before .args in
+    let p = c .before .before .before .loop .p in
+    ap (λ (b : Bool). not b && not (eqb (at (a .t2) p) 0)) (sym (c .before .has-bit .ensures)) ∙ sym (c .stray .ensures)
 
 returns : tie.Need-returns Inv-loop μ-loop
 unfolding badLabels
-returns c = let a = c .before .before .before .before .before .args in sym (any-stop 8 (c .before .before .before .before .loop .p) (badLabel (a .mask) (a .t2)) (search needs) (here (c .before) ∙ c .if1 .taken))
+returns c =
+    let a = c .before .before .before .before .before .args in
+    sym (any-stop 8 (c .before .before .before .before .loop .p) (badLabel (a .mask) (a .t2)) (search needs) (here (c .before) ∙ c .if1 .taken))
 
 add-p : tie.Need-add-p Inv-loop μ-loop
 add-p c = search needs
@@ -48,7 +53,9 @@ loop-less : tie.Need-loop-less Inv-loop μ-loop
 loop-less c = search needs
 
 loop-again : tie.Need-loop-again Inv-loop μ-loop
-loop-again c = let a = c .before .before .before .before .before .args in (search needs, any-next (c .before .before .before .before .loop .p) (badLabel (a .mask) (a .t2)) (c .before .before .before .before .loop .inv .1) (here (c .before) ∙ c .if1 .left))
+loop-again c =
+    let a = c .before .before .before .before .before .args in
+    (search needs, any-next (c .before .before .before .before .loop .p) (badLabel (a .mask) (a .t2)) (c .before .before .before .before .loop .inv .1) (here (c .before) ∙ c .if1 .left))
 
 returns-2 : tie.Need-returns-2 Inv-loop μ-loop
 unfolding badLabels

@@ -34,7 +34,9 @@ here c = let a = c .before .before .before .args in let p = c .before .before .l
 
 returns : tie.Need-returns Inv-loop μ-loop
 unfolding badStart
-returns c = let a = c .before .before .before .before .args in sym (any-stop 8 (c .before .before .before .loop .p) (badStartLabel (a .k) (a .t2)) (search needs) (here (c .before) ∙ c .if1 .taken))
+returns c =
+    let a = c .before .before .before .before .args in
+    sym (any-stop 8 (c .before .before .before .loop .p) (badStartLabel (a .k) (a .t2)) (search needs) (here (c .before) ∙ c .if1 .taken))
 
 add-p : tie.Need-add-p Inv-loop μ-loop
 add-p c = search needs
@@ -43,7 +45,9 @@ loop-less : tie.Need-loop-less Inv-loop μ-loop
 loop-less c = search needs
 
 loop-again : tie.Need-loop-again Inv-loop μ-loop
-loop-again c = let a = c .before .before .before .before .args in (search needs, any-next (c .before .before .before .loop .p) (badStartLabel (a .k) (a .t2)) (c .before .before .before .loop .inv .1) (here (c .before) ∙ c .if1 .left))
+loop-again c =
+    let a = c .before .before .before .before .args in
+    (search needs, any-next (c .before .before .before .loop .p) (badStartLabel (a .k) (a .t2)) (c .before .before .before .loop .inv .1) (here (c .before) ∙ c .if1 .left))
 
 returns-2 : tie.Need-returns-2 Inv-loop μ-loop
 unfolding badStart

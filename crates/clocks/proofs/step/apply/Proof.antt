@@ -6,7 +6,8 @@ use lib.ListN.{length, getD}
 use borrow.Author.Needs.{needs}
 use Rattle.clocks.specs.Counts.{at}
 use Rattle.clocks.specs.Event.{apply, involved, count}
-use Rattle.clocks.specs.CountsLaws.{filled, fill-next, apply-ready}
+use Rattle.clocks.specs.CountsLaws.{filled, fill-next}
+use Rattle.clocks.specs.StepCounts.{apply-ready}
 use Rattle.clocks.proofs.step.apply.Statement.{statement}
 use Rattle.clocks.proofs.step.apply.Tie as tie
 
@@ -55,9 +56,20 @@ add-p c = search needs
 loop-less : tie.Need-loop-less Inv-loop μ-loop
 loop-less c = search needs
 
-loop-again : tie.Need-loop-again Inv-loop μ-loop
+-- What is stored is the count after the event.
+stored : (c : tie.After-chosen Inv-loop μ-loop) → c .chosen .result ≡ apply (c .before .before .before .before .before .args .t1) (at (c .before .before .before .before .before .args .t2)) (c .before .before .before .before .loop .p)
 unfolding involved count
-loop-again c = let a = c .before .before .before .before .before .args in (search needs, search needs, fill-next _ 0 (c .before .before .before .before .loop .out) (c .before .before .before .before .loop .p) (c .chosen .result) (search needs) (c .chosen .ensures ∙ ap (λ (b : Bool). cond b (getD (a .t1 .clock) (c .before .before .before .before .loop .p) 0) (getD (a .t2) (c .before .before .before .before .loop .p) 0)) (c .before .before .has-bit .ensures) ∙ apply-ready 8 (a .t1) (at (a .t2)) (c .before .before .before .before .before .pre) (c .before .before .before .before .loop .p) (search needs)) (c .before .before .before .before .loop .inv .2))
+stored c =
+    let a = c .before .before .before .before .before .args in
+    let p = c .before .before .before .before .loop .p in
+    c .chosen .ensures
+    ∙ ap (λ (b : Bool). cond b (at (a .t1 .clock) p) (at (a .t2) p)) (c .before .before .has-bit .ensures)
+    ∙ apply-ready 8 (a .t1) (at (a .t2)) (c .before .before .before .before .before .pre) p (search needs)
+
+loop-again : tie.Need-loop-again Inv-loop μ-loop
+loop-again c =
+    let l = c .before .before .before .before .loop in
+    (search needs, search needs, fill-next _ 0 (l .out) (l .p) (c .chosen .result) (search needs) (stored c) (l .inv .2))
 
 returns : tie.Need-returns Inv-loop μ-loop
 returns c = filled 8 _ 0 (c .before .loop .out) (search needs) (λ q l. c .before .loop .inv .2 q (search needs))

@@ -46,9 +46,17 @@ add-p c = search needs
 loop-less : tie.Need-loop-less Inv-loop μ-loop
 loop-less c = search needs
 
-loop-again : tie.Need-loop-again Inv-loop μ-loop
+-- What is stored is the count less the mask.
+stored : (c : tie.After-lower Inv-loop μ-loop) → c .lower .result ≡ minus (c .before .before .before .before .args .mask) (at (c .before .before .before .before .args .t2)) (c .before .before .before .loop .p)
 unfolding minus
-loop-again c = (search needs, search needs, fill-next _ 0 (c .before .before .before .loop .out) (c .before .before .before .loop .p) (c .lower .result) (search needs) (c .lower .ensures ∙ ap (λ (b : Bool). getD (c .before .before .before .before .args .t2) (c .before .before .before .loop .p) 0 - one b) (c .before .has-bit .ensures)) (c .before .before .before .loop .inv .2))
+stored c =
+    let p = c .before .before .before .loop .p in
+    c .lower .ensures ∙ ap (λ (b : Bool). at (c .before .before .before .before .args .t2) p - one b) (c .before .has-bit .ensures)
+
+loop-again : tie.Need-loop-again Inv-loop μ-loop
+loop-again c =
+    let l = c .before .before .before .loop in
+    (search needs, search needs, fill-next _ 0 (l .out) (l .p) (c .lower .result) (search needs) (stored c) (l .inv .2))
 
 returns : tie.Need-returns Inv-loop μ-loop
 returns c = filled 8 _ 0 (c .before .loop .out) (search needs) (λ q l. c .before .loop .inv .2 q (search needs))

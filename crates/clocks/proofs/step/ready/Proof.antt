@@ -55,11 +55,16 @@ ready-at-requires c κs = search needs
 -- The call's answer is the test at p.
 here : (c : tie.After-ready-at Inv-loop μ-loop) → test (c .before .before .before .before .before .args .t1) (c .before .before .before .before .before .args .t2) (c .before .before .before .before .loop .p) ≡ c .ready-at .result
 unfolding involved count
-here c = let a = c .before .before .before .before .before .args in let p = c .before .before .before .before .loop .p in ap (λ (b : Bool). readyAt b (at (a .t1 .clock) p) (at (a .t2) p)) (sym (c .before .before .has-bit .ensures)) ∙ sym (c .ready-at .ensures)
+here c =
+    let a = c .before .before .before .before .before .args in
+    let p = c .before .before .before .before .loop .p in
+    ap (λ (b : Bool). readyAt b (at (a .t1 .clock) p) (at (a .t2) p)) (sym (c .before .before .has-bit .ensures)) ∙ sym (c .ready-at .ensures)
 
 returns : tie.Need-returns Inv-loop μ-loop
 unfolding ready
-returns c = let a = c .before .before .before .before .before .before .args in sym (all-stop 8 (c .before .before .before .before .before .loop .p) (test (a .t1) (a .t2)) (search needs) (here (c .before) ∙ not-true _ (c .if1 .taken)))
+returns c =
+    let a = c .before .before .before .before .before .before .args in
+    sym (all-stop 8 (c .before .before .before .before .before .loop .p) (test (a .t1) (a .t2)) (search needs) (here (c .before) ∙ not-true _ (c .if1 .taken)))
 
 add-p : tie.Need-add-p Inv-loop μ-loop
 add-p c = search needs
@@ -68,7 +73,9 @@ loop-less : tie.Need-loop-less Inv-loop μ-loop
 loop-less c = search needs
 
 loop-again : tie.Need-loop-again Inv-loop μ-loop
-loop-again c = let a = c .before .before .before .before .before .before .args in (search needs, all-next (c .before .before .before .before .before .loop .p) (test (a .t1) (a .t2)) (c .before .before .before .before .before .loop .inv .1) (here (c .before) ∙ not-false _ (c .if1 .left)))
+loop-again c =
+    let a = c .before .before .before .before .before .before .args in
+    (search needs, all-next (c .before .before .before .before .before .loop .p) (test (a .t1) (a .t2)) (c .before .before .before .before .before .loop .inv .1) (here (c .before) ∙ not-false _ (c .if1 .left)))
 
 returns-2 : tie.Need-returns-2 Inv-loop μ-loop
 unfolding ready
