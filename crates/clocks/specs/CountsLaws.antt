@@ -1,20 +1,14 @@
 -- Stored counts and cuts go back and forth; a loop that fills a list agrees with its target below its index.
-use Prim.Native.Nat.{ℕ, zero, suc, _+_, _-_, _≤_, _<_}
+use Prim.Native.Nat.{ℕ, zero, suc, _+_, _≤_, _<_}
 use native.Mathlib.Omega.{arith}
 use native.Mathlib.Decide.{decLt}
 use native.Mathlib.Nat.{le-of-suc-le-suc}
-use mathlib.Core.Path.{_≡_, refl, sym, ap, _∙_}
+use mathlib.Core.Path.{_≡_, refl, sym, ap, _∙_, fun-ext}
 use mathlib.Core.List.{List}
-use mathlib.Core.Bool.{Bool, true, false, cond}
 use lib.ListN.{length, getD, set, List·getD-eq-default}
 use lib.Seq.{ext-getD, getD-set-same, getD-set-other}
-use lib.Dec.{eqb, eqb→eq, T}
-use borrow.Author.Tests.{eq-eqb}
-use Rattle.clocks.specs.BoundedLaws.{same-test, all-e}
 use Rattle.clocks.specs.Counts.{at, listOf}
-use Rattle.clocks.specs.declared.Event.{Event}
-use Rattle.clocks.specs.Event.{Cut, one, involved, count, apply, minus, less, lowered}
-use Rattle.clocks.specs.Tested.{readyAt, ready}
+use Rattle.clocks.specs.Event.{Cut}
 
 -- ---- Of any values
 module _ {A : Type 0} where
@@ -60,23 +54,10 @@ at-beyond l p h = List·getD-eq-default l 0 h
 pub listOf-at : (n : ℕ) (l : List ℕ) → length l ≡ n → listOf n (at l) ≡ l
 listOf-at n l e = sym (filled n (at l) 0 l e (λ p k. refl))
 
--- n is c + 1, without adding
-pub eqb-next : (n c : ℕ) → c < n → eqb (n - c) 1 ≡ eqb n (c + 1)
-eqb-next n c l =
-    same-test (eqb (n - c) 1) (eqb n (c + 1))
-    (λ t. rw (eq-eqb n (c + 1) (omega (arith, eqb→eq (n - c) 1 t))) tt)
-    (λ t. rw (eq-eqb (n - c) 1 (omega (arith, eqb→eq n (c + 1) t))) tt)
-
--- ---- Where a ready event leads, by its own counts
-apply-ready-at : (b : Bool) (n c : ℕ) → T (readyAt b n c) → cond b n c ≡ one b + c
-apply-ready-at true n c r = omega (arith, eqb→eq n (c + 1) r)
-apply-ready-at false n c r = omega arith
-
-pub apply-ready : (n : ℕ) (e : Event) (S : Cut) → T (ready n e S) → (p : ℕ) → p < n → cond (involved e p) (count e p) (S p) ≡ apply e S p
-unfolding ready apply
-apply-ready n e S t p l = apply-ready-at (involved e p) (count e p) (S p) (all-e n (λ q. readyAt (involved e q) (count e q) (S q)) t p l)
-
--- what an event knows of, by its mask
-pub lowered-minus : (e : Event) → lowered e ≡ minus (e .mask) (at (e .clock))
-unfolding lowered less minus involved count
-lowered-minus e = refl
+-- a cut that counts nothing from n up is the cut of its list
+pub at-listOf-all : (n : ℕ) (f : Cut) → ((p : ℕ) → n ≤ p → f p ≡ 0) → at (listOf n f) ≡ f
+at-listOf-all n f z = fun-ext (λ p. go p (decLt p n))
+  where
+    go : (p : ℕ) → Dec (p < n) → at (listOf n f) p ≡ f p
+    go p (yes l) = at-listOf n f p l
+    go p (no l) = at-beyond (listOf n f) p (omega (arith, length-listOf n f)) ∙ sym (z p (omega arith))

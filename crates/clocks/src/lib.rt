@@ -1,3 +1,14 @@
+// Events and vector clocks.
+
+// What an event is turned back for.
+pub mod refusal;
+// When an event may be taken, and where it leads.
+pub mod step;
+// The join of clocks, and valid clocks.
+pub mod join;
+// The order of the pending events, and equality of events.
+pub mod order;
+
 // An event as a process reports it (01, Clocks and cuts: event).
 pub struct Event {
     pub mask: u8,
@@ -5,7 +16,8 @@ pub struct Event {
     pub labels: [u8; 8],
 }
 
-// The processes that take part.
-pub fn mask(e: Event) -> u8 {
-    e.mask
+// An event's place in the order of the pending events (01, The window: held events).
+pub struct Key {
+    pub process: u32,
+    pub count: u32,
 }

@@ -1,0 +1,79 @@
+-- No process passed has a stray label; the first that has one decides.
+use Prim.Native.Nat.{_≤_, _-_}
+use native.Mathlib.Omega.{arith}
+use mathlib.Core.Path.{_≡_, sym, ap, _∙_}
+use mathlib.Core.Bool.{false, Bool, not, _&&_}
+use lib.Dec.{eqb}
+use borrow.Author.Needs.{needs}
+use Rattle.clocks.specs.Counts.{at}
+use Rattle.clocks.specs.Bounded.{anyBelow}
+use Rattle.clocks.specs.Refusal.{badLabels, badLabel}
+use Rattle.clocks.specs.BoundedSteps.{any-none, any-next, any-stop}
+use Rattle.clocks.proofs.refusal.bad_labels.Statement.{statement}
+use Rattle.clocks.proofs.refusal.bad_labels.Tie as tie
+
+abbrev Inv-loop : tie.InvT-loop
+Inv-loop mask labels p₀ p = (p ≤ 8) × (anyBelow p (badLabel mask labels) ≡ false)
+
+abbrev μ-loop : tie.MeasureT-loop
+μ-loop mask labels p₀ p = 8 - p
+
+loop-holds : tie.Need-loop-holds Inv-loop μ-loop
+loop-holds c = (search needs, any-none _)
+
+has-bit-requires : tie.Need-has-bit-requires Inv-loop μ-loop
+has-bit-requires c κs = search needs
+
+cast-stray : tie.Need-cast-stray Inv-loop μ-loop
+cast-stray c = search needs
+
+array-read-stray : tie.Need-array-read-stray Inv-loop μ-loop
+array-read-stray c = search needs
+
+stray-requires : tie.Need-stray-requires Inv-loop μ-loop
+stray-requires c κs = search needs
+
+-- The call's answer is the test at p.
+here : (c : tie.After-stray Inv-loop μ-loop) → badLabel (c .before .before .before .before .args .mask) (c .before .before .before .before .args .t2) (c .before .before .before .loop .p) ≡ c .stray .result
+here c =
+    let a = c .before .before .before .before .args in
+    let p = c .before .before .before .loop .p in
+    ap (λ (b : Bool). not b && not (eqb (at (a .t2) p) 0)) (sym (c .before .has-bit .ensures)) ∙ sym (c .stray .ensures)
+
+returns : tie.Need-returns Inv-loop μ-loop
+unfolding badLabels
+returns c =
+    let a = c .before .before .before .before .before .args in
+    sym (any-stop 8 (c .before .before .before .before .loop .p) (badLabel (a .mask) (a .t2)) (search needs) (here (c .before) ∙ c .if1 .taken))
+
+add-p : tie.Need-add-p Inv-loop μ-loop
+add-p c = search needs
+
+loop-less : tie.Need-loop-less Inv-loop μ-loop
+loop-less c = search needs
+
+loop-again : tie.Need-loop-again Inv-loop μ-loop
+loop-again c =
+    let a = c .before .before .before .before .before .args in
+    (search needs, any-next (c .before .before .before .before .loop .p) (badLabel (a .mask) (a .t2)) (c .before .before .before .before .loop .inv .1) (here (c .before) ∙ c .if1 .left))
+
+returns-2 : tie.Need-returns-2 Inv-loop μ-loop
+unfolding badLabels
+returns-2 c = let e : c .before .loop .p ≡ 8 = omega arith in rw (← e) (sym (c .before .loop .inv .1))
+
+pub bad-labels-spec : {M : Type 1} → statement M
+bad-labels-spec =
+    tie.close
+    (tie.spec
+    Inv-loop
+    μ-loop
+    loop-holds
+    has-bit-requires
+    cast-stray
+    array-read-stray
+    stray-requires
+    returns
+    add-p
+    loop-less
+    loop-again
+    returns-2)

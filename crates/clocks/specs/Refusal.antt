@@ -1,0 +1,49 @@
+-- What an event or start labels are turned back for, each condition in 01's words (01, Turned back, from the input: 7, 8, 9).
+use Prim.Native.Nat.{ℕ, _<_}
+use mathlib.Core.Path.{_≡_}
+use mathlib.Core.Bool.{Bool, true, false, cond, not, _&&_, _||_}
+use mathlib.Core.List.{List}
+use lib.Dec.{leb, eqb}
+use Rattle.codec.specs.Bit.{bit}
+use Rattle.clocks.specs.declared.Event.{Event}
+use Rattle.clocks.specs.Event.{involved, count}
+use Rattle.clocks.specs.Valid.{WellFormed}
+use Rattle.clocks.specs.Bounded.{anyBelow}
+use Rattle.clocks.specs.Counts.{at}
+
+-- 7: the mask, a word of 64 bits, is 0, or has a bit from k up.
+unfoldable pub badMask : ℕ → ℕ → Bool
+badMask k m = eqb m 0 || anyBelow 64 (λ p. leb k p && bit m p)
+
+-- What 8 asks of process p: it takes part and its count is 0, or it is none of the k and its count is not 0.
+abbrev pub badCount : ℕ → ℕ → List ℕ → ℕ → Bool
+badCount k m clock p = (bit m p && eqb (at clock p) 0) || (leb k p && not (eqb (at clock p) 0))
+
+-- 8: count 0 at a process that takes part, or not 0 from process k up.
+unfoldable pub badClock : ℕ → ℕ → List ℕ → Bool
+badClock k m clock = anyBelow 8 (badCount k m clock)
+
+-- What 9 asks of process p: it does not take part, or at open is none of the k, and its label byte is not 0.
+abbrev pub badLabel : ℕ → List ℕ → ℕ → Bool
+badLabel m labels p = not (bit m p) && not (eqb (at labels p) 0)
+
+abbrev pub badStartLabel : ℕ → List ℕ → ℕ → Bool
+badStartLabel k labels p = leb k p && not (eqb (at labels p) 0)
+
+-- 9, of an event: a label byte not 0 at a process that does not take part.
+unfoldable pub badLabels : ℕ → List ℕ → Bool
+badLabels m labels = anyBelow 8 (badLabel m labels)
+
+-- 9, at open: a label byte not 0 from process k up.
+unfoldable pub badStart : ℕ → List ℕ → Bool
+badStart k labels = anyBelow 8 (badStartLabel k labels)
+
+-- The number that an event is turned back with, in their order; 0 for none (01: order of offer, 7, 8, 9).
+unfoldable pub eventFault : ℕ → ℕ → List ℕ → List ℕ → ℕ
+eventFault k m clock labels = cond (badMask k m) 7 (cond (badClock k m clock) 8 (cond (badLabels m labels) 9 0))
+
+-- An event that none of the three turns back, in plain words.
+pub record Faultless (k : ℕ) (e : Event) : Type 0 where
+  pub formed : WellFormed k e
+  pub counted : (p : ℕ) → involved e p ≡ true → 0 < count e p
+  pub unlabelled : (p : ℕ) → involved e p ≡ false → at (e .labels) p ≡ 0
