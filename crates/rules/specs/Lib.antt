@@ -12,6 +12,8 @@ pub mod TruthLaws
 pub mod TruthLocal
 pub mod LineTruthLaws
 pub mod LinesMean
+pub mod TableBytes
+pub mod TableBytesLaws
 pub mod Judge
 pub mod JudgeLaws
 pub mod JudgeTruth

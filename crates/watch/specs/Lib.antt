@@ -1,0 +1,11 @@
+-- The watch: its record, the four calls, lists of calls.
+
+-- What a reader has to believe
+pub mod Record
+pub mod Answer
+pub mod Refusals
+pub mod Offer
+pub mod Take
+pub mod Find
+pub mod Open
+

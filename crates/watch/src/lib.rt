@@ -1,0 +1,1 @@
+// The watch: a record and a window of bytes that the caller lends, and four calls on them.
