@@ -15,3 +15,6 @@ pub mod Fault
 pub mod WordLaws
 pub mod ReaderLaws
 pub mod ReaderPlace
+pub mod Begun
+pub mod ReaderFrom
+pub mod WordMeets
