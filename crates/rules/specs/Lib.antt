@@ -18,3 +18,4 @@ pub mod ReaderPlace
 pub mod Begun
 pub mod ReaderFrom
 pub mod WordMeets
+pub mod ReaderMeets

@@ -46,9 +46,9 @@ standsTo-same m s i (b ∷ bs) h =
     (λ p. rw (← add-zero i) (h 0 (omega arith) (omega arith))
     , standsTo-same m s (i + 1) bs (λ l p q. subst (λ (j : ℕ). byteAt s j ≡ byteAt bs l) (omega arith) (h (suc l) (omega arith) (omega arith))))
 
--- A byte that is known before place m: we are behind m, or it stands there.
-pub known : (m i : ℕ) {c b : ℕ} {P : Type 0} → (i < m → c ≡ b) → (m ≤ i → P) → (c ≡ b → P) → P
-known m i {c} {b} {P} h late met = go (ltb i m) refl
+-- What is known before place m: we are at or behind m, or it is so.
+pub known : (m i : ℕ) {Q P : Type 0} → (i < m → Q) → (m ≤ i → P) → (Q → P) → P
+known m i {Q} {P} h late met = go (ltb i m) refl
   where
     go : (t : Bool) → ltb i m ≡ t → P
     go true e = met (h (ltb-true i m e))
