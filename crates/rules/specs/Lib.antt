@@ -19,3 +19,4 @@ pub mod Begun
 pub mod ReaderFrom
 pub mod WordMeets
 pub mod ReaderMeets
+pub mod ReaderAccepts
