@@ -10,7 +10,7 @@ use lib.Dec.{leb, ltb, T, leb→le, ltb→lt, lt→ltb}
 use lib.ListN.{length, take, length-append, length-take}
 use lib.Seq.{take-suc, append-snoc}
 use borrow.Author.Tests.{ltb-false}
-use Rattle.rules.specs.Text.{byteAt, constantLetters, unaryLetters, binaryLetters, textOf, Grammatical}
+use Rattle.rules.specs.Text.{byteAt, constantLetters, unaryLetters, binaryLetters, textOf, Grammatical, ascii}
 use Rattle.rules.specs.Fault.{Stands}
 use Rattle.rules.specs.TextLaws.{byteAt-behind}
 use Rattle.rules.specs.WordLaws.{Span}
@@ -120,6 +120,10 @@ plain-small (b ∷ bs) h =
     and-both (small b) _ (lt→ltb b 256 (plain-e b (and-left (plain b) _ h) .below)) (plain-small bs (and-right (plain b) _ h))
 
 -- Words have plain letters
+
+pub at-plain : T (every plain (ascii "at"))
+unfolding every
+at-plain = tt
 
 pub constant-plain : (w : Constant) → T (every plain (constantLetters w))
 unfolding every constantLetters

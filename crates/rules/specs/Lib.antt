@@ -20,3 +20,6 @@ pub mod ReaderFrom
 pub mod WordMeets
 pub mod ReaderMeets
 pub mod ReaderAccepts
+pub mod ScanLaws
+pub mod Context
+pub mod WordBegun
