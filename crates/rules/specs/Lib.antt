@@ -23,3 +23,4 @@ pub mod ReaderAccepts
 pub mod ScanLaws
 pub mod Context
 pub mod WordBegun
+pub mod FaultLaws
