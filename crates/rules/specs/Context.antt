@@ -149,6 +149,16 @@ viable-binary w = record {
   whole = refl;
 }
 
+-- A word with two forms behind the first.
+pub viable-first : (w : Binary) (f : Formula) → Grammatical f → Viable (40 ∷ (binaryLetters w ++ 32 ∷ textOf f))
+unfolding textOf Atoms
+viable-first w f h = record {
+  form = binary w f (constant True);
+  rest = 32 ∷ (textOf (constant True) ++ 41 ∷ []);
+  digits = (h, tt);
+  whole = simp append-assoc;
+}
+
 viable-frame : (c : Frame) → FrameGrammatical c → (bs : List ℕ) → Viable bs → Viable (opening c ++ bs)
 unfolding opening FrameGrammatical textOf Atoms constantLetters
 viable-frame (inOne w) h bs v = record {

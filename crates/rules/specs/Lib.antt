@@ -24,3 +24,5 @@ pub mod ScanLaws
 pub mod Context
 pub mod WordBegun
 pub mod FaultLaws
+pub mod ReaderStops
+pub mod FormStops
