@@ -98,7 +98,7 @@ viable-met {s} {bs} {m} p v j l (inl (h, never)) =
     ∙ rw (← p .taken) (take-take (j + 1) m s (omega arith))))
 viable-met {s} {bs} {m} p v j l (inr (e, never)) = omega (arith, begun-inside p)
 
-fault-cases : (n : ℕ) (s : List ℕ) (k j : ℕ) → Fault n s k j → Fault1 s j ⊎ Over s k j
+pub fault-cases : (n : ℕ) (s : List ℕ) (k j : ℕ) → Fault n s k j → Fault1 s j ⊎ Over s k j
 unfolding Fault
 fault-cases n s k j (inl h) = inl (h .1)
 fault-cases n s k j (inr (inl h)) = inr (inl (h .1))

@@ -26,3 +26,4 @@ pub mod WordBegun
 pub mod FaultLaws
 pub mod ReaderStops
 pub mod FormStops
+pub mod GrammarTheorem
