@@ -14,7 +14,7 @@ use Rattle.rules.specs.Text.{unaryLetters, binaryLetters, textOf, Gramma
 use Rattle.rules.specs.ScanLaws.{count-append, balanced-append, balanced-plain, text-balanced, unary-weight, binary-weight, closed-word, closed-space, closed-form}
 use Rattle.rules.specs.Fault.{count, linesClosed}
 use Rattle.rules.specs.Formula.{Formula, constant, Atoms, unary, binary, atom}
-use Rattle.rules.specs.Begun.{unary-plain, binary-plain}
+use Rattle.rules.specs.Bytes.{unary-plain, binary-plain}
 use Rattle.rules.specs.declared.Constant.{Constant}
 
 -- Definition

@@ -15,7 +15,8 @@ use Rattle.rules.specs.WordLaws.{Span}
 use Rattle.rules.specs.Text.{byteAt}
 use Rattle.rules.specs.ReaderLaws.{Digit}
 use Rattle.rules.specs.Fault.{Fault2, Fault3, Stands, Fault4, Fault1, Fault, FirstFault}
-use Rattle.rules.specs.Begun.{every, plain, and-left, and-right, plain-e, Begun, begun-inside}
+use Rattle.rules.specs.Bytes.{every, plain, and-left, and-right, plain-e}
+use Rattle.rules.specs.Begun.{Begun, begun-inside}
 use Rattle.rules.specs.Context.{Viable}
 
 -- A fault by 2, 3 or 4 at a place.

@@ -13,7 +13,8 @@ use Rattle.rules.specs.ReaderStops.{Outcome, Reached, stop, expect-out, 
 use Rattle.rules.specs.Text.{byteAt, ascii, textOf, Grammatical, constantLetters, unaryLetters, binaryLetters}
 use Rattle.rules.specs.Fault.{Fault2, Fault3, Stands, Fault4, Fault}
 use Rattle.rules.specs.Formula.{Formula, Atoms, atom, constant, unary, binary}
-use Rattle.rules.specs.Begun.{every, small, every-left, begun-span, text-small, every-append, Begun, plain-small, at-plain, constant-plain, unary-plain, binary-plain}
+use Rattle.rules.specs.Bytes.{every, small, every-left, text-small, every-append, plain-small, at-plain, constant-plain, unary-plain, binary-plain}
+use Rattle.rules.specs.Begun.{begun-span, Begun}
 use Rattle.rules.specs.Reader.{atomAt, refused, wordAt, Reading, innerWith, unaryWith, binaryWith, bodyWith, formAt}
 use Rattle.rules.specs.declared.Constant.the-variants.{True}
 use Rattle.rules.specs.declared.Unary.{Unary}

@@ -46,12 +46,18 @@ stop-first s k i x never = record {
     go : (t : Bool) → ltb i (length s) ≡ t → Fault1 s i
     go true e =
         let h = ltb-true i (length s) e in
-        inl (h, (λ g digits same. never g digits
-        (λ l p q. sym (getD-take (i + 1) s l 256 q) ∙ rw (← same) (getD-take (i + 1) (textOf g) l 256 q))
-        (λ _. omega (arith, length-take (i + 1) (textOf g), length-take (i + 1) s, ap length same))))
+        inl (
+          h,
+          (λ g digits same. never g digits
+              (λ l p q. sym (getD-take (i + 1) s l 256 q) ∙ rw (← same) (getD-take (i + 1) (textOf g) l 256 q))
+              (λ _. omega (arith, length-take (i + 1) (textOf g), length-take (i + 1) s, ap length same))),
+        )
     go false e =
-        inr (omega (arith, ltb-false i (length s) e, begun-inside (x .begun)), (λ g digits same. never g digits
-        (λ l p q. rw same) (λ h. rw same h)))
+        inr (
+          omega (arith, ltb-false i (length s) e, begun-inside (x .begun)),
+          (λ g digits same. never g digits
+              (λ l p q. rw same) (λ h. rw same h)),
+        )
 
     lower : (m : ℕ) → m < 1 → Fault m s k i → ⊥
     lower m l (inl y) = omega (arith, y .0)

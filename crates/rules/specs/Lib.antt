@@ -15,6 +15,7 @@ pub mod Fault
 pub mod WordLaws
 pub mod ReaderLaws
 pub mod ReaderPlace
+pub mod Bytes
 pub mod Begun
 pub mod ReaderFrom
 pub mod WordMeets

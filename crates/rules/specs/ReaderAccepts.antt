@@ -18,7 +18,8 @@ use Rattle.rules.specs.Fault.{ReaderAcceptsForms}
 use Rattle.rules.specs.ReaderMeets.{Exact, Met, formAt-met}
 use Rattle.rules.specs.Formula.{Formula}
 use Rattle.rules.specs.ReaderPlace.{FaultBy, formAt-by}
-use Rattle.rules.specs.Begun.{Begun, begun-inside, begun-nil, begun-span, text-small}
+use Rattle.rules.specs.Bytes.{text-small}
+use Rattle.rules.specs.Begun.{Begun, begun-inside, begun-nil, begun-span}
 use Rattle.rules.specs.Reader.{Reading, andThen, formAt, readRule, formed, refused}
 
 -- A form that stands at the start of a text is the text's first bytes.
@@ -65,7 +66,7 @@ accepts s k f e digits within = go (formAt 32 s k 0 0) refl (start-met m s k f d
     go : (r : Reading) → formAt 32 s k 0 0 ≡ r → Met m (Exact 32 k 0 0 f) r → FaultBy 832 r
         → andThen r (λ i f. cond (ltb i (length s)) (refused 1 i) (formed i f)) ≡ formed (length s) f
     go (formed j g) q (inl h) by = absurd (omega (arith, begun-inside (read-begun (formAt-formed s k 32 0 0 j g q))))
-    go (formed j g) q (inr h) by = 
+    go (formed j g) q (inr h) by =
         let l : j ≡ length s = omega (arith, ap length e, h .0) in
         rw (le-ltb j (length s) (omega arith)) (ap₂ formed l (h .1))
     go (refused n j) q (inl h) by = absurd (omega arith)
@@ -73,9 +74,10 @@ accepts s k f e digits within = go (formAt 32 s k 0 0) refl (start-met m s k f d
 
 -- The reader accepts a text exactly if that is the text of a form of the grammar within the limits, and reads that form.
 pub reader-accepts : ReaderAcceptsForms
-reader-accepts s k i f =
-    ((λ h.
-    let x = accepted s k i f h in
-    let y = formAt-formed s k 32 0 0 i f (x .start) in
-    (x .whole, x .ends, y .digits, record { shallow = y .shallow; short = omega (arith, y .short); below = y .below }))
-    , (λ h. rw (h .1) (accepts s k f (h .0) (h .2) (h .3))))
+reader-accepts s k i f = (
+  (λ h.
+      let x = accepted s k i f h in
+      let y = formAt-formed s k 32 0 0 i f (x .start) in
+      (x .whole, x .ends, y .digits, record { shallow = y .shallow; short = omega (arith, y .short); below = y .below })),
+  (λ h. rw (h .1) (accepts s k f (h .0) (h .2) (h .3))),
+)

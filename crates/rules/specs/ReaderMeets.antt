@@ -87,10 +87,10 @@ module _ (m : ℕ) (s : List ℕ) (k : ℕ) where
   at-place : {x y b : ℕ} → x ≡ y → (x < m → byteAt s x ≡ b) → y < m → byteAt s y ≡ b
   at-place {x} {y} {b} e h = subst (λ (z : ℕ). z < m → byteAt s z ≡ b) e h
 
-  atom-met : (a closed i p b : ℕ) → (p ≤ 9) × (b ≤ 9) → StandsTo m s i (textOf (atom p b))
+  atom-form-met : (a closed i p b : ℕ) → (p ≤ 9) × (b ≤ 9) → StandsTo m s i (textOf (atom p b))
       → Met m (Exact (suc a) k closed i (atom p b)) (formAt (suc a) s k closed i)
   unfolding formAt textOf StandsTo bodyWith atomAt Exact Atoms
-  atom-met a closed i p b digits h =
+  atom-form-met a closed i p b digits h =
       let E = Exact (suc a) k closed i (atom p b) in
       let l = i + 1 + 2 in
       let t = h .1 .1 .1 in
@@ -107,16 +107,16 @@ module _ (m : ℕ) (s : List ℕ) (k : ℕ) where
       (λ late. inl (closeAt-from m s closed (l + 4) read late))
       (λ same. closeAt-met (suc a) closed i (l + 4) read (atom p b) (at-place (omega arith) (t .1 .1 .1 .1 .0)) (omega arith) same)))))))
 
-  constant-met′ : (a closed i : ℕ) (w : Constant) → StandsTo m s i (textOf (constant w))
+  constant-form-met : (a closed i : ℕ) (w : Constant) → StandsTo m s i (textOf (constant w))
       → Met m (Exact (suc a) k closed i (constant w)) (formAt (suc a) s k closed i)
   unfolding formAt textOf StandsTo bodyWith
-  constant-met′ a closed i w h =
+  constant-form-met a closed i w h =
       let E = Exact (suc a) k closed i (constant w) in
       let c = constantLetters w in
       let l = i + 1 + length c in
       expect-met m s E i 40 _ (h .0)
       (word-met E a closed (ConstantWord w l) (wordAt s (i + 1)) (constant-met m s (i + 1) w (standsTo-left m s (i + 1) c (41 ∷ []) (h .1)))
-      (closeAt-met (suc a) closed i l (constant w) (constant w) (standsTo-right m s (i + 1) c (41 ∷ []) (h .1) .0) 
+      (closeAt-met (suc a) closed i l (constant w) (constant w) (standsTo-right m s (i + 1) c (41 ∷ []) (h .1) .0)
       (omega (arith, length-append c (41 ∷ []))) refl))
 
   -- A reader of forms nested at most a deep answers to form f as said.
@@ -128,10 +128,10 @@ module _ (m : ℕ) (s : List ℕ) (k : ℕ) where
   unfolding innerWith
   inner-met a closed i f answers h q = expect-met m s (Exact a k closed (i + 1) f) i 32 _ h (answers closed (i + 1) q)
 
-  unary-met′ : (a closed i : ℕ) (w : Unary) (f : Formula) → Answers a f → StandsTo m s i (textOf (unary w f))
+  unary-form-met : (a closed i : ℕ) (w : Unary) (f : Formula) → Answers a f → StandsTo m s i (textOf (unary w f))
       → Met m (Exact (suc a) k closed i (unary w f)) (formAt (suc a) s k closed i)
   unfolding formAt textOf StandsTo bodyWith unaryWith Exact depth lineCount Atoms
-  unary-met′ a closed i w f answers h =
+  unary-form-met a closed i w f answers h =
       let E = Exact (suc a) k closed i (unary w f) in
       let c = unaryLetters w in
       let l = i + 1 + length c in
@@ -148,10 +148,10 @@ module _ (m : ℕ) (s : List ℕ) (k : ℕ) where
       (omega (arith, exact .0, length-append c rest, length-append (textOf f) (41 ∷ []))) (ap (unary w) (exact .1)))
       (λ n x over. (over .0, (λ shallow short below. over .1 (omega arith) (omega arith) below)))))
 
-  binary-met′ : (a closed i : ℕ) (w : Binary) (f g : Formula) → Answers a f → Answers a g → StandsTo m s i (textOf (binary w f g))
+  binary-form-met : (a closed i : ℕ) (w : Binary) (f g : Formula) → Answers a f → Answers a g → StandsTo m s i (textOf (binary w f g))
       → Met m (Exact (suc a) k closed i (binary w f g)) (formAt (suc a) s k closed i)
   unfolding formAt textOf StandsTo bodyWith binaryWith Exact depth lineCount Atoms
-  binary-met′ a closed i w f g first second h =
+  binary-form-met a closed i w f g first second h =
       let E = Exact (suc a) k closed i (binary w f g) in
       let c = binaryLetters w in
       let l = i + 1 + length c in
@@ -182,10 +182,10 @@ module _ (m : ℕ) (s : List ℕ) (k : ℕ) where
   pub formAt-met : (f : Formula) → Grammatical f → (a : ℕ) → Answers a f
   unfolding Atoms textOf StandsTo depth
   formAt-met (atom p b) digits zero closed i h = zero-met closed i (atom p b) (omega arith) (h .0)
-  formAt-met (atom p b) digits (suc a) closed i h = atom-met a closed i p b digits h
+  formAt-met (atom p b) digits (suc a) closed i h = atom-form-met a closed i p b digits h
   formAt-met (constant w) digits zero closed i h = zero-met closed i (constant w) (omega arith) (h .0)
-  formAt-met (constant w) digits (suc a) closed i h = constant-met′ a closed i w h
+  formAt-met (constant w) digits (suc a) closed i h = constant-form-met a closed i w h
   formAt-met (unary w f) digits zero closed i h = zero-met closed i (unary w f) (omega arith) (h .0)
-  formAt-met (unary w f) digits (suc a) closed i h = unary-met′ a closed i w f (formAt-met f digits a) h
+  formAt-met (unary w f) digits (suc a) closed i h = unary-form-met a closed i w f (formAt-met f digits a) h
   formAt-met (binary w f g) digits zero closed i h = zero-met closed i (binary w f g) (omega arith) (h .0)
-  formAt-met (binary w f g) digits (suc a) closed i h = binary-met′ a closed i w f g (formAt-met f (digits .0) a) (formAt-met g (digits .1) a) h
+  formAt-met (binary w f g) digits (suc a) closed i h = binary-form-met a closed i w f g (formAt-met f (digits .0) a) (formAt-met g (digits .1) a) h

@@ -19,7 +19,8 @@ use Rattle.rules.specs.Text.{byteAt, textOf, Grammatical, ascii}
 use Rattle.rules.specs.ReaderLaws.{Digit}
 use Rattle.rules.specs.Fault.{count, Fault2, linesClosed, Fault3, Fault, FirstFault}
 use Rattle.rules.specs.Formula.{Formula}
-use Rattle.rules.specs.Begun.{every, small, every-left, Begun, begun-span, text-small, begun-next}
+use Rattle.rules.specs.Bytes.{every, small, every-left, text-small}
+use Rattle.rules.specs.Begun.{Begun, begun-span, begun-next}
 use Rattle.rules.specs.Reader.{Reading, andThen, expect, expectDigit, closeAt, formed, refused}
 
 -- A text's first bytes can go on, and hold no fault by 2, 3 or 4.

@@ -16,7 +16,7 @@ use Rattle.rules.specs.Line.{constantWeight, unaryWeight, binaryWeight, 
 use Rattle.rules.specs.Text.{constantLetters, unaryLetters, binaryLetters, textOf, ascii}
 use Rattle.rules.specs.Fault.{count, begins, words, weightOf, openedAfter, linesClosed}
 use Rattle.rules.specs.Formula.{Formula, atom, constant, unary, binary}
-use Rattle.rules.specs.Begun.{every, plain, and-left, and-right, plain-e, constant-plain, unary-plain, binary-plain, at-plain}
+use Rattle.rules.specs.Bytes.{every, plain, and-left, and-right, plain-e, constant-plain, unary-plain, binary-plain, at-plain}
 
 -- Brackets
 

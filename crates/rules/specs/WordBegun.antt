@@ -8,7 +8,7 @@ use Rattle.rules.specs.declared.WordRead.the-variants.{AtWord, ConstantW
 use Rattle.rules.specs.Context.{Viable, viable-part, viable-at, viable-constant, viable-unary, viable-binary}
 use Rattle.rules.specs.WordLaws.{Span, span-byte, span-append, if-byte, span-nil}
 use Rattle.rules.specs.Text.{byteAt, ascii, constantLetters, unaryLetters, binaryLetters}
-use Rattle.rules.specs.Begun.{every, plain, every-left, at-plain, constant-plain, unary-plain, binary-plain}
+use Rattle.rules.specs.Bytes.{every, plain, every-left, at-plain, constant-plain, unary-plain, binary-plain}
 use Rattle.rules.specs.Reader.{restAt, aWordAt, eWordAt, wordAt}
 use Rattle.rules.specs.declared.Constant.the-variants.{True, False}
 use Rattle.rules.specs.declared.Unary.the-variants.{Not, Ey}

@@ -42,9 +42,10 @@ standsTo-right m s i (x ∷ xs) ys h =
 pub standsTo-same : (m : ℕ) (s : List ℕ) (i : ℕ) (bs : List ℕ) → ((l : ℕ) → l < length bs → i + l < m → byteAt s (i + l) ≡ byteAt bs l) → StandsTo m s i bs
 unfolding StandsTo
 standsTo-same m s i [] h = tt
-standsTo-same m s i (b ∷ bs) h =
-    (λ p. rw (← add-zero i) (h 0 (omega arith) (omega arith))
-    , standsTo-same m s (i + 1) bs (λ l p q. subst (λ (j : ℕ). byteAt s j ≡ byteAt bs l) (omega arith) (h (suc l) (omega arith) (omega arith))))
+standsTo-same m s i (b ∷ bs) h = (
+  λ p. rw (← add-zero i) (h 0 (omega arith) (omega arith)),
+  standsTo-same m s (i + 1) bs (λ l p q. subst (λ (j : ℕ). byteAt s j ≡ byteAt bs l) (omega arith) (h (suc l) (omega arith) (omega arith))),
+)
 
 -- What is known before place m: we are at or behind m, or it is so.
 pub known : (m i : ℕ) {Q P : Type 0} → (i < m → Q) → (m ≤ i → P) → (Q → P) → P
