@@ -41,7 +41,7 @@ begun-next {s} {bs} {i} {b} p e h = record {
   ends = omega (arith, length-append bs (b ∷ []), p .ends);
 }
 
-pub begun-stands : {s bs : List ℕ} {i : ℕ} (xs : List ℕ) → Begun s bs i → Stands s i xs → T (every small xs) → Begun s (bs ++ xs) (i + length xs)
+begun-stands : {s bs : List ℕ} {i : ℕ} (xs : List ℕ) → Begun s bs i → Stands s i xs → T (every small xs) → Begun s (bs ++ xs) (i + length xs)
 unfolding Stands every
 begun-stands {s} {bs} {i} [] p q h = rw (append-nil, add-zero) p
 begun-stands {s} {bs} {i} (x ∷ xs) p q h =

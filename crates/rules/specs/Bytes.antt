@@ -35,7 +35,7 @@ pub and-right : (x y : Bool) → T (x && y) → T y
 and-right true y h = h
 and-right false y h = absurd h
 
-pub and-both : (x y : Bool) → T x → T y → T (x && y)
+and-both : (x y : Bool) → T x → T y → T (x && y)
 and-both true y p q = q
 and-both false y p q = p
 

@@ -47,7 +47,7 @@ closedLines [] = 0
 closedLines (c ∷ cs) = closedLines cs + frameLines c
 
 -- The weight of an open form.
-unfoldable pub frameWeight : Frame → ℕ
+frameWeight : Frame → ℕ
 frameWeight (inOne w) = unaryWeight w
 frameWeight (inFirst w) = binaryWeight w
 frameWeight (inSecond w f) = binaryWeight w

@@ -90,7 +90,7 @@ second-digit-below s k t j d b e x (inr (inr (inr (q, c, c₂, st, ten₁, ten, 
 -- The first fault
 
 -- A text's first bytes that can go on hold no fault by 1.
-pub viable-met : {s bs : List ℕ} {m : ℕ} → Begun s bs m → Viable bs → (j : ℕ) → j < m → Fault1 s j → ⊥
+viable-met : {s bs : List ℕ} {m : ℕ} → Begun s bs m → Viable bs → (j : ℕ) → j < m → Fault1 s j → ⊥
 unfolding Fault1
 viable-met {s} {bs} {m} p v j l (inl (h, never)) =
     never (v .form) (v .digits)

@@ -6,14 +6,14 @@ use mathlib.Core.List.{List, [], _∷_, _++_, append-assoc}
 use mathlib.Core.Logic.{inl, inr}
 use lib.Dec.{T}
 use lib.ListN.{length}
-use Rattle.rules.specs.Context.{Frame, closedLines, viable-text, viable-part, viable-inside, opening, before, frameLines, FrameGrammatical, FramesGrammatical, Viable, viable-unary, viable-binary, inOne, inFirst, inSecond, viable-first}
-use Rattle.rules.specs.FaultLaws.{Clean, clean-next, clean-span, first-digit-below, second-digit-below, first-over}
+use Rattle.rules.specs.Context.{Frame, closedLines, opening, before, frameLines, FrameGrammatical, FramesGrammatical, Viable, viable-unary, viable-binary, inOne, inFirst, inSecond, viable-first}
+use Rattle.rules.specs.FaultLaws.{Clean, clean-next, clean-span, first-digit-below, second-digit-below}
 use Rattle.rules.specs.WordLaws.{Span, span-next, span-byte, span-append, span-nil, WordSpan, wordAt-span}
-use Rattle.rules.specs.ReaderStops.{Outcome, Reached, stop, expect-out, digit-out, close-out, andThen-out, too-deep, opened-clean}
-use Rattle.rules.specs.Text.{byteAt, ascii, textOf, Grammatical, constantLetters, unaryLetters, binaryLetters}
-use Rattle.rules.specs.Fault.{Fault2, Fault3, Stands, Fault4, Fault}
-use Rattle.rules.specs.Formula.{Formula, Atoms, atom, constant, unary, binary}
-use Rattle.rules.specs.Bytes.{every, small, every-left, text-small, every-append, plain-small, at-plain, constant-plain, unary-plain, binary-plain}
+use Rattle.rules.specs.ReaderStops.{Outcome, Reached, stop, expect-out, digit-out, close-out, andThen-out, too-deep, opened-clean, stop-in, over-in}
+use Rattle.rules.specs.Text.{byteAt, ascii, textOf, constantLetters, unaryLetters, binaryLetters}
+use Rattle.rules.specs.Fault.{Stands, Fault4}
+use Rattle.rules.specs.Formula.{Atoms, atom, constant, unary, binary}
+use Rattle.rules.specs.Bytes.{every, small, text-small, every-append, plain-small, at-plain, constant-plain, unary-plain, binary-plain}
 use Rattle.rules.specs.Begun.{begun-span, Begun}
 use Rattle.rules.specs.Reader.{atomAt, refused, wordAt, Reading, innerWith, unaryWith, binaryWith, bodyWith, formAt}
 use Rattle.rules.specs.declared.Constant.the-variants.{True}
@@ -26,54 +26,43 @@ use Rattle.rules.specs.ReaderLaws.{Sound, inner-formed, formAt-formed}
 use Rattle.rules.specs.WordBegun.{WordBegun, IfNoWord, wordAt-begun}
 
 module _ (s : List ℕ) (k : ℕ) where
-  -- The reader stops by 1 behind the first bytes of a form.
-  stop-in : (cs : List Frame) (i j : ℕ) (xs ys : List ℕ) (f : Formula) → Reached s k cs i → Span s i xs j → xs ++ ys ≡ textOf f → Grammatical f
-      → Clean s k j → Outcome s k (refused 1 j)
-  stop-in cs i j xs ys f x span e digits clean =
-      stop s k cs i j xs x span (every-left small xs ys (rw e (text-small f digits))) (viable-part xs ys (rw e (viable-text f digits))) clean
-
-  -- A digit that is not below its bound, behind the first bytes of an atom.
-  over-in : (cs : List Frame) (i j : ℕ) (xs ys : List ℕ) (f : Formula) (d : ℕ) → Reached s k cs i → Span s i xs (j + 1) → xs ++ ys ≡ textOf f → Grammatical f
-      → Clean s k j → byteAt s j ≡ 48 + d → Fault4 s k j → Outcome s k (refused 4 j)
-  unfolding Outcome Fault Fault2 Fault3
-  over-in cs i j xs ys f d x span e digits clean b fault =
-      inl (first-over 4 k (begun-span (x .begun) span (every-left small xs ys (rw e (text-small f digits))))
-      (viable-inside cs (x .digits) xs (viable-part xs ys (rw e (viable-text f digits)))) clean
-      (inr (inr (inr (refl, fault)))) (omega arith) (λ _ z. omega (arith, z .0)) (λ _ z. omega (arith, z .0)))
-
   atom-out : (cs : List Frame) (closed i l : ℕ) → Reached s k cs i → closed ≡ closedLines cs → byteAt s i ≡ 40 → Span s (i + 1) (ascii "at") l
       → Clean s k l → Outcome s k (atomAt s k closed l)
   unfolding atomAt textOf Atoms Stands Fault4 every
   atom-out cs closed i l x lines b q clean₀ =
       let t : byteAt s (i + 1 + 1) ≡ 116 = q .stands .1 .0 in
       let span₀ = span-append (span-byte s i 40 b) q in
-      expect-out s k l 32 _ (stop-in cs i l (ascii "(at") (ascii " 0 0)") (atom 0 0) x span₀ refl (omega arith) clean₀)
+      expect-out s k l 32 _ (stop-in s k cs i l (ascii "(at") (ascii " 0 0)") (atom 0 0) x span₀ refl (omega arith) clean₀)
       (λ e₁.
       let span₁ = span-append span₀ (span-byte s l 32 e₁) in
       let clean₁ : Clean s k (l + 1) = clean-span k clean₀ (span-byte s l 32 e₁) tt in
-      digit-out s k (l + 1) k _ (stop-in cs i (l + 1) (ascii "(at ") (ascii "0 0)") (atom 0 0) x span₁ refl (omega arith) clean₁)
+      digit-out s k (l + 1) k _ (stop-in s k cs i (l + 1) (ascii "(at ") (ascii "0 0)") (atom 0 0) x span₁ refl (omega arith) clean₁)
       (λ d e ten over.
       let span = span-append span₁ (span-byte s (l + 1) (48 + d) e) in
-      over-in cs i (l + 1) (ascii "(at " ++ (48 + d) ∷ []) (ascii " 0)") (atom d 0) d x span refl (omega arith) clean₁ e
+      over-in s k cs i (l + 1) (ascii "(at " ++ (48 + d) ∷ []) (ascii " 0)") (atom d 0) d x span refl (omega arith) clean₁ e
       (inl (i, d, span .stands, ten, over, omega (arith, q .ends))))
       (λ p.
       let d = byteAt s (l + 1) - 48 in
       let span₂ = span-append span₁ (span-next s (l + 1) (48 + d) (l + 2) (p .byte) (omega arith)) in
-      let clean₂ : Clean s k (l + 2) = subst (Clean s k) (omega arith) (clean-next s k (l + 1) clean₁ (first-digit-below s k (i + 1 + 1) (l + 1) d t (omega (arith, q .ends)) p)) in
-      expect-out s k (l + 2) 32 _ (stop-in cs i (l + 2) (ascii "(at " ++ (48 + d) ∷ []) (ascii " 0)") (atom d 0) x span₂ refl (omega (arith, p .ten)) clean₂)
+      let clean₂ : Clean s k (l + 2) =
+      subst (Clean s k) (omega arith)
+      (clean-next s k (l + 1) clean₁ (first-digit-below s k (i + 1 + 1) (l + 1) d t (omega (arith, q .ends)) p)) in
+      expect-out s k (l + 2) 32 _ (stop-in s k cs i (l + 2) (ascii "(at " ++ (48 + d) ∷ []) (ascii " 0)") (atom d 0) x span₂ refl (omega (arith, p .ten)) clean₂)
       (λ e₃.
       let step₃ = span-next s (l + 2) 32 (l + 3) e₃ (omega arith) in
       let span₃ = span-append span₂ step₃ in
       let clean₃ : Clean s k (l + 3) = clean-span k clean₂ step₃ tt in
-      digit-out s k (l + 3) 8 _ (stop-in cs i (l + 3) (ascii "(at " ++ (48 + d) ∷ 32 ∷ []) (ascii "0)") (atom d 0) x span₃ refl (omega (arith, p .ten)) clean₃)
+      digit-out s k (l + 3) 8 _ (stop-in s k cs i (l + 3) (ascii "(at " ++ (48 + d) ∷ 32 ∷ []) (ascii "0)") (atom d 0) x span₃ refl (omega (arith, p .ten)) clean₃)
       (λ c e ten over.
       let span = span-append span₃ (span-byte s (l + 3) (48 + c) e) in
-      over-in cs i (l + 3) (ascii "(at " ++ (48 + d) ∷ 32 ∷ (48 + c) ∷ []) (41 ∷ []) (atom d c) c x span refl (omega (arith, p .ten)) clean₃ e
+      over-in s k cs i (l + 3) (ascii "(at " ++ (48 + d) ∷ 32 ∷ (48 + c) ∷ []) (41 ∷ []) (atom d c) c x span refl (omega (arith, p .ten)) clean₃ e
       (inr (i, d, c, span .stands, p .ten, ten, over, omega (arith, q .ends))))
       (λ p₂.
       let c = byteAt s (l + 3) - 48 in
       let span₄ = span-append span₃ (span-next s (l + 3) (48 + c) (l + 4) (p₂ .byte) (omega arith)) in
-      let clean₄ : Clean s k (l + 4) = subst (Clean s k) (omega arith) (clean-next s k (l + 3) clean₃ (second-digit-below s k (i + 1 + 1) (l + 3) c t (omega (arith, q .ends)) p₂)) in
+      let clean₄ : Clean s k (l + 4) =
+      subst (Clean s k) (omega arith)
+      (clean-next s k (l + 3) clean₃ (second-digit-below s k (i + 1 + 1) (l + 3) c t (omega (arith, q .ends)) p₂)) in
       close-out s k cs closed i (l + 4) (ascii "(at " ++ (48 + d) ∷ 32 ∷ (48 + c) ∷ []) (atom d c) x lines span₄ refl (omega (arith, p .ten, p₂ .ten)) clean₄))))
 
   -- A reader of forms nested at most a deep, inside open forms, passes no fault and refuses by the first.
@@ -145,13 +134,18 @@ module _ (s : List ℕ) (k : ℕ) where
         stop s k cs i l (40 ∷ h .letters) x (span-append (span-byte s i 40 b) (h .span)) (plain-small (h .letters) (h .plains)) (h .viable)
         (clean-span k clean (h .span) (h .plains))
 
+  -- A byte that is no opening bracket, at a form's place.
+  no-bracket : (cs : List Frame) (i : ℕ) → Reached s k cs i → Outcome s k (refused 1 i)
+  unfolding Atoms
+  no-bracket cs i x = stop-in s k cs i i [] (textOf (constant True)) (constant True) x (span-nil s i) refl tt (x .clean)
+
   pub formAt-stops : (a : ℕ) → Stops a (formAt a s k)
-  unfolding formAt before
+  unfolding formAt
   formAt-stops zero cs closed i room lines x =
-      expect-out s k i 40 _ (stop-in cs i i [] (textOf (constant True)) (constant True) x (span-nil s i) refl (unfold Atoms in tt) (x .clean))
+      expect-out s k i 40 _ (no-bracket cs i x)
       (λ b. too-deep s k cs i x (omega arith) b)
   formAt-stops (suc a) cs closed i room lines x =
-      expect-out s k i 40 _ (stop-in cs i i [] (textOf (constant True)) (constant True) x (span-nil s i) refl (unfold Atoms in tt) (x .clean))
+      expect-out s k i 40 _ (no-bracket cs i x)
       (λ b.
       body-out a (formAt a s k) (formAt-formed s k a) (formAt-stops a) cs closed i (wordAt s (i + 1)) room lines x b
       (opened-clean s k cs i x (omega arith) b) (wordAt-span s (i + 1)) (wordAt-begun s (i + 1)))

@@ -31,7 +31,7 @@ wordPlace (NoWord j) = j
 
 -- Words
 
-pub rest-from : (m : ℕ) (s : List ℕ) (i : ℕ) (bs : List ℕ) (word : WordRead) → m ≤ i → m ≤ wordPlace word → m ≤ wordPlace (restAt s i bs word)
+rest-from : (m : ℕ) (s : List ℕ) (i : ℕ) (bs : List ℕ) (word : WordRead) → m ≤ i → m ≤ wordPlace word → m ≤ wordPlace (restAt s i bs word)
 unfolding wordPlace
 rest-from m s i bs word h q = rest-case (λ w. m ≤ wordPlace w) s i bs word (λ _. q) (λ j l p. omega arith)
 
@@ -92,7 +92,7 @@ unfolding closeAt place
 closeAt-from m s closed i f h =
     expect-from m s i 41 _ h (cond-from m (leb (closed + lineCount f) 64) (formed (i + 1) f) (refused 3 i) (omega arith) h)
 
-pub andThen-from : (m : ℕ) (r : Reading) (next : ℕ → Formula → Reading) → m ≤ place r
+andThen-from : (m : ℕ) (r : Reading) (next : ℕ → Formula → Reading) → m ≤ place r
     → ((j : ℕ) (f : Formula) → m ≤ j → m ≤ place (next j f)) → m ≤ place (andThen r next)
 unfolding andThen place
 andThen-from m (formed j f) next p q = q j f p

@@ -17,7 +17,7 @@ use Rattle.rules.specs.Line.{lineCount}
 use Rattle.rules.specs.WordLaws.{Span, span-byte, span-append, if-byte}
 use Rattle.rules.specs.Text.{byteAt, textOf, Grammatical, ascii}
 use Rattle.rules.specs.ReaderLaws.{Digit}
-use Rattle.rules.specs.Fault.{count, Fault2, linesClosed, Fault3, Fault, FirstFault}
+use Rattle.rules.specs.Fault.{count, Fault2, linesClosed, Fault3, Fault, FirstFault, Fault4}
 use Rattle.rules.specs.Formula.{Formula}
 use Rattle.rules.specs.Bytes.{every, small, every-left, text-small}
 use Rattle.rules.specs.Begun.{Begun, begun-span, begun-next}
@@ -48,6 +48,21 @@ module _ (s : List ℕ) (k : ℕ) where
   unfolding Outcome
   stop cs i j bs x span bytes v clean =
       inr (refl, record { bytes = before cs ++ bs; begun = begun-span (x .begun) span bytes; viable = viable-inside cs (x .digits) bs v; clean = clean })
+
+  -- The reader stops by 1 behind the first bytes of a form.
+  pub stop-in : (cs : List Frame) (i j : ℕ) (xs ys : List ℕ) (f : Formula) → Reached s k cs i → Span s i xs j → xs ++ ys ≡ textOf f → Grammatical f
+      → Clean s k j → Outcome s k (refused 1 j)
+  stop-in cs i j xs ys f x span e digits clean =
+      stop cs i j xs x span (every-left small xs ys (rw e (text-small f digits))) (viable-part xs ys (rw e (viable-text f digits))) clean
+
+  -- A digit that is not below its bound, behind the first bytes of an atom.
+  pub over-in : (cs : List Frame) (i j : ℕ) (xs ys : List ℕ) (f : Formula) (d : ℕ) → Reached s k cs i → Span s i xs (j + 1) → xs ++ ys ≡ textOf f → Grammatical f
+      → Clean s k j → byteAt s j ≡ 48 + d → Fault4 s k j → Outcome s k (refused 4 j)
+  unfolding Outcome Fault Fault2 Fault3
+  over-in cs i j xs ys f d x span e digits clean b fault =
+      inl (first-over 4 k (begun-span (x .begun) span (every-left small xs ys (rw e (text-small f digits))))
+      (viable-inside cs (x .digits) xs (viable-part xs ys (rw e (viable-text f digits)))) clean
+      (inr (inr (inr (refl, fault)))) (omega arith) (λ _ z. omega (arith, z .0)) (λ _ z. omega (arith, z .0)))
 
   -- A byte that the grammar has at a place.
   pub expect-out : (i b : ℕ) (r : Reading) → Outcome s k (refused 1 i) → (byteAt s i ≡ b → Outcome s k r) → Outcome s k (expect s i b r)
@@ -106,7 +121,7 @@ module _ (s : List ℕ) (k : ℕ) where
   unfolding closeAt
   close-out cs closed i l bs f x lines span e digits clean =
       expect-out l 41 _
-      (stop cs i l bs x span (every-left small bs (41 ∷ []) (rw e (text-small f digits))) (viable-part bs (41 ∷ []) (rw e (viable-text f digits))) clean)
+      (stop-in cs i l bs (41 ∷ []) f x span e digits clean)
       (λ b.
       let whole : Span s i (textOf f) (l + 1) = subst (λ (z : List ℕ). Span s i z (l + 1)) e (span-append span (span-byte s l 41 b)) in
       closed-out cs closed l f (x .digits) digits lines b (begun-span (x .begun) whole (text-small f digits)) clean)

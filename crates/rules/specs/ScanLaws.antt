@@ -26,12 +26,12 @@ count-append b [] ys = omega arith
 count-append b (x ∷ xs) ys = omega (arith, count-append b xs ys)
 
 -- Another byte counts nothing.
-pub count-other : (b c : ℕ) (s : List ℕ) → (c ≡ b → ⊥) → count b (c ∷ s) ≡ count b s
+count-other : (b c : ℕ) (s : List ℕ) → (c ≡ b → ⊥) → count b (c ∷ s) ≡ count b s
 unfolding count
 count-other b c s h = rw (ne-eqb c b h) (zero-add (count b s))
 
 -- Plain bytes hold no bracket.
-pub count-plain : (b : ℕ) (bs : List ℕ) → 40 ≤ b → b ≤ 57 → T (every plain bs) → count b bs ≡ 0
+count-plain : (b : ℕ) (bs : List ℕ) → 40 ≤ b → b ≤ 57 → T (every plain bs) → count b bs ≡ 0
 unfolding count every
 count-plain b [] l h p = refl
 count-plain b (c ∷ bs) l h p =
@@ -99,7 +99,7 @@ at-weight : (s : List ℕ) → weightOf words (ascii "at" ++ s) ≡ 1
 unfolding weightOf words begins
 at-weight s = refl
 
-pub constant-weight : (w : Constant) (s : List ℕ) → weightOf words (constantLetters w ++ s) ≡ constantWeight w
+constant-weight : (w : Constant) (s : List ℕ) → weightOf words (constantLetters w ++ s) ≡ constantWeight w
 unfolding weightOf words begins constantLetters unaryLetters binaryLetters constantWeight unaryWeight binaryWeight
 constant-weight True s = refl
 constant-weight False s = refl

@@ -114,7 +114,7 @@ module _ (M : Model) (valid : List Event → Event → Type 0) (m : Ruled M vali
     recursive-is S c =
         enough (size (M .processes) S) (suc (size (M .processes) S)) S c (omega arith) (omega arith)
         ∙ looks (unrolled F (size (M .processes) S)) (recursive M F) S
-        (λ S′ n. let l = before-leads S c S′ .0 n in enough (size (M .processes) S) (size (M .processes) S′) S′ (l .before) (omega (arith, leads-smaller S S′ l)) (omega arith))
+          (λ S′ n. let l = before-leads S c S′ .0 n in enough (size (M .processes) S) (size (M .processes) S′) S′ (l .before) (omega (arith, leads-smaller S S′ l)) (omega arith))
 
   pub es-looks : (a b x y : Property) (S : Cut) → ((S′ : Cut) → List·Memᴰ S′ (before M S) → x S′ ≡ y S′) → esStep M a b x S ≡ esStep M a b y S
   unfolding esStep
@@ -125,16 +125,14 @@ module _ (M : Model) (valid : List Event → Event → Type 0) (m : Ruled M vali
   as-looks a b x y S h = rw (all-of-same x y (before M S) h)
 
   pub some-before : (x : Property) (S : Cut) → CutOf M S → T (anyOf x (before M S)) ↔ ((S′ : Cut) × Leads M S′ S × T (x S′))
-  some-before x S c = (
-    (λ t. let w = any-of-e x (before M S) t in (w .0, before-leads S c (w .0) .0 (w .1), w .2)),
-    (λ w. any-of-i x (before M S) (w .0) (before-leads S c (w .0) .1 (w .1)) (w .2)),
-  )
+  some-before x S c =
+      ( (λ t. let w = any-of-e x (before M S) t in (w .0, before-leads S c (w .0) .0 (w .1), w .2))
+      , (λ w. any-of-i x (before M S) (w .0) (before-leads S c (w .0) .1 (w .1)) (w .2)))
 
   pub all-before : (x : Property) (S : Cut) → CutOf M S → T (allOf x (before M S)) ↔ ((S′ : Cut) → Leads M S′ S → T (x S′))
-  all-before x S c = (
-    (λ t S′ l. all-of-e x (before M S) t S′ (before-leads S c S′ .1 l)),
-    (λ h. all-of-i x (before M S) (λ S′ n. h S′ (before-leads S c S′ .0 n))),
-  )
+  all-before x S c =
+      ( (λ t S′ l. all-of-e x (before M S) t S′ (before-leads S c S′ .1 l))
+      , (λ h. all-of-i x (before M S) (λ S′ n. h S′ (before-leads S c S′ .0 n))))
 
   -- ---- The clauses
 
@@ -149,12 +147,11 @@ module _ (M : Model) (valid : List Event → Event → Type 0) (m : Ruled M vali
   es-clause a b S c =
       let x : Property = esHolds M a b in
       let some : Bool = anyOf x (before M S) in
-      let is : x S ≡ b S || (a S && some) = recursive-is (esStep M a b) (es-looks a b) S c in (
-        (λ t. ⊎-elim (λ u. inl u) (λ u. inr (and-l (a S) some u, some-before x S c .0 (and-r (a S) some u))) (or-e (b S) (a S && some) (subst T is t))),
-        ⊎-elim
-            (λ u. subst⁻¹ T is (or-l (b S) (a S && some) u))
-            (λ u. subst⁻¹ T is (or-r (b S) (a S && some) (and-i (a S) some (u .0) (some-before x S c .1 (u .1))))),
-      )
+      let is : x S ≡ b S || (a S && some) = recursive-is (esStep M a b) (es-looks a b) S c in
+      ( (λ t. ⊎-elim (λ u. inl u) (λ u. inr (and-l (a S) some u, some-before x S c .0 (and-r (a S) some u))) (or-e (b S) (a S && some) (subst T is t)))
+      , ⊎-elim
+          (λ u. subst⁻¹ T is (or-l (b S) (a S && some) u))
+          (λ u. subst⁻¹ T is (or-r (b S) (a S && some) (and-i (a S) some (u .0) (some-before x S c .1 (u .1))))))
 
   -- A(a S b): b, or a and there is a preceding cut and all of them have A(a S b)
   pub as-clause : (a b : Property) (S : Cut) → CutOf M S
@@ -164,17 +161,16 @@ module _ (M : Model) (valid : List Event → Event → Type 0) (m : Ruled M vali
       let x : Property = asHolds M a b in
       let some : Bool = anyOf (λ R. true) (before M S) in
       let all : Bool = allOf x (before M S) in
-      let is : x S ≡ b S || (a S && (some && all)) = recursive-is (asStep M a b) (as-looks a b) S c in (
-        (λ t. ⊎-elim (λ u. inl u)
-            (λ u. let v = and-r (a S) (some && all) u in
-            let w = some-before (λ R. true) S c .0 (and-l some all v) in
-            inr (and-l (a S) (some && all) u, (w .0, w .1), all-before x S c .0 (and-r some all v)))
-            (or-e (b S) (a S && (some && all)) (subst T is t))),
-        ⊎-elim
-            (λ u. subst⁻¹ T is (or-l (b S) (a S && (some && all)) u))
-            (λ u. subst⁻¹ T is (or-r (b S) (a S && (some && all)) (and-i (a S) (some && all) (u .0)
-            (and-i some all (some-before (λ R. true) S c .1 (u .1 .0, u .1 .1, tt)) (all-before x S c .1 (u .2)))))),
-      )
+      let is : x S ≡ b S || (a S && (some && all)) = recursive-is (asStep M a b) (as-looks a b) S c in
+      ( (λ t. ⊎-elim (λ u. inl u)
+          (λ u. let v = and-r (a S) (some && all) u in
+              let w = some-before (λ R. true) S c .0 (and-l some all v) in
+              inr (and-l (a S) (some && all) u, (w .0, w .1), all-before x S c .0 (and-r some all v)))
+          (or-e (b S) (a S && (some && all)) (subst T is t)))
+      , ⊎-elim
+          (λ u. subst⁻¹ T is (or-l (b S) (a S && (some && all)) u))
+          (λ u. subst⁻¹ T is (or-r (b S) (a S && (some && all)) (and-i (a S) (some && all) (u .0)
+              (and-i some all (some-before (λ R. true) S c .1 (u .1 .0, u .1 .1, tt)) (all-before x S c .1 (u .2)))))))
 
   -- ... so it is false where nothing precedes and b does not hold
   pub as-start : (a b : Property) (S : Cut) → CutOf M S → ((S′ : Cut) → Leads M S′ S → ⊥) → (T (b S) → ⊥) → T (asHolds M a b S) → ⊥

@@ -97,18 +97,18 @@ module _ (n : ℕ) (start : Cut) (valid : List Event → Event → Type 0) (r : 
   unfolding esHolds esStep
   es-local a b a′ b′ l k S c g = by-size (esHolds here a b) (esHolds there a′ b′)
       (λ R d f e.
-      recursive-is here valid ruled-here (esStep here a b) (es-looks here valid ruled-here a b) R d
-      ∙ ap₂ _||_ (k R d f) (ap₂ _&&_ (l R d f) (some-local R d f (esHolds here a b) (esHolds there a′ b′) e))
-      ∙ sym (recursive-is there valid ruled-there (esStep there a′ b′) (es-looks there valid ruled-there a′ b′) R (agree-consistent ts us R f d)))
+          recursive-is here valid ruled-here (esStep here a b) (es-looks here valid ruled-here a b) R d
+          ∙ ap₂ _||_ (k R d f) (ap₂ _&&_ (l R d f) (some-local R d f (esHolds here a b) (esHolds there a′ b′) e))
+          ∙ sym (recursive-is there valid ruled-there (esStep there a′ b′) (es-looks there valid ruled-there a′ b′) R (agree-consistent ts us R f d)))
       (suc (size n S)) S c g (omega arith)
 
   as-local : (a b a′ b′ : Property) → Local a a′ → Local b b′ → Local (asHolds here a b) (asHolds there a′ b′)
   unfolding asHolds asStep
   as-local a b a′ b′ l k S c g = by-size (asHolds here a b) (asHolds there a′ b′)
       (λ R d f e.
-      recursive-is here valid ruled-here (asStep here a b) (as-looks here valid ruled-here a b) R d
-      ∙ ap₂ _||_ (k R d f) (ap₂ _&&_ (l R d f) (ap₂ _&&_ (some-local R d f (λ Q. true) (λ Q. true) (λ S′ m. refl)) (all-local R d f (asHolds here a b) (asHolds there a′ b′) e)))
-      ∙ sym (recursive-is there valid ruled-there (asStep there a′ b′) (as-looks there valid ruled-there a′ b′) R (agree-consistent ts us R f d)))
+          recursive-is here valid ruled-here (asStep here a b) (as-looks here valid ruled-here a b) R d
+          ∙ ap₂ _||_ (k R d f) (ap₂ _&&_ (l R d f) (ap₂ _&&_ (some-local R d f (λ Q. true) (λ Q. true) (λ S′ m. refl)) (all-local R d f (asHolds here a b) (asHolds there a′ b′) e)))
+          ∙ sym (recursive-is there valid ruled-there (asStep there a′ b′) (as-looks there valid ruled-there a′ b′) R (agree-consistent ts us R f d)))
       (suc (size n S)) S c g (omega arith)
 
   -- ---- Theorem: a formula

@@ -72,22 +72,27 @@ letter-met : (m i c b : ℕ) (word r rest : WordRead) → i ≤ wordPlace r → 
 letter-met m i c b word r rest from h q p = known m i h (λ l. inr (omega arith)) (λ e. rw (q e) p)
 
 module _ (m : ℕ) (s : List ℕ) (i : ℕ) where
-  -- A word with a, one with e, each of two letters; and a word whose first letter decides.
-  a-word : (b : ℕ) (word : ℕ → WordRead) → (byteAt s (i + 1) ≡ b → aWordAt s (i + 1) ≡ word (i + 1 + 1)) → StandsTo m s i (97 ∷ b ∷ []) → WordMet m (word (i + 2)) (wordAt s i)
-  unfolding StandsTo wordAt
-  a-word b word q h =
-      letter-met m i (byteAt s i) 97 _ _ (aWordAt s (i + 1)) (word-from s i) (h .0) (λ e. rw e)
-      (letter-met m (i + 1) (byteAt s (i + 1)) b _ _ (word (i + 1 + 1)) (aWord-from s (i + 1)) (h .1 .0) q
-      (inl (ap word (omega arith))))
+  -- A word of two letters, which the second decides among those with the first.
+  two-word : (c b : ℕ) (second : WordRead) (word : ℕ → WordRead) → i + 1 ≤ wordPlace second → (byteAt s i ≡ c → wordAt s i ≡ second)
+      → (byteAt s (i + 1) ≡ b → second ≡ word (i + 1 + 1)) → StandsTo m s i (c ∷ b ∷ []) → WordMet m (word (i + 2)) (wordAt s i)
+  unfolding StandsTo
+  two-word c b second word from first q h =
+      letter-met m i (byteAt s i) c _ _ second (word-from s i) (h .0) first
+      (letter-met m (i + 1) (byteAt s (i + 1)) b _ _ (word (i + 1 + 1)) from (h .1 .0) q (inl (ap word (omega arith))))
 
-  e-word : (b : ℕ) (word : ℕ → WordRead) → (byteAt s (i + 1) ≡ b → eWordAt s (i + 1) ≡ word (i + 1 + 1)) → StandsTo m s i (101 ∷ b ∷ []) → WordMet m (word (i + 2)) (wordAt s i)
-  unfolding StandsTo wordAt
-  e-word b word q h =
-      letter-met m i (byteAt s i) 101 _ _ (eWordAt s (i + 1)) (word-from s i) (h .0) (λ e. rw e)
-      (letter-met m (i + 1) (byteAt s (i + 1)) b _ _ (word (i + 1 + 1)) (eWord-from s (i + 1)) (h .1 .0) q
-      (inl (ap word (omega arith))))
+  a-word : (b : ℕ) (word : ℕ → WordRead) → (byteAt s (i + 1) ≡ b → aWordAt s (i + 1) ≡ word (i + 1 + 1)) → StandsTo m s i (97 ∷ b ∷ [])
+      → WordMet m (word (i + 2)) (wordAt s i)
+  unfolding wordAt
+  a-word b word q h = two-word 97 b (aWordAt s (i + 1)) word (aWord-from s (i + 1)) (λ e. rw e) q h
 
-  first-word : (b : ℕ) (bs : List ℕ) (word : WordRead) → (byteAt s i ≡ b → wordAt s i ≡ restAt s (i + 1) bs word) → StandsTo m s i (b ∷ bs) → WordMet m word (wordAt s i)
+  e-word : (b : ℕ) (word : ℕ → WordRead) → (byteAt s (i + 1) ≡ b → eWordAt s (i + 1) ≡ word (i + 1 + 1)) → StandsTo m s i (101 ∷ b ∷ [])
+      → WordMet m (word (i + 2)) (wordAt s i)
+  unfolding wordAt
+  e-word b word q h = two-word 101 b (eWordAt s (i + 1)) word (eWord-from s (i + 1)) (λ e. rw e) q h
+
+  -- A word that its first letter decides.
+  first-word : (b : ℕ) (bs : List ℕ) (word : WordRead) → (byteAt s i ≡ b → wordAt s i ≡ restAt s (i + 1) bs word) → StandsTo m s i (b ∷ bs)
+      → WordMet m word (wordAt s i)
   unfolding StandsTo
   first-word b bs word q h =
       letter-met m i (byteAt s i) b word (wordAt s i) (restAt s (i + 1) bs word) (word-from s i) (h .0) q (rest-met m s (i + 1) bs word (h .1))
@@ -100,6 +105,8 @@ module _ (m : ℕ) (s : List ℕ) (i : ℕ) where
       letter-met m i (byteAt s i) 97 _ _ (aWordAt s (i + 1)) (word-from s i) (h .0) (λ e. rw e)
       (letter-met m (i + 1) (byteAt s (i + 1)) 110 _ _ rest (aWord-from s (i + 1)) (h .1 .0) (λ e. rw e)
       (subst (λ (n : ℕ). WordMet m (BinaryWord And n) rest) (omega arith) (rest-met m s (i + 1 + 1) (100 ∷ []) word (h .1 .1))))
+
+  -- Each word, where its letters stand up to place m.
 
   pub at-met : StandsTo m s i (ascii "at") → WordMet m (AtWord (i + 2)) (wordAt s i)
   unfolding aWordAt
