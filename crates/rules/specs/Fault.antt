@@ -88,7 +88,7 @@ pub record FirstFault (n : ℕ) (s : List ℕ) (k i : ℕ) : Type 0 where
   pub none-before : (m j : ℕ) → j < i → Fault m s k j → ⊥
   pub none-lower : (m : ℕ) → m < n → Fault m s k i → ⊥
 
--- The statements
+-- The statements (proved in GrammarTheorem, ReaderAccepts and ReaderPlace)
 
 -- The reader refuses a text exactly by its first fault.
 abbrev pub ReaderFindsFirstFault : Type 0

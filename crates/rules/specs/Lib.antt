@@ -22,3 +22,16 @@ pub mod Fault
 pub mod WordLaws
 pub mod ReaderLaws
 pub mod ReaderPlace
+pub mod Bytes
+pub mod Begun
+pub mod ReaderFrom
+pub mod WordMeets
+pub mod ReaderMeets
+pub mod ReaderAccepts
+pub mod ScanLaws
+pub mod Context
+pub mod WordBegun
+pub mod FaultLaws
+pub mod ReaderStops
+pub mod FormStops
+pub mod GrammarTheorem

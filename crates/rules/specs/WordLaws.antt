@@ -24,6 +24,10 @@ pub record Span (s : List ℕ) (i : ℕ) (bs : List ℕ) (j : ℕ) : Type 0 wher
   pub stands : Stands s i bs
   pub ends : j ≡ i + length bs
 
+pub span-nil : (s : List ℕ) (i : ℕ) → Span s i [] i
+unfolding Stands
+span-nil s i = record { stands = tt; ends = omega arith }
+
 pub span-next : (s : List ℕ) (i b j : ℕ) → byteAt s i ≡ b → j ≡ i + 1 → Span s i (b ∷ []) j
 unfolding Stands
 span-next s i b j e h = record { stands = (e, tt); ends = h }
