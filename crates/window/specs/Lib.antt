@@ -3,3 +3,7 @@ pub mod Order
 pub mod Seek
 pub mod Step
 pub mod Bytes
+pub mod Shaped
+pub mod ListLaws
+pub mod BytesLaws
+pub mod WindowLaws
