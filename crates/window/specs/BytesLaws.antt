@@ -3,7 +3,7 @@ use Prim.Native.Nat.{ℕ, zero, suc, _+_, _*_, _^_, _≤_, _<_}
 use native.Mathlib.Nat.{suc-mul, mul-le-mul-right, zero-mul, le-of-suc-le-suc, zero-add, add-assoc, add-zero}
 use native.Mathlib.Omega.{arith}
 use native.Mathlib.Decide.{decLt}
-use mathlib.Core.List.{append-assoc, List, [], _∷_, _++_}
+use mathlib.Core.List.{append-assoc, List, [], _∷_, _++_, append-nil}
 use mathlib.Core.Path.{_≡_, refl, sym, ap, _∙_}
 use lib.ListN.{length, take, drop, length-append, length-drop}
 use lib.Seq.{take-at, drop-at, take-take, drop-drop, take-add, length-take-le, drop-append-seam}
@@ -43,6 +43,10 @@ unfolding countBytes
 countBytes-append w [] ds = refl
 countBytes-append w (c ∷ cs) ds = rw (countBytes-append w cs ds, append-assoc)
 
+pub countBytes-one : (w c : ℕ) → countBytes w (c ∷ []) ≡ bytesOf w c
+unfolding countBytes
+countBytes-one w c = append-nil (bytesOf w c)
+
 -- A count is read from its place among the bytes of counts.
 number-countBytes : (w : ℕ) (cs rest : List ℕ) → ((p : ℕ) → at cs p < 256 ^ w) → (p : ℕ) → p < length cs
     → number (countBytes w cs ++ rest) (p * w) w ≡ at cs p
@@ -70,11 +74,14 @@ countBytes-numbers w s b (suc n) a h =
 
 -- ---- One frontier
 
--- The bytes of counts, labels, masks and values end within the frontier.
-pub length-frontierBytes : (w : ℕ) (f : Frontier) → Shaped w f → length (frontierBytes w f) ≡ frontierLength w
+-- The length of a frontier's bytes, from the lengths of its parts.
+pub length-eights : (w : ℕ) (f : Frontier) → length (f .counts) ≡ 8 → length (f .labels) ≡ 8 → length (f .masks) ≡ 8
+    → length (frontierBytes w f) ≡ frontierLength w
 unfolding frontierBytes frontierLength
-length-frontierBytes w f h =
-    simp (length-append, length-countBytes, length-bytesOf, h .eight-counts, h .eight-labels, h .eight-masks) (omega arith)
+length-eights w f c l m = simp (length-append, length-countBytes, length-bytesOf, c, l, m) (omega arith)
+
+pub length-frontierBytes : (w : ℕ) (f : Frontier) → Shaped w f → length (frontierBytes w f) ≡ frontierLength w
+length-frontierBytes w f h = length-eights w f (h .eight-counts) (h .eight-labels) (h .eight-masks)
 
 -- Frontiers with the same parts are the same.
 frontier-same : (f g : Frontier) → f .counts ≡ g .counts → f .labels ≡ g .labels → f .masks ≡ g .masks → f .values ≡ g .values → f ≡ g

@@ -2,8 +2,10 @@
 pub mod Order
 pub mod Seek
 pub mod Step
+pub mod Width
 pub mod Bytes
 pub mod Shaped
 pub mod ListLaws
 pub mod BytesLaws
 pub mod WindowLaws
+pub mod StoreLaws
