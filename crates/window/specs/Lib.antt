@@ -5,6 +5,7 @@ pub mod OrderLaws
 pub mod AscendingLaws
 pub mod Seek
 pub mod Step
+pub mod SeekLaws
 pub mod Width
 pub mod Bytes
 pub mod Shaped
