@@ -45,9 +45,9 @@ use Rattle.window.specs.FrontierLaws.{advanced-counts, advanced-masks, b
 use Rattle.window.specs.Step.{Setting, advanced, sought, withoutLast, Gathered, keysOf, consider, gathered, valuesAt, judgedBy}
 use Rattle.window.specs.Represents.{World, modelOf, openIn, KeptIn, frontierOf, Sorted, settingOf, Proper, wordOf}
 use Rattle.window.specs.Order.{before, same}
-use Rattle.window.specs.OrderLaws.{before-pointwise}
 use Rattle.window.specs.Seek.{seek, standsAt}
 use Rattle.window.specs.LookUp.{found-e, found-i}
+use Rattle.window.specs.OrderCuts.{before-pointwise}
 
 -- cuts that count nothing from n up are known by their first n counts
 pub listOf-injective : (n : ℕ) (R Q : Cut) → ((p : ℕ) → n ≤ p → R p ≡ 0) → ((p : ℕ) → n ≤ p → Q p ≡ 0) → listOf n R ≡ listOf n Q → R ≡ Q

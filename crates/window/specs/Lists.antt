@@ -1,4 +1,4 @@
--- Members of lists by their places; maps and filters of members.
+-- Members of mapped and filtered lists.
 use Prim.Native.Nat.{ℕ, zero, suc, _<_}
 use native.Mathlib.Omega.{arith}
 use mathlib.Core.Path.{_≡_, refl, sym, ap, subst, _∙_}
@@ -10,19 +10,6 @@ use lib.ListN.{length, getD}
 use Rattle.window.specs.Step.{filtered}
 
 module _ {A : Type 0} where
-  pub member-at : (xs : List A) (i : ℕ) (d : A) → i < length xs → List·Memᴰ (getD xs i d) xs
-  member-at [] i d l = absurd (omega arith)
-  member-at (x ∷ xs) zero d l = List·Memᴰ·head refl
-  member-at (x ∷ xs) (suc i) d l = List·Memᴰ·tail (member-at xs i d (omega arith))
-
-  pub place-of : (xs : List A) (x d : A) → List·Memᴰ x xs → (i : ℕ) × (i < length xs) × (getD xs i d ≡ x)
-  place-of [] x d m = absurd (List·Memᴰ·not-nil m)
-  place-of (y ∷ ys) x d m = go (List·Memᴰ·cases-cons m) (place-of ys x d)
-    where
-      go : (x ≡ y) ⊎ List·Memᴰ x ys → (List·Memᴰ x ys → (i : ℕ) × (i < length ys) × (getD ys i d ≡ x)) → (i : ℕ) × (i < length (y ∷ ys)) × (getD (y ∷ ys) i d ≡ x)
-      go (inl s) r = (0, omega arith, sym s)
-      go (inr k) r = let w = r k in (suc (w .0), omega (arith, w .1), w .2)
-
   pub filtered-e : (t : A → Bool) (xs : List A) (x : A) → List·Memᴰ x (filtered t xs) → List·Memᴰ x xs × T (t x)
   unfolding filtered
   filtered-e t [] x m = absurd (List·Memᴰ·not-nil m)

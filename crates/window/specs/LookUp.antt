@@ -9,13 +9,15 @@ use Rattle.clocks.specs.declared.Event.{Event}
 use Rattle.clocks.specs.Event.{Cut}
 use Rattle.clocks.specs.Counts.{listOf, at}
 use Rattle.clocks.specs.Lattice.{zeros}
+use Rattle.rules.specs.ReaderFrom.{place}
 use Rattle.window.specs.declared.Frontier.{Frontier}
-use Rattle.window.specs.Lists.{member-at, map-map, place-of, getD-mapped}
 use Rattle.window.specs.Seek.{seek, standsAt}
 use Rattle.window.specs.Step.{valuesAt, keysOf}
 use Rattle.window.specs.Represents.{World, frontierOf, Sorted}
 use Rattle.window.specs.Order.{Ascending}
-use Rattle.window.specs.SeekLaws.{seek-finds, stands-e, stands-i}
+use Rattle.window.specs.Lists.{map-map, getD-mapped}
+use Rattle.window.specs.SeekLaws.{seek-finds, standsAt-e, standsAt-i}
+use Rattle.window.specs.ListLaws.{place-member, member-place}
 
 pub sorted-ascending : (n : ℕ) (cuts : List Cut) → Sorted n cuts → Ascending (map (listOf n) cuts)
 sorted-ascending n [] s i j l k = absurd (omega arith)
@@ -24,7 +26,7 @@ sorted-ascending n (S ∷ Ss) s (suc i) zero l k = absurd (omega arith)
 sorted-ascending n (S ∷ Ss) s (suc i) (suc j) l k = sorted-ascending n Ss (s .1) i j (omega arith) (omega arith)
 sorted-ascending n (S ∷ Ss) s zero (suc j) l k =
     let h : j < length Ss = omega (arith, length-map Ss (listOf n)) in
-    rw (getD-mapped (listOf n) Ss j zeros [] h) (s .0 (getD Ss j zeros) (member-at Ss j zeros h))
+    rw (getD-mapped (listOf n) Ss j zeros [] h) (s .0 (getD Ss j zeros) (place-member Ss j zeros h))
 
 module _ (W : World) (us : List Event) (laid : List Cut) (s : Sorted (W .stored) laid) where
   abbrev keys : List (List ℕ)
@@ -43,16 +45,16 @@ module _ (W : World) (us : List Event) (laid : List Cut) (s : Sorted (W .stored)
   pub found-e : (key : List ℕ) (place : ℕ) → T (standsAt keys key place)
       → (R : Cut) × List·Memᴰ R laid × (key ≡ listOf (W .stored) R) × (valuesAt (map (frontierOf W us) laid) place ≡ frontierOf W us R .values)
   found-e key place t =
-      let w = stands-e keys key place t in
+      let w = standsAt-e keys key place t in
       let l : place < length laid = omega (arith, w .0, many) in
-      (getD laid place zeros, member-at laid place zeros l, sym (w .1) ∙ key-at place l,
+      (getD laid place zeros, place-member laid place zeros l, sym (w .1) ∙ key-at place l,
       ap (λ (vs : List ℕ). getD vs place 0) (map-map (λ (f : Frontier). f .values) (frontierOf W us) laid) ∙ getD-mapped (λ (S : Cut). frontierOf W us S .values) laid place zeros 0 l)
 
   pub found-i : (R : Cut) → List·Memᴰ R laid → (hint : ℕ) → T (standsAt keys (listOf (W .stored) R) (seek keys (listOf (W .stored) R) hint))
   found-i R m hint =
-      let w = place-of laid R zeros m in
+      let w = member-place laid R zeros m in
       let k : getD keys (w .0) [] ≡ listOf (W .stored) R = key-at (w .0) (w .1) ∙ ap (listOf (W .stored)) (w .2) in
       let l : w .0 < length keys = omega (arith, w .1, many) in
       let a : Ascending keys = rw keys-are (sorted-ascending (W .stored) laid s) in
       let p : seek keys (listOf (W .stored) R) hint ≡ w .0 = rw k at (seek-finds keys a (w .0) l hint) in
-      rw p (stands-i keys (listOf (W .stored) R) (w .0) l k)
+      rw p (standsAt-i keys (listOf (W .stored) R) (w .0) l k)

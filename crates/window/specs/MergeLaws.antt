@@ -6,11 +6,11 @@ use mathlib.Core.List.{List, [], _∷_, _++_, map, List·Memᴰ, List·Memᴰ·h
 use mathlib.Core.Logic.{_⊎_, inl, inr, ⊎-elim}
 use lib.Dec.{T}
 use Rattle.clocks.specs.EventLaws.{true-T}
-use Rattle.window.specs.OrderLaws.{before-trans}
-use Rattle.window.specs.Lists.{filtered-e, mapped-e}
 use Rattle.window.specs.Step.{filtered, mergeInto, merge}
 use Rattle.window.specs.Represents.{SortedBy}
 use Rattle.window.specs.Order.{before}
+use Rattle.window.specs.OrderLaws.{before-trans}
+use Rattle.window.specs.Lists.{filtered-e, mapped-e}
 
 module _ {A : Type 0} (key : A → List ℕ) where
   -- ---- members

@@ -32,10 +32,11 @@ use Rattle.window.specs.Represents.{World, openIn, frontierOf, settingOf
 use Rattle.window.specs.declared.Frontier.{Frontier}
 use Rattle.window.specs.FrontierLaws.{frontier-agree, advanced-counts}
 use Rattle.window.specs.MergeLaws.{sorted-front, sorted-back, merge-e, merge-sorted, merge-map, sorted-filtered, sorted-map, merge-i}
-use Rattle.window.specs.OrderLaws.{before-irreflexive, before-trans, before-shift, before-total}
 use Rattle.window.specs.JudgingNew.{judged-new}
 use Rattle.window.specs.Order.{before}
-use Rattle.window.specs.Lists.{filtered-e, filtered-map, map-map, mapped-e, filtered-i, mapped-i}
+use Rattle.window.specs.OrderCuts.{compare-cuts}
+use Rattle.window.specs.OrderLaws.{before-irrefl, before-trans, before-add}
+use Rattle.window.specs.Lists.{filtered-e, filtered-i, filtered-map, map-map, mapped-e, mapped-i}
 
 -- ---- the tests on frontiers say what they should of the cuts
 module _ (W : World) (valid : List Event → Event → Type 0) (ts : List Event) (e : Event) (P : Proper W valid ts) (tk : Takeable (W .processes) valid ts e)
@@ -166,10 +167,10 @@ module _ (W : World) (valid : List Event → Event → Type 0) (ts : List Event)
   before-done done C todo w R k b = ⊎-elim (λ m. m) (λ m. absurd (⊎-elim equal later-one (List·Memᴰ·cases-cons m))) (List·Memᴰ·append-cases done (w .has R k))
     where
       equal : R ≡ C → ⊥
-      equal q = before-irreflexive (listOf n C) (rw q at b)
+      equal q = before-irrefl (listOf n C) (rw q at b)
 
       later-one : List·Memᴰ R todo → ⊥
-      later-one m = before-irreflexive (listOf n R) (before-trans (listOf n R) (listOf n C) (listOf n R) b (sorted-back (listOf n) done (C ∷ todo) (w .sorted) .0 R m))
+      later-one m = before-irrefl (listOf n R) (before-trans (listOf n R) (listOf n C) (listOf n R) b (sorted-back (listOf n) done (C ∷ todo) (w .sorted) .0 R m))
 
   map-push : (done : List Cut) (f : Frontier) (C : Cut) → f ≡ F C → map F done ++ (f ∷ []) ≡ map F (done ++ (C ∷ []))
   map-push [] f C q = rw q
@@ -251,7 +252,7 @@ module _ (W : World) (valid : List Event → Event → Type 0) (ts : List Event)
     -- one order for the cuts and for where the event leads from them
     grown-order : (S Q : Cut) → T (before (listOf n S) (listOf n Q)) → T (before (listOf n (apply e S)) (listOf n (apply e Q)))
     unfolding apply
-    grown-order S Q t = rw (before-shift n (λ p. one (involved e p)) S Q) t
+    grown-order S Q t = rw (before-add n (λ p. one (involved e p)) S Q) t
 
     -- an old cut is no new one: it lacks the event
     old-new : (S Q : Cut) → Consistent ts S → Ready e Q → listOf n S ≡ listOf n (apply e Q) → ⊥
@@ -282,7 +283,7 @@ module _ (W : World) (valid : List Event → Event → Type 0) (ts : List Event)
             let p : key x ≡ listOf n (a .0) = ap key (a .2) ∙ key-is (stayed (a .0)) (in-A (a .0) (a .1)) in
             let q : key y ≡ listOf n (apply e (b .0)) = ap key (b .2) ∙ key-is (grown (b .0)) (in-B (b .0) (b .1)) in
             rw (p, q) (⊎-elim (λ t. t) (⊎-elim (λ z. absurd (old-new (a .0) (b .0) (in-A (a .0) (a .1) .0 .consistent) (in-B (b .0) (b .1) .1) z)) (λ t. absurd (subst T (rw (p, q) at h) t)))
-            (before-total n (a .0) (apply e (b .0))))
+            (compare-cuts n (a .0) (apply e (b .0))))
 
     -- ---- the cuts to be laid down are the kept cuts of the longer history
     todo-kept : (C : Cut) → List·Memᴰ C (map cutOf todo) → KeptIn W us C

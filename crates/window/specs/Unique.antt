@@ -13,10 +13,10 @@ use Rattle.clocks.specs.Counts.{listOf}
 use Rattle.clocks.specs.Tested.{consistent}
 use Rattle.clocks.specs.SameEvents.{Same, same-sym, same-taken, same-agree, same-consistent}
 use Rattle.window.specs.declared.Frontier.{Frontier}
-use Rattle.window.specs.OrderLaws.{before-irreflexive, before-trans}
 use Rattle.window.specs.FrontierLaws.{frontier-agree}
 use Rattle.window.specs.Represents.{World, openIn, KeptIn, frontierOf, SortedBy, Represents, Proper}
 use Rattle.window.specs.Order.{before}
+use Rattle.window.specs.OrderLaws.{before-irrefl, before-trans}
 
 pub sorted-unique : {A : Type 0} (key : A → List ℕ) (xs ys : List A) → SortedBy key xs → SortedBy key ys → ((z : A) → List·Memᴰ z xs → List·Memᴰ z ys) → ((z : A) → List·Memᴰ z ys → List·Memᴰ z xs) → xs ≡ ys
 sorted-unique key [] [] s t f g = refl
@@ -28,12 +28,12 @@ sorted-unique {A} key (x ∷ xs) (y ∷ ys) s t f g =
     -- the first of each is the smallest of both
     same : x ≡ y
     same = ⊎-elim (λ q. q)
-        (λ m. ⊎-elim sym (λ k. absurd (before-irreflexive (key x) (before-trans (key x) (key y) (key x) (s .0 y k) (t .0 x m)))) (List·Memᴰ·cases-cons (g y (List·Memᴰ·head refl))))
+        (λ m. ⊎-elim sym (λ k. absurd (before-irrefl (key x) (before-trans (key x) (key y) (key x) (s .0 y k) (t .0 x m)))) (List·Memᴰ·cases-cons (g y (List·Memᴰ·head refl))))
         (List·Memᴰ·cases-cons (f x (List·Memᴰ·head refl)))
 
     tails : (a b : A) (xa xb : List A) → SortedBy key (a ∷ xa) → a ≡ b → ((z : A) → List·Memᴰ z (a ∷ xa) → List·Memᴰ z (b ∷ xb)) → (z : A) → List·Memᴰ z xa → List·Memᴰ z xb
     tails a b xa xb o q h z m = ⊎-elim
-        (λ p. absurd (before-irreflexive (key a) (subst (λ (c : A). T (before (key a) (key c))) (p ∙ sym q) (o .0 z m))))
+        (λ p. absurd (before-irrefl (key a) (subst (λ (c : A). T (before (key a) (key c))) (p ∙ sym q) (o .0 z m))))
         (λ k. k)
         (List·Memᴰ·cases-cons (h z (List·Memᴰ·tail m)))
 

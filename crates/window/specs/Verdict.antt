@@ -17,11 +17,11 @@ use Rattle.clocks.specs.Counts.{listOf}
 use Rattle.clocks.specs.Lattice.{taken-consistent}
 use Rattle.clocks.specs.Tested.{consistent}
 use Rattle.window.specs.declared.Frontier.{Frontier}
-use Rattle.window.specs.OrderLaws.{before-above}
 use Rattle.window.specs.FrontierLaws.{bit-wordOf}
 use Rattle.window.specs.Step.{Setting, stays, enabledAt, advanced, filtered, Slot, mergeInto, merge, slots, gathered, judgedBy, lay, stepped, keptAfter, staying, fresh}
 use Rattle.window.specs.Represents.{World, modelOf, KeptIn, frontierOf, Sorted, Represents, Proper}
 use Rattle.window.specs.Order.{before}
+use Rattle.window.specs.OrderCuts.{before-above}
 
 module _ (W : World) (valid : List Event → Event → Type 0) (ts : List Event) (P : Proper W valid ts) (fs : List Frontier) (R : Represents W ts fs) where
   causal : Causal ts

@@ -1,5 +1,9 @@
 // Frontiers in bytes: a window of the kept cuts.
 
+pub mod counts;
+pub mod place;
+pub mod stored;
+
 // A kept cut: its counts, each process's labels and the mask of its last event there, and the truth of each line.
 pub struct Frontier {
     pub counts: [u32; 8],
