@@ -9,12 +9,10 @@ pub mod Counts
 pub mod Refusal
 pub mod Key
 pub mod SameEvent
-
 -- The same as tests that compute
 pub mod Bounded
 pub mod Tested
 pub mod ValidTest
-
 -- What is proved of histories and cuts
 pub mod EventLaws
 pub mod HistoryLaws
@@ -32,7 +30,6 @@ pub mod JoinedClock
 pub mod Exchange
 pub mod KeptStep
 pub mod SourceDropping
-
 -- What is proved of the tests and of stored counts
 pub mod BoundedLaws
 pub mod BoundedSteps

@@ -2,11 +2,12 @@
 use Prim.Native.Nat.{ℕ, _+_, _*_}
 use mathlib.Core.Bool.{Bool, true, false}
 use mathlib.Core.List.{List}
+use Rattle.rules.specs.ReaderFrom.{place}
 use Rattle.rules.specs.Formula.{truth}
 
 pub data Answer : Type 0 where
   -- turned back: a number of 01, and the byte's place where it has one (0 where it has none)
-  refused : ℕ → ℕ → Answer
+  turnedBack : ℕ → ℕ → Answer
   -- opened, or an event taken: the taken counts, the rule's truth at the largest cut, the frontiers kept
   state : List ℕ → Bool → ℕ → Answer
   -- no pending event is ready
@@ -24,7 +25,7 @@ flag false = 0
 
 -- The reply word: number + 256 flag + 65,536 value + 2 ^ 32 place.
 unfoldable pub replyWord : Answer → ℕ
-replyWord (refused n place) = n + 4294967296 * place
+replyWord (turnedBack n place) = n + 4294967296 * place
 replyWord (state counts truth kept) = 256 * flag truth + 65536 * kept
 replyWord nothingReady = 0
 replyWord (held n) = 65536 * n

@@ -10,16 +10,16 @@ use Rattle.window.specs.Bytes.{frontiers}
 use Rattle.rules.specs.Line.{line}
 use Rattle.watch.specs.Record.{lineTotal, keptCount}
 use Rattle.watch.specs.Refusals.{badRecordLength, badWindowLength, roomOf, badState}
-use Rattle.watch.specs.Answer.{Answer, refused, found, absent}
+use Rattle.watch.specs.Answer.{Answer, turnedBack, found, absent}
 
 -- The place, from i on, of the first frontier at which the line holds; none if there is none.
 unfoldable pub findFrom : ℕ → ℕ → List Frontier → Answer
 findFrom line i [] = absent
 findFrom line i (f ∷ fs) = cond (bit (f .values) line) (found i) (findFrom line (i + 1) fs)
 
-unfoldable pub find : ℕ → ℕ → List ℕ → List ℕ → Answer
-find w line s window =
-    cond (badRecordLength w (length s) || badWindowLength w (length window)) (refused 6 0)
-    (cond (badState w (roomOf w (length window)) s) (refused 34 0)
-    (cond (leb (lineTotal s) line) (refused 11 0)
+unfoldable pub findCall : ℕ → ℕ → List ℕ → List ℕ → Answer
+findCall w line s window =
+    cond (badRecordLength w (length s) || badWindowLength w (length window)) (turnedBack 6 0)
+    (cond (badState w (roomOf w (length window)) s) (turnedBack 34 0)
+    (cond (leb (lineTotal s) line) (turnedBack 11 0)
     (findFrom line 0 (frontiers w window (keptCount s)))))

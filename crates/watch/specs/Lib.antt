@@ -8,4 +8,4 @@ pub mod Offer
 pub mod Take
 pub mod Find
 pub mod Open
-
+pub mod Status

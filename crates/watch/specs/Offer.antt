@@ -10,7 +10,7 @@ use Rattle.clocks.specs.Counts.{at}
 use Rattle.clocks.specs.Refusal.{badMask, badClock, badLabels}
 use Rattle.watch.specs.Record.{processCount, pendingCount, takenCounts, pendingEvents, inserted}
 use Rattle.watch.specs.Refusals.{badRecordLength, badState, alreadyTaken, conflicting}
-use Rattle.watch.specs.Answer.{Answer, refused, held}
+use Rattle.watch.specs.Answer.{Answer, turnedBack, held}
 
 -- What a call that is lent the record answers and leaves there.
 pub record Offered : Type 0 where
@@ -26,10 +26,10 @@ placeAmong e (f ∷ fs) = cond (keyBefore (keyOf f) (keyOf e)) (suc (placeAmong 
 abbrev pub offeredEvent : ℕ → List ℕ → List ℕ → Event
 offeredEvent mask clock labels = record { mask = mask % 256; clock = clock; labels = labels }
 
-unfoldable pub offer : ℕ → ℕ → List ℕ → List ℕ → List ℕ → Offered
-offer w mask clock labels s =
+unfoldable pub offerCall : ℕ → ℕ → List ℕ → List ℕ → List ℕ → Offered
+offerCall w mask clock labels s =
     let e = offeredEvent mask clock labels in
-    let turned = λ (n : ℕ). record { answer = refused n 0; bytes = s } in
+    let turned : ℕ → Offered = λ n. record { answer = turnedBack n 0; bytes = s } in
     cond (badRecordLength w (length s)) (turned 6)
     (cond (badState w 1024 s) (turned 34)
     (cond (badMask (processCount s) mask) (turned 7)

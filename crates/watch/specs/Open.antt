@@ -9,13 +9,13 @@ use Rattle.window.specs.Start.{startFrontier}
 use Rattle.window.specs.Bytes.{windowBytes}
 use Rattle.rules.specs.Line.{linesAt}
 use Rattle.rules.specs.Table.{tableBytes}
-use Rattle.rules.specs.Reader.{Reading, readRule, formed}
+use Rattle.rules.specs.Reader.{Reading, readRule, formed, refused}
 use Rattle.clocks.specs.Refusal.{badStart}
 use Rattle.clocks.specs.CountsLaws.{filled}
 use Rattle.watch.specs.Take.{stateOf}
 use Rattle.watch.specs.Record.{eventLength}
 use Rattle.watch.specs.Refusals.{badRecordLength, badWindowLength, badProcesses}
-use Rattle.watch.specs.Answer.{Answer, refused}
+use Rattle.watch.specs.Answer.{Answer, turnedBack}
 
 -- What open answers and leaves in the two buffers that it is lent.
 pub record Opened : Type 0 where
@@ -33,20 +33,20 @@ firstRecord w k table =
 unfoldable pub openTable : ℕ → List Line → ℕ → List ℕ → ℕ → Opened
 openTable w table k labels windowLength =
     let fs = startFrontier 8 labels table ∷ [] in
-    record
-      { answer = stateOf (length table) (replicate 8 0) fs
-      ; bytes = firstRecord w k table
-      ; window = windowBytes w windowLength fs
-      }
+    record {
+      answer = stateOf (length table) (replicate 8 0) fs;
+      bytes = firstRecord w k table;
+      window = windowBytes w windowLength fs;
+    }
 
 -- What a text read to a form or a fault leads to.
 unfoldable pub openRead : ℕ → ℕ → List ℕ → List ℕ → List ℕ → Reading → Opened
 openRead w k labels s window (formed i f) = openTable w (linesAt 0 f) k labels (length window)
-openRead w k labels s window (refused n i) = record { answer = Answer.refused n i; bytes = s; window = window }
+openRead w k labels s window (refused n i) = record { answer = turnedBack n i; bytes = s; window = window }
 
-unfoldable pub open : ℕ → List ℕ → ℕ → List ℕ → List ℕ → List ℕ → Opened
-open w text k labels s window =
-    let turned = λ (n : ℕ). record { answer = Answer.refused n 0; bytes = s; window = window } in
+unfoldable pub openCall : ℕ → List ℕ → ℕ → List ℕ → List ℕ → List ℕ → Opened
+openCall w text k labels s window =
+    let turned : ℕ → Opened = λ n. record { answer = turnedBack n 0; bytes = s; window = window } in
     cond (badRecordLength w (length s) || badWindowLength w (length window)) (turned 6)
     (cond (badProcesses k) (turned 5)
     (cond (badStart k labels) (turned 9)

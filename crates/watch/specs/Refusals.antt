@@ -6,8 +6,7 @@ use lib.Dec.{leb, ltb, eqb}
 use Rattle.clocks.specs.declared.Event.{Event}
 use Rattle.window.specs.Bytes.{frontierLength}
 use Rattle.rules.specs.Table.{goodTable}
-use Rattle.rules.specs.Fault.{count}
-use Rattle.clocks.specs.Event.{Cut, involved}
+use Rattle.clocks.specs.Event.{count, Cut, involved}
 use Rattle.clocks.specs.Bounded.{anyBelow, anyOf}
 use Rattle.watch.specs.Record.{recordLength, processCount, lineTotal, pendingCount, keptCount, tableLines}
 

@@ -17,7 +17,7 @@ use Rattle.clocks.specs.Tested.{ready}
 use Rattle.clocks.specs.ValidTest.{validBy}
 use Rattle.watch.specs.Record.{processCount, lineTotal, keptCount, takenCounts, lastClocks, tableLines, pendingAt, pendingEvents, removed, counted}
 use Rattle.watch.specs.Refusals.{badRecordLength, badWindowLength, roomOf, badState}
-use Rattle.watch.specs.Answer.{Answer, refused, state, nothingReady}
+use Rattle.watch.specs.Answer.{Answer, turnedBack, state, nothingReady}
 
 -- What take answers and leaves in the three buffers that it is lent.
 pub record Taken : Type 0 where
@@ -28,14 +28,14 @@ pub record Taken : Type 0 where
 
 -- The setting of a step for an event, as the record's bytes have it; no process is closed.
 unfoldable pub settingIn : ℕ → List ℕ → Event → Setting
-settingIn w s e = record
-  { stored = 8
-  ; processes = processCount s
-  ; closed = 0
-  ; table = tableLines w s
-  ; event = e
-  ; reached = apply e (at (takenCounts w s))
-  }
+settingIn w s e = record {
+  stored = 8;
+  processes = processCount s;
+  closed = 0;
+  table = tableLines w s;
+  event = e;
+  reached = apply e (at (takenCounts w s));
+}
 
 -- The event is ready, its clock valid, by the record's bytes.
 unfoldable pub readyIn : ℕ → List ℕ → Event → Bool
@@ -66,17 +66,17 @@ stateOf lines counts fs = state counts (bit (getD (map (λ f. f .values) fs) (le
 
 -- What a decision leads to. The scratch is all 0 afterwards.
 unfoldable pub decided : ℕ → List ℕ → List ℕ → List Frontier → Decision → Taken
-decided w s window fs (undecided seen) = record { answer = cond seen (refused 36 0) nothingReady; bytes = s; window = window; scratch = replicate (length window) 0 }
-decided w s window fs (false-clock i) = record { answer = refused 35 0; bytes = removed w s i; window = window; scratch = replicate (length window) 0 }
+decided w s window fs (undecided seen) = record { answer = cond seen (turnedBack 36 0) nothingReady; bytes = s; window = window; scratch = replicate (length window) 0 }
+decided w s window fs (false-clock i) = record { answer = turnedBack 35 0; bytes = removed w s i; window = window; scratch = replicate (length window) 0 }
 decided w s window fs (takes i) =
     let e = pendingAt w s i in
     let gs = stepped (settingIn w s e) fs in
-    record
-      { answer = stateOf (lineTotal s) (listOf 8 (apply e (at (takenCounts w s)))) gs
-      ; bytes = counted w (removed w s i) e (length gs)
-      ; window = windowBytes w (length window) gs
-      ; scratch = replicate (length window) 0
-      }
+    record {
+      answer = stateOf (lineTotal s) (listOf 8 (apply e (at (takenCounts w s)))) gs;
+      bytes = counted w (removed w s i) e (length gs);
+      window = windowBytes w (length window) gs;
+      scratch = replicate (length window) 0;
+    }
 
 -- Take, where at most so many frontiers of the lent window may be used.
 unfoldable pub takeWithin : ℕ → ℕ → List ℕ → List ℕ → Taken
@@ -84,9 +84,9 @@ takeWithin w allowed s window =
     let fs = frontiers w window (keptCount s) in
     decided w s window fs (tried w s allowed fs 0 false (pendingEvents w s))
 
-unfoldable pub take : ℕ → List ℕ → List ℕ → List ℕ → Taken
-take w s window scratch =
-    let turned = λ (n : ℕ). record { answer = refused n 0; bytes = s; window = window; scratch = scratch } in
+unfoldable pub takeCall : ℕ → List ℕ → List ℕ → List ℕ → Taken
+takeCall w s window scratch =
+    let turned : ℕ → Taken = λ n. record { answer = turnedBack n 0; bytes = s; window = window; scratch = scratch } in
     cond (badRecordLength w (length s) || (badWindowLength w (length window) || not (eqb (length scratch) (length window)))) (turned 6)
     (cond (badState w (roomOf w (length window)) s) (turned 34)
     (takeWithin w (roomOf w (length window)) s window))

@@ -69,8 +69,7 @@ first-process n k f l w =
     (t, bit-trailing n (f .mask) t, z)
 
 module _ (W : World) (valid : List Event → Event → Type 0) (ts : List Event) (e : Event) (P : Proper W valid ts) (tk : Takeable (W .processes) valid ts e)
-  (opens : (p : ℕ) → involved e p ≡ true → T (openIn W p)) (S₀ : Cut) (c₀ : Consistent ts S₀) (r₀ : Ready e S₀) where
-
+    (opens : (p : ℕ) → involved e p ≡ true → T (openIn W p)) (S₀ : Cut) (c₀ : Consistent ts S₀) (r₀ : Ready e S₀) where
   abbrev us : List Event
   us = e ∷ ts
 
@@ -123,8 +122,7 @@ module _ (W : World) (valid : List Event → Event → Type 0) (ts : List Event)
 
   -- ---- the frontiers laid down: kept cuts, and all kept cuts before the new one
   module _ (laid : List Cut) (sorted : Sorted (W .stored) laid) (kept : (R : Cut) → List·Memᴰ R laid → KeptIn W us R)
-    (has : (R : Cut) → KeptIn W us R → T (before (listOf (W .stored) R) (listOf (W .stored) S)) → List·Memᴰ R laid) where
-
+      (has : (R : Cut) → KeptIn W us R → T (before (listOf (W .stored) R) (listOf (W .stored) S)) → List·Memᴰ R laid) where
     abbrev frontiersLaid : List Frontier
     frontiersLaid = map (frontierOf W us) laid
 
@@ -157,7 +155,7 @@ module _ (W : World) (valid : List Event → Event → Type 0) (ts : List Event)
     from-leads S′ (inr w) =
         let p = w .0 in
         let same : S′ ≡ minus (maskOf us p (S p)) S =
-            listOf-injective (W .stored) S′ (minus (maskOf us p (S p)) S) (silent S′ (kept S′ (w .3) .consistent)) (minus-silent p) (sym (w .4) ∙ without-is p (w .1)) in
+        listOf-injective (W .stored) S′ (minus (maskOf us p (S p)) S) (silent S′ (kept S′ (w .3) .consistent)) (minus-silent p) (sym (w .4) ∙ without-is p (w .1)) in
         rw same (mask-precedes us causal S new-cut p (counted p (w .1) (w .2)) .1 (rw same at (kept S′ (w .3) .consistent)))
 
     -- ---- and nothing else precedes
@@ -202,8 +200,13 @@ module _ (W : World) (valid : List Event → Event → Type 0) (ts : List Event)
 
         new : Advanced ts e S′ → (involved e first ≡ true) ⊎ (involved e first ≡ false) → From (W .stored) S′
         new a (inl b) = inl (own b)
-        new a (inr b) = inr (first, lowest .0, seen b, standing a,
-            without-is first (lowest .0) ∙ ap (λ (x : ℕ). listOf (W .stored) (minus x S)) (mask-some us first (S first) f (last .0)) ∙ ap (listOf (W .stored)) (sym (less-minus f S) ∙ sym (last .1)))
+        new a (inr b) = inr (
+          first,
+          lowest .0,
+          seen b,
+          standing a,
+          without-is first (lowest .0) ∙ ap (λ (x : ℕ). listOf (W .stored) (minus x S)) (mask-some us first (S first) f (last .0)) ∙ ap (listOf (W .stored)) (sym (less-minus f S) ∙ sym (last .1)),
+        )
 
     -- ---- what is gathered, bit by bit
     value-bit : (R : Cut) (i : ℕ) → i < length (W .table) → bit (frontierOf W us R .values) i ≡ lineTruth M (W .table) i R
@@ -246,10 +249,10 @@ module _ (W : World) (valid : List Event → Event → Type 0) (ts : List Event)
       unfolding gathered
       right-start i l =
           let v : bit (g .values) i ≡ lineTruth M (W .table) i S₀ = ap (λ (x : ℕ). bit x i) origin-values ∙ value-bit S₀ i l in
-          record
-            { some-has = ((λ t. (S₀, inl refl, subst T v t)), λ w. subst⁻¹ T v (only w))
-            ; all-have = ((λ t S′ w. subst T (v ∙ ap (lineTruth M (W .table) i) (sym (origin S′ w))) t), λ h. subst⁻¹ T v (h S₀ (inl refl)))
-            }
+          record {
+            some-has = ((λ t. (S₀, inl refl, subst T v t)), λ w. subst⁻¹ T v (only w));
+            all-have = ((λ t S′ w. subst T (v ∙ ap (lineTruth M (W .table) i) (sym (origin S′ w))) t), λ h. subst⁻¹ T v (h S₀ (inl refl)));
+          }
         where
           origin : (S′ : Cut) → From 0 S′ → S′ ≡ S₀
           origin S′ (inl q) = q
@@ -260,12 +263,16 @@ module _ (W : World) (valid : List Event → Event → Type 0) (ts : List Event)
 
       -- where the process adds no cut
       right-same : (p i : ℕ) → G (suc p) .ors ≡ G p .ors → G (suc p) .ands ≡ G p .ands → ((S′ : Cut) → From (suc p) S′ → From p S′) → Right p i → Right (suc p) i
-      right-same p i o a f r = record
-        { some-has = ((λ t. let w = r .some-has .0 (subst (λ (x : ℕ). T (bit x i)) o t) in (w .0, from-more p (w .0) (w .1), w .2))
-            , λ w. subst⁻¹ (λ (x : ℕ). T (bit x i)) o (r .some-has .1 (w .0, f (w .0) (w .1), w .2)))
-        ; all-have = ((λ t S′ w. r .all-have .0 (subst (λ (x : ℕ). T (bit x i)) a t) S′ (f S′ w))
-            , λ h. subst⁻¹ (λ (x : ℕ). T (bit x i)) a (r .all-have .1 (λ S′ w. h S′ (from-more p S′ w))))
-        }
+      right-same p i o a f r = record {
+        some-has = (
+          (λ t. let w = r .some-has .0 (subst (λ (x : ℕ). T (bit x i)) o t) in (w .0, from-more p (w .0) (w .1), w .2)),
+          λ w. subst⁻¹ (λ (x : ℕ). T (bit x i)) o (r .some-has .1 (w .0, f (w .0) (w .1), w .2)),
+        );
+        all-have = (
+          (λ t S′ w. r .all-have .0 (subst (λ (x : ℕ). T (bit x i)) a t) S′ (f S′ w)),
+          λ h. subst⁻¹ (λ (x : ℕ). T (bit x i)) a (r .all-have .1 (λ S′ w. h S′ (from-more p S′ w))),
+        );
+      }
 
       -- where it adds the cut R
       right-added : (p i : ℕ) (R : Cut) (v : ℕ) → G (suc p) .ors ≡ bitOr (G p .ors) v → G (suc p) .ands ≡ bitAnd (G p .ands) v → bit v i ≡ lineTruth M (W .table) i R
@@ -332,13 +339,17 @@ module _ (W : World) (valid : List Event → Event → Type 0) (ts : List Event)
       right (suc p) i l = right-more p i l (right p i l)
 
       preceding : Preceding M (W .table) S (G (W .stored) .ors) (G (W .stored) .ands) true
-      preceding = record
-        { some-has = λ i l. ((λ t. let w = right (W .stored) i l .some-has .0 t in (w .0, from-leads (w .0) (w .1), w .2))
-            , λ w. right (W .stored) i l .some-has .1 (w .0, leads-from (w .0) (w .1), w .2))
-        ; all-have = λ _ i l. ((λ t S′ k. right (W .stored) i l .all-have .0 t S′ (leads-from S′ k))
-            , λ h. right (W .stored) i l .all-have .1 (λ S′ w. h S′ (from-leads S′ w)))
-        ; some-precedes = ((λ t. (S₀, origin-precedes e ts S₀ c₀ r₀)), λ w. tt)
-        }
+      preceding = record {
+        some-has = λ i l. (
+          (λ t. let w = right (W .stored) i l .some-has .0 t in (w .0, from-leads (w .0) (w .1), w .2)),
+          λ w. right (W .stored) i l .some-has .1 (w .0, leads-from (w .0) (w .1), w .2),
+        );
+        all-have = λ _ i l. (
+          (λ t S′ k. right (W .stored) i l .all-have .0 t S′ (leads-from S′ k)),
+          λ h. right (W .stored) i l .all-have .1 (λ S′ w. h S′ (from-leads S′ w)),
+        );
+        some-precedes = ((λ t. (S₀, origin-precedes e ts S₀ c₀ r₀)), λ w. tt);
+      }
 
       labels-at : LabelsAt M S (g .labels)
       labels-at p l = ap (λ (xs : List ℕ). getD xs p 0) (advanced-labels W ts e (tk .ready) S₀ c₀ r₀)

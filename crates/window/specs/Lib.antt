@@ -7,7 +7,6 @@ pub mod Seek
 pub mod Step
 pub mod Start
 pub mod Represents
-
 -- What is proved of order, look-up and bytes
 pub mod ListLaws
 pub mod Lists
@@ -20,7 +19,6 @@ pub mod Shaped
 pub mod BytesLaws
 pub mod WindowLaws
 pub mod StoreLaws
-
 -- What is proved of the step
 pub mod MergeLaws
 pub mod FrontierLaws

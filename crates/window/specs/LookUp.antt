@@ -46,9 +46,12 @@ module _ (W : World) (us : List Event) (laid : List Cut) (s : Sorted (W .stored)
       → (R : Cut) × List·Memᴰ R laid × (key ≡ listOf (W .stored) R) × (valuesAt (map (frontierOf W us) laid) place ≡ frontierOf W us R .values)
   found-e key place t =
       let w = standsAt-e keys key place t in
-      let l : place < length laid = omega (arith, w .0, many) in
-      (getD laid place zeros, place-member laid place zeros l, sym (w .1) ∙ key-at place l,
-      ap (λ (vs : List ℕ). getD vs place 0) (map-map (λ (f : Frontier). f .values) (frontierOf W us) laid) ∙ getD-mapped (λ (S : Cut). frontierOf W us S .values) laid place zeros 0 l)
+      let l : place < length laid = omega (arith, w .0, many) in (
+        getD laid place zeros,
+        place-member laid place zeros l,
+        sym (w .1) ∙ key-at place l,
+        ap (λ (vs : List ℕ). getD vs place 0) (map-map (λ (f : Frontier). f .values) (frontierOf W us) laid) ∙ getD-mapped (λ (S : Cut). frontierOf W us S .values) laid place zeros 0 l,
+      )
 
   pub found-i : (R : Cut) → List·Memᴰ R laid → (hint : ℕ) → T (standsAt keys (listOf (W .stored) R) (seek keys (listOf (W .stored) R) hint))
   found-i R m hint =

@@ -49,12 +49,12 @@ wordOf (suc i) t = withBit (wordOf i t) i (t i)
 
 -- The frontier of a cut.
 unfoldable pub frontierOf : World → List Event → Cut → Frontier
-frontierOf W ts S = record
-  { counts = listOf (W .stored) S
-  ; labels = listOf (W .stored) (λ p. labelOf (W .start) ts p (S p))
-  ; masks = listOf (W .stored) (λ p. maskOf ts p (S p))
-  ; values = wordOf (length (W .table)) (λ i. lineTruth (modelOf W ts) (W .table) i S)
-  }
+frontierOf W ts S = record {
+  counts = listOf (W .stored) S;
+  labels = listOf (W .stored) (λ p. labelOf (W .start) ts p (S p));
+  masks = listOf (W .stored) (λ p. maskOf ts p (S p));
+  values = wordOf (length (W .table)) (λ i. lineTruth (modelOf W ts) (W .table) i S);
+}
 
 -- Elements in strictly ascending order of their keys, so each once.
 abbrev pub SortedBy : {A : Type 0} → (A → List ℕ) → List A → Type 0
@@ -75,14 +75,14 @@ pub record Represents (W : World) (ts : List Event) (fs : List Frontier) : Type 
 
 -- The setting of a step for an event after a history.
 abbrev pub settingOf : World → List Event → Event → Setting
-settingOf W ts e = record
-  { stored = W .stored
-  ; processes = W .processes
-  ; closed = W .closed
-  ; table = W .table
-  ; event = e
-  ; reached = taken (e ∷ ts)
-  }
+settingOf W ts e = record {
+  stored = W .stored;
+  processes = W .processes;
+  closed = W .closed;
+  table = W .table;
+  event = e;
+  reached = taken (e ∷ ts);
+}
 
 -- What is asked of a world and a history under a rule for valid clocks.
 pub record Proper (W : World) (valid : List Event → Event → Type 0) (ts : List Event) : Type 0 where

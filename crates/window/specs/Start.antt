@@ -8,9 +8,9 @@ use Rattle.rules.specs.Judge.{judge}
 use Rattle.window.specs.declared.Frontier.{Frontier}
 
 unfoldable pub startFrontier : ℕ → List ℕ → List Line → Frontier
-startFrontier stored labels table = record
-  { counts = replicate stored 0
-  ; labels = labels
-  ; masks = replicate stored 0
-  ; values = judge labels 0 0 false table
-  }
+startFrontier stored labels table = record {
+  counts = replicate stored 0;
+  labels = labels;
+  masks = replicate stored 0;
+  values = judge labels 0 0 false table;
+}

@@ -47,27 +47,27 @@ module _ (W : World) (valid : List Event → Event → Type 0) (P : Proper W val
   unfolding labelOf event
   zeros-right i l = judged-right M valid (record { rule = P .rule; by-rule = P .by-rule }) (W .table) (P .good) zeros (zeros-consistent [])
       (listOf (W .stored) (W .start)) (λ p k. getD-listOf (W .stored) (W .start) p 0 (omega (arith, P .room))) 0 0 false
-      (record
-        { some-has = λ j k. ((λ t. absurd (subst T (bit-zero j) t)), λ w. absurd (alone zeros (w .0) (w .1)))
-        ; all-have = λ t j k. absurd t
-        ; some-precedes = ((λ t. absurd t), λ w. alone zeros (w .0) (w .1))
-        })
+      (record {
+        some-has = λ j k. ((λ t. absurd (subst T (bit-zero j) t)), λ w. absurd (alone zeros (w .0) (w .1)));
+        all-have = λ t j k. absurd t;
+        some-precedes = ((λ t. absurd t), λ w. alone zeros (w .0) (w .1));
+      })
       i l
 
   start-is : startFrontier (W .stored) (listOf (W .stored) (W .start)) (W .table) ≡ frontierOf W [] zeros
   unfolding startFrontier frontierOf labelOf maskOf event
   start-is =
       let v : judge (listOf (W .stored) (W .start)) 0 0 false (W .table) ≡ wordOf (length (W .table)) (λ i. lineTruth M (W .table) i zeros) =
-          word-is (length (W .table)) (λ i. lineTruth M (W .table) i zeros) (judge (listOf (W .stored) (W .start)) 0 0 false (W .table)) zeros-right
-          (λ i l. judge-above (listOf (W .stored) (W .start)) 0 0 false (W .table) i l) in
+      word-is (length (W .table)) (λ i. lineTruth M (W .table) i zeros) (judge (listOf (W .stored) (W .start)) 0 0 false (W .table)) zeros-right
+      (λ i l. judge-above (listOf (W .stored) (W .start)) 0 0 false (W .table) i l) in
       rw (v, ← listOf-zeros (W .stored) zeros (λ p. refl))
 
   -- ---- Theorem
   pub start-represents : Represents W [] (startFrontier (W .stored) (listOf (W .stored) (W .start)) (W .table) ∷ [])
-  start-represents = record
-    { cuts = zeros ∷ []
-    ; are = ap (λ (f : Frontier). f ∷ []) start-is
-    ; sorted = ((λ R m. absurd (List·Memᴰ·not-nil m)), tt)
-    ; kept = λ S m. rw (List·Memᴰ·eq-of-singleton m) (record { consistent = zeros-consistent []; kept = inr (unfold taken in refl) })
-    ; complete = λ S k. List·Memᴰ·head (only-zeros S (k .consistent))
-    }
+  start-represents = record {
+    cuts = zeros ∷ [];
+    are = ap (λ (f : Frontier). f ∷ []) start-is;
+    sorted = ((λ R m. absurd (List·Memᴰ·not-nil m)), tt);
+    kept = λ S m. rw (List·Memᴰ·eq-of-singleton m) (record { consistent = zeros-consistent []; kept = inr (unfold taken in refl) });
+    complete = λ S k. List·Memᴰ·head (only-zeros S (k .consistent));
+  }

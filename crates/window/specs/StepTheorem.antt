@@ -40,8 +40,7 @@ use Rattle.window.specs.Lists.{filtered-e, filtered-i, filtered-map, map
 
 -- ---- the tests on frontiers say what they should of the cuts
 module _ (W : World) (valid : List Event → Event → Type 0) (ts : List Event) (e : Event) (P : Proper W valid ts) (tk : Takeable (W .processes) valid ts e)
-  (opens : (p : ℕ) → involved e p ≡ true → T (openIn W p)) where
-
+    (opens : (p : ℕ) → involved e p ≡ true → T (openIn W p)) where
   abbrev us : List Event
   us = e ∷ ts
 
@@ -79,11 +78,11 @@ module _ (W : World) (valid : List Event → Event → Type 0) (ts : List Event)
   old-silent S c p l = consistent-silent (W .processes) valid ts (P .by-rule) S c p (omega (arith, P .room))
 
   formed : WellFormed n e
-  formed = record
-    { occupied = tk .formed .occupied
-    ; below = λ p l. tk .formed .below p (omega (arith, P .room))
-    ; silent = λ p l. tk .formed .silent p (omega (arith, P .room))
-    }
+  formed = record {
+    occupied = tk .formed .occupied;
+    below = λ p l. tk .formed .below p (omega (arith, P .room));
+    silent = λ p l. tk .formed .silent p (omega (arith, P .room));
+  }
 
   enabled-test : (S : Cut) → Consistent ts S → T (enabledAt s (frontierOf W ts S)) ↔ Ready e S
   unfolding enabledAt frontierOf
@@ -111,7 +110,7 @@ module _ (W : World) (valid : List Event → Event → Type 0) (ts : List Event)
       there : T (anyBelow (W .processes) open-one || allBelow n same-one) → Kept (W .processes) (openIn W) us S
       there t = ⊎-elim
           (λ a. let w = any-e (W .processes) open-one a in
-              inl (w .0, w .1, and-l (openIn W (w .0)) (eqb (S (w .0)) (taken us (w .0))) (w .2), eqb→eq (S (w .0)) (taken us (w .0)) (and-r (openIn W (w .0)) (eqb (S (w .0)) (taken us (w .0))) (w .2))))
+          inl (w .0, w .1, and-l (openIn W (w .0)) (eqb (S (w .0)) (taken us (w .0))) (w .2), eqb→eq (S (w .0)) (taken us (w .0)) (and-r (openIn W (w .0)) (eqb (S (w .0)) (taken us (w .0))) (w .2))))
           (λ a. inr (fun-ext (λ p. largest a p (decLt p n))))
           (or-e (anyBelow (W .processes) open-one) (allBelow n same-one) t)
 
@@ -191,9 +190,9 @@ module _ (W : World) (valid : List Event → Event → Type 0) (ts : List Event)
       let g : Frontier = advanced s (frontierOf W ts S) in
       let G : Gathered = gathered s (map F done) hints g n in
       let j : judgedBy s g G ≡ F C = judged-new W valid ts e P tk opens S (h .0 .consistent) (h .1) done
-          (sorted-front (listOf n) done (C ∷ map cutOf todo) (w .sorted))
-          (λ R m. w .kept R (Memᴰ·append-left (C ∷ map cutOf todo) m))
-          (before-done done C (map cutOf todo) w) hints in
+      (sorted-front (listOf n) done (C ∷ map cutOf todo) (w .sorted))
+      (λ R m. w .kept R (Memᴰ·append-left (C ∷ map cutOf todo) m))
+      (before-done done C (map cutOf todo) w) hints in
       let q : map F done ++ (judgedBy s g G ∷ []) ≡ map F (done ++ (C ∷ [])) = map-push done (judgedBy s g G) C j in
       rw q (lay-right todo (done ++ (C ∷ [])) (G .hints) (λ x m. sound x (List·Memᴰ·tail m)) (whole-next done C (map cutOf todo) w))
       ∙ ap (map F) (append-snoc done C (map cutOf todo))
@@ -226,8 +225,8 @@ module _ (W : World) (valid : List Event → Event → Type 0) (ts : List Event)
     slots-are =
         ap (slots s) (R .are)
         ∙ ap₂ (merge slotCounts)
-            (ap (map staying) (filtered-map F₀ (stays s) staysCut (R .cuts) (λ S m. refl)) ∙ map-map staying F₀ A ∙ sym (map-map slotOf stayed A))
-            (ap (map (λ f. fresh (advanced s f))) (filtered-map F₀ (enabledAt s) growsCut (R .cuts) (λ S m. refl)) ∙ map-map (λ f. fresh (advanced s f)) F₀ B ∙ sym (map-map slotOf grown B))
+        (ap (map staying) (filtered-map F₀ (stays s) staysCut (R .cuts) (λ S m. refl)) ∙ map-map staying F₀ A ∙ sym (map-map slotOf stayed A))
+        (ap (map (λ f. fresh (advanced s f))) (filtered-map F₀ (enabledAt s) growsCut (R .cuts) (λ S m. refl)) ∙ map-map (λ f. fresh (advanced s f)) F₀ B ∙ sym (map-map slotOf grown B))
         ∙ merge-map slotOf slotCounts (map stayed A) (map grown B)
 
     in-A : (S : Cut) → List·Memᴰ S A → Sound (stayed S)
@@ -297,9 +296,9 @@ module _ (W : World) (valid : List Event → Event → Type 0) (ts : List Event)
     unfolding todo A B staysCut growsCut
     todo-has C k = ⊎-elim
         (λ w. mapped-i cutOf todo (stayed C) (merge-i key (map stayed A) (map grown B) (stayed C) (inl (mapped-i stayed A C
-            (filtered-i staysCut (R .cuts) C (R .complete C (w .0)) (stays-test C (w .0 .consistent) .1 (w .1)))))))
+        (filtered-i staysCut (R .cuts) C (R .complete C (w .0)) (stays-test C (w .0 .consistent) .1 (w .1)))))))
         (λ w. rw (w .3) (mapped-i cutOf todo (grown (w .0)) (merge-i key (map stayed A) (map grown B) (grown (w .0)) (inr (mapped-i grown B (w .0)
-            (filtered-i growsCut (R .cuts) (w .0) (R .complete (w .0) (w .1)) (enabled-test (w .0) (w .1 .consistent) .1 (w .2))))))))
+        (filtered-i growsCut (R .cuts) (w .0) (R .complete (w .0) (w .1)) (enabled-test (w .0) (w .1 .consistent) .1 (w .2))))))))
         (kept-step (W .processes) (openIn W) e ts follows in-open (causal .1) C .0 k)
 
     cuts-sorted : Sorted n (map cutOf todo)
@@ -308,10 +307,10 @@ module _ (W : World) (valid : List Event → Event → Type 0) (ts : List Event)
     -- ---- Theorem
     pub step-represents : Represents W us (stepped s fs)
     unfolding stepped
-    step-represents = record
-      { cuts = map cutOf todo
-      ; are = ap (lay s [] (replicate n 0)) slots-are ∙ lay-right todo [] (replicate n 0) sound (record { sorted = cuts-sorted; kept = todo-kept; has = todo-has })
-      ; sorted = cuts-sorted
-      ; kept = todo-kept
-      ; complete = todo-has
-      }
+    step-represents = record {
+      cuts = map cutOf todo;
+      are = ap (lay s [] (replicate n 0)) slots-are ∙ lay-right todo [] (replicate n 0) sound (record { sorted = cuts-sorted; kept = todo-kept; has = todo-has });
+      sorted = cuts-sorted;
+      kept = todo-kept;
+      complete = todo-has;
+    }
