@@ -4,7 +4,7 @@ use native.Mathlib.Omega.{arith}
 use native.Mathlib.Decide.{decLt}
 use mathlib.Core.Path.{_≡_, refl, sym, _∙_}
 use mathlib.Core.Bool.{true, false}
-use mathlib.Core.List.{List, [], _∷_, List·Memᴰ·head, List·Memᴰ·tail}
+use mathlib.Core.List.{List, [], _∷_, List·Memᴰ·head, List·Memᴰ·tail, _++_}
 use mathlib.Core.Logic.{_⊎_, inl, inr, ⊎-elim}
 use mathlib.Core.Option.{none, some}
 use lib.Dec.{eqb}
@@ -26,6 +26,10 @@ taken-other e ts p b = rw b (omega arith)
 pub taken-up : (e : Event) (ts : List Event) (p : ℕ) → taken ts p ≤ taken (e ∷ ts) p
 unfolding taken
 taken-up e ts p = omega arith
+
+pub taken-later : (us ts : List Event) (p : ℕ) → taken ts p ≤ taken (us ++ ts) p
+taken-later [] ts p = omega arith
+taken-later (e ∷ us) ts p = omega (arith, taken-later us ts p, taken-up e (us ++ ts) p)
 
 pub taken-step : (e : Event) (ts : List Event) (p : ℕ) → taken (e ∷ ts) p ≤ suc (taken ts p)
 taken-step e ts p = ⊎-elim (λ b. omega (arith, taken-next e ts p b)) (λ b. omega (arith, taken-other e ts p b)) (either (involved e p))

@@ -9,3 +9,5 @@ pub mod Take
 pub mod Find
 pub mod Open
 pub mod Status
+pub mod Ledger
+pub mod Delivery
