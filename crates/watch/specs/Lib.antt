@@ -11,3 +11,7 @@ pub mod Open
 pub mod Status
 pub mod Ledger
 pub mod Delivery
+pub mod Run
+pub mod Stub
+pub mod Watching
+pub mod WatchingLaws

@@ -48,7 +48,7 @@ validIn w s e = validBy 8 e (rows (lastClocks w s))
 pub data Decision : Type 0 where
   undecided : Bool → Decision
   false-clock : ℕ → Decision
-  takes : ℕ → Decision
+  chosen : ℕ → Decision
 
 -- The pending events from number i on are tried, where `seen` says that one before was ready; `allowed` frontiers fit.
 unfoldable pub tried : ℕ → List ℕ → ℕ → List Frontier → ℕ → Bool → List Event → Decision
@@ -56,7 +56,7 @@ tried w s allowed fs i seen [] = undecided seen
 tried w s allowed fs i seen (e ∷ es) =
     cond (readyIn w s e)
     (cond (validIn w s e)
-    (cond (fits (settingIn w s e) allowed fs) (takes i) (tried w s allowed fs (i + 1) true es))
+    (cond (fits (settingIn w s e) allowed fs) (chosen i) (tried w s allowed fs (i + 1) true es))
     (false-clock i))
     (tried w s allowed fs (i + 1) seen es)
 
@@ -68,7 +68,7 @@ stateOf lines counts fs = state counts (bit (getD (map (λ f. f .values) fs) (le
 unfoldable pub decided : ℕ → List ℕ → List ℕ → List Frontier → Decision → Taken
 decided w s window fs (undecided seen) = record { answer = cond seen (turnedBack 36 0) nothingReady; bytes = s; window = window; scratch = replicate (length window) 0 }
 decided w s window fs (false-clock i) = record { answer = turnedBack 35 0; bytes = removed w s i; window = window; scratch = replicate (length window) 0 }
-decided w s window fs (takes i) =
+decided w s window fs (chosen i) =
     let e = pendingAt w s i in
     let gs = stepped (settingIn w s e) fs in
     record {

@@ -37,7 +37,7 @@ module _ (W : World) (valid : List Event → Event → Type 0) (ts : List Event)
   none-behind : (S : Cut) → Consistent ts S → T (before (listOf (W .stored) (taken ts)) (listOf (W .stored) S)) → ⊥
   none-behind S c t = before-above (W .stored) S (taken ts) (c .within) t
 
-  some-frontier : 0 < length fs
+  pub some-frontier : 0 < length fs
   some-frontier = go (R .cuts) (R .complete (taken ts) largest-kept) (R .are)
     where
       go : (Ss : List Cut) → List·Memᴰ (taken ts) Ss → fs ≡ map (frontierOf W ts) Ss → 0 < length fs

@@ -1,0 +1,109 @@
+-- Lists of calls after an accepted open (01, The calls: demand 3): each gets the record and the window as the call before left them.
+use Prim.Native.Nat.{ℕ, _^_, _<_}
+use mathlib.Core.Path.{_≡_}
+use mathlib.Core.Bool.{false, not, cond, _||_}
+use mathlib.Core.List.{List, [], _∷_, _++_}
+use lib.Dec.{eqb}
+use lib.ListN.{length, replicate}
+use Rattle.clocks.specs.declared.Event.{Event}
+use Rattle.window.specs.Bytes.{frontiers}
+use Rattle.rules.specs.Line.{line}
+use Rattle.clocks.specs.Counts.{at}
+use Rattle.clocks.specs.Lattice.{zeros}
+use Rattle.watch.specs.Find.{findCall}
+use Rattle.watch.specs.Take.{Decision, tried, takeCall, undecided, false-clock, chosen}
+use Rattle.watch.specs.Record.{keptCount, pendingAt, pendingEvents}
+use Rattle.watch.specs.Refusals.{badRecordLength, badWindowLength, roomOf, badState}
+use Rattle.watch.specs.Open.{Opened}
+use Rattle.watch.specs.Answer.{Answer, turnedBack, state, nothingReady, held, found, absent}
+use Rattle.watch.specs.Offer.{placeAmong, offeredEvent, offerCall}
+use Rattle.watch.specs.Ledger.{Ledger}
+use Rattle.watch.specs.Status.{insertAt, removeAt}
+
+-- A call: an offer of an event by its mask, clock and labels; a take, lent the window with so many zeros appended, and a scratch of any
+-- length and content; a find of a line.
+pub data Call : Type 0 where
+  offers : ℕ → List ℕ → List ℕ → Call
+  takes : ℕ → List ℕ → Call
+  finds : ℕ → Call
+
+-- The arguments are such as the machine passes: a mask of 64 bits, eight counts of w bytes, eight label bytes.
+abbrev pub Passed : ℕ → Call → Type 0
+Passed w (offers mask clock labels) =
+    (mask < 2 ^ 64) × (length clock ≡ 8) × ((p : ℕ) → at clock p < 256 ^ w) × (length labels ≡ 8) × ((p : ℕ) → at labels p < 256)
+Passed w (takes zeros scratch) = Unit {0}
+Passed w (finds line) = Unit {0}
+
+-- A watch between two calls: record and window, the ledger of the events that its calls accepted, and the verdicts reported so far, each
+-- with the counts that it was reported for, newest first.
+pub record Watch : Type 0 where
+  pub bytes : List ℕ
+  pub window : List ℕ
+  pub ledger : Ledger
+  pub accepted : List Event
+  pub answers : List Answer
+
+-- ---- What a call does
+
+-- The decision that a take comes to; none where it is turned back.
+unfoldable pub decisionOf : ℕ → List ℕ → List ℕ → List ℕ → Decision
+decisionOf w s window scratch =
+    cond (badRecordLength w (length s) || (badWindowLength w (length window) || not (eqb (length scratch) (length window)))) (undecided false)
+    (cond (badState w (roomOf w (length window)) s) (undecided false)
+    (let fs = frontiers w window (keptCount s) in tried w s (roomOf w (length window)) fs 0 false (pendingEvents w s)))
+
+-- The ledger after a take's decision.
+unfoldable pub ledgerAfter : ℕ → List ℕ → Ledger → Decision → Ledger
+ledgerAfter w s L (undecided seen) = L
+ledgerAfter w s L (false-clock i) = record { history = L .history; pending = removeAt i (L .pending); falsified = pendingAt w s i ∷ L .falsified }
+ledgerAfter w s L (chosen i) = record { history = pendingAt w s i ∷ L .history; pending = removeAt i (L .pending); falsified = L .falsified }
+
+-- The ledger and the accepted events after an offer's answer.
+unfoldable pub offeredLedger : ℕ → List ℕ → Event → Ledger → Answer → Ledger
+offeredLedger w s e L (held n) = record { history = L .history; pending = insertAt (placeAmong e (pendingEvents w s)) e (L .pending); falsified = L .falsified }
+offeredLedger w s e L (turnedBack n i) = L
+offeredLedger w s e L (state c t k) = L
+offeredLedger w s e L nothingReady = L
+offeredLedger w s e L (found i) = L
+offeredLedger w s e L absent = L
+
+unfoldable pub acceptedBy : Event → List Event → Answer → List Event
+acceptedBy e es (held n) = e ∷ es
+acceptedBy e es (turnedBack n i) = es
+acceptedBy e es (state c t k) = es
+acceptedBy e es nothingReady = es
+acceptedBy e es (found i) = es
+acceptedBy e es absent = es
+
+unfoldable pub after : ℕ → Call → Watch → Watch
+after w (offers mask clock labels) W =
+    let r = offerCall w mask clock labels (W .bytes) in
+    let e = offeredEvent mask clock labels in
+    record
+      { bytes = r .bytes
+      ; window = W .window
+      ; ledger = offeredLedger w (W .bytes) e (W .ledger) (r .answer)
+      ; accepted = acceptedBy e (W .accepted) (r .answer)
+      ; answers = r .answer ∷ W .answers
+      }
+after w (takes zeros scratch) W =
+    let lent = W .window ++ replicate zeros 0 in
+    let r = takeCall w (W .bytes) lent scratch in
+    record
+      { bytes = r .bytes
+      ; window = r .window
+      ; ledger = ledgerAfter w (W .bytes) (W .ledger) (decisionOf w (W .bytes) lent scratch)
+      ; accepted = W .accepted
+      ; answers = r .answer ∷ W .answers
+      }
+after w (finds line) W =
+    record { bytes = W .bytes; window = W .window; ledger = W .ledger; accepted = W .accepted; answers = findCall w line (W .bytes) (W .window) ∷ W .answers }
+
+-- The calls of a list, one after the other.
+unfoldable pub run : ℕ → List Call → Watch → Watch
+run w [] W = W
+run w (c ∷ cs) W = run w cs (after w c W)
+
+-- The watch that an open left.
+abbrev pub opened : Opened → Watch
+opened o = record { bytes = o .bytes; window = o .window; ledger = record { history = []; pending = []; falsified = [] }; accepted = []; answers = o .answer ∷ [] }
