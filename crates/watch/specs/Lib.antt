@@ -15,3 +15,6 @@ pub mod Run
 pub mod Stub
 pub mod Watching
 pub mod WatchingLaws
+pub mod PendingOrder
+pub mod OfferLaws
+pub mod TakeLaws

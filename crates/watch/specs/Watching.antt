@@ -18,7 +18,7 @@ use Rattle.codec.specs.LittleLaws.{pow-256-pos}
 use Rattle.window.specs.Represents.{World, Represents, Proper, modelOf, frontierOf}
 use Rattle.window.specs.Bytes.{frontierLength, windowBytes}
 use Rattle.rules.specs.Table.{tableBytes, goodTable}
-use Rattle.clocks.specs.Event.{count, Cut}
+use Rattle.clocks.specs.Event.{count, Cut, involved}
 use Rattle.clocks.specs.History.{taken, clockOf, lastClock, Causal, event, ofEvent, maskOf, labelOf, Consistent, In}
 use Rattle.clocks.specs.ClockRule.{history-causal}
 use Rattle.clocks.specs.Key.{keyOf, keyBefore}
@@ -62,6 +62,15 @@ abbrev pub Ordered : List Event → Type 0
 Ordered [] = Unit {0}
 Ordered (e ∷ es) = ((f : Event) → List·Memᴰ f es → T (keyBefore (keyOf e) (keyOf f))) × Ordered es
 
+-- Two events have no count at a common process in common.
+abbrev pub NoClash : Event → Event → Type 0
+NoClash e f = (p : ℕ) → involved e p ≡ true → involved f p ≡ true → count e p ≡ count f p → ⊥
+
+-- No two pending events have (01, Turned back: 32).
+abbrev pub Clear : List Event → Type 0
+Clear [] = Unit {0}
+Clear (e ∷ es) = ((f : Event) → List·Memᴰ f es → NoClash e f) × Clear es
+
 pub record Watching (w k : ℕ) (table : List Line) (start : Cut) (L : Ledger) (bytes window : List ℕ) : Type 0 where
   pub kept : List Frontier
   pub bytes-are : bytes ≡ recordBytes w (statusOf k table (length kept) L)
@@ -71,6 +80,7 @@ pub record Watching (w k : ℕ) (table : List Line) (start : Cut) (L : Ledger) (
   pub represents : Represents (worldOf k table start) (L .history) kept
   pub right : Kept-right k (Joined 8) L
   pub ordered : Ordered (L .pending)
+  pub clear : Clear (L .pending)
   pub faultless : (e : Event) → List·Memᴰ e (L .pending) → Faultless k e
   pub storable : (e : Event) → List·Memᴰ e (L .history) ⊎ List·Memᴰ e (L .pending) → Storable w e
   pub many : length (L .pending) ≤ 32
