@@ -17,4 +17,6 @@ pub mod Watching
 pub mod WatchingLaws
 pub mod PendingOrder
 pub mod OfferLaws
+pub mod Deciding
 pub mod TakeLaws
+pub mod AfterCall
