@@ -20,3 +20,4 @@ pub mod OfferLaws
 pub mod Deciding
 pub mod TakeLaws
 pub mod AfterCall
+pub mod OpenLaws
