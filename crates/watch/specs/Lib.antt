@@ -9,3 +9,6 @@ pub mod Take
 pub mod Find
 pub mod Open
 pub mod Status
+
+-- What is proved of it
+pub mod InsertLaws
