@@ -12,3 +12,6 @@ pub mod Status
 
 -- What is proved of it
 pub mod InsertLaws
+pub mod PlaceLaws
+pub mod BlockLaws
+pub mod StoredLaws
