@@ -1,5 +1,5 @@
 -- Blocks of one length, one behind the other: the form that the record's clocks and pending events have.
-use Prim.Native.Nat.{ℕ, suc, _*_, _≤_, _<_}
+use Prim.Native.Nat.{ℕ, suc, _*_, _≤_, _<_, _+_}
 use native.Mathlib.Omega.{arith}
 use native.Mathlib.Nat.{zero-mul, suc-mul}
 use mathlib.Core.Path.{_≡_, refl, sym, ap, _∙_}
@@ -56,6 +56,15 @@ module _ {A : Type 0} (f : A → List ℕ) where
   unfolding blocks
   block-between xs i d l = rw (blocks-split xs i) (ap (λ (ys : List A). blocks f (take i xs) ++ blocks f ys) (drop-cons xs i d l))
 
+  -- The same with a list before and one behind.
+  pub block-apart : (xs : List A) (i : ℕ) (d : A) → i < length xs → (a c : List ℕ)
+      → a ++ (blocks f xs ++ c) ≡ (a ++ blocks f (take i xs)) ++ (f (getD xs i d) ++ (blocks f (drop (suc i) xs) ++ c))
+  block-apart xs i d l a c =
+      rw (block-between xs i d l) (regroup a (blocks f (take i xs)) (f (getD xs i d)) (blocks f (drop (suc i) xs)) c)
+    where
+      regroup : (a b x y c : List ℕ) → a ++ ((b ++ (x ++ y)) ++ c) ≡ a ++ b ++ (x ++ (y ++ c))
+      regroup a b x y c = simp append-assoc
+
   module _ (n : ℕ) where
     pub length-blocks : (xs : List A) → Even f n xs → length (blocks f xs) ≡ length xs * n
     unfolding blocks
@@ -64,9 +73,12 @@ module _ {A : Type 0} (f : A → List ℕ) where
         rw (length-append, h x (List·Memᴰ·head refl), length-blocks xs (λ y m. h y (List·Memᴰ·tail m)), suc-mul) (omega arith)
 
     -- The first i are the first i blocks, whatever stands behind; what is left are the others.
-    length-first : (xs : List A) → Even f n xs → (i : ℕ) → i ≤ length xs → length (blocks f (take i xs)) ≡ i * n
+    pub length-first : (xs : List A) → Even f n xs → (i : ℕ) → i ≤ length xs → length (blocks f (take i xs)) ≡ i * n
     length-first xs h i l =
         length-blocks (take i xs) (λ y m. h y (member-take i xs y m)) ∙ ap (λ (k : ℕ). k * n) (length-take-le i xs l)
+
+    pub length-before : (xs : List A) → Even f n xs → (i : ℕ) → i ≤ length xs → (a : List ℕ) (m : ℕ) → length a ≡ m → length (a ++ blocks f (take i xs)) ≡ m + i * n
+    length-before xs h i l a m long = rw (length-append, long, length-first xs h i l)
 
     pub take-blocks : (xs : List A) → Even f n xs → (rest : List ℕ) (i : ℕ) → i ≤ length xs → take (i * n) (blocks f xs ++ rest) ≡ blocks f (take i xs)
     take-blocks xs h rest i l =

@@ -15,3 +15,7 @@ pub mod InsertLaws
 pub mod PlaceLaws
 pub mod BlockLaws
 pub mod StoredLaws
+pub mod RecordBlocks
+pub mod RecordLaws
+pub mod RoomLaws
+pub mod PendingLaws

@@ -24,7 +24,7 @@ event-same e f m c l =
     let whole : (g : Event) → g ≡ record { mask = g .mask; clock = g .clock; labels = g .labels } = λ g. refl in
     whole e ∙ rw (m, c, l) (sym (whole f))
 
-length-counts : (w : ℕ) (cs : List ℕ) → length cs ≡ 8 → length (countBytes w cs) ≡ 8 * w
+pub length-counts : (w : ℕ) (cs : List ℕ) → length cs ≡ 8 → length (countBytes w cs) ≡ 8 * w
 length-counts w cs e = length-countBytes w cs ∙ ap (λ (n : ℕ). n * w) e
 
 module _ (w : ℕ) (e : Event) (z : Storable w e) where
