@@ -9,7 +9,6 @@ pub mod Take
 pub mod Find
 pub mod Open
 pub mod Status
-
 -- What is proved of it
 pub mod InsertLaws
 pub mod PlaceLaws
@@ -19,3 +18,5 @@ pub mod RecordBlocks
 pub mod RecordLaws
 pub mod RoomLaws
 pub mod PendingLaws
+pub mod SetterLaws
+pub mod StatusLaws

@@ -131,6 +131,7 @@ length-clocks w g =
 pub length-tableBlock : (ls : List Line) → length ls ≤ 64 → length (tableBlock ls) ≡ 192
 length-tableBlock ls h = rw (length-append, length-tableBytes ls, length-replicate) (omega arith)
 
+-- Each of some events can be stored.
 abbrev pub AllStorable : ℕ → List Event → Type 0
 AllStorable w es = (e : Event) → List·Memᴰ e es → Storable w e
 
@@ -147,8 +148,12 @@ length-pendingBlock w es few h =
 
 pub length-frontBytes : (w : ℕ) (t : Status) (waiting : ℕ) → length (t .table) ≤ 64 → length (frontBytes w t waiting) ≡ 200 + 72 * w
 length-frontBytes w t waiting short =
-    rw (length-append, length-append, length-append, length-headBytes (t .processes) (length (t .table)) waiting (t .kept), length-eight w (t .counts), length-clocks w (t .clocks), length-tableBlock (t .table) short)
+    length-four (headBytes (t .processes) (length (t .table)) waiting (t .kept)) (countBytes w (listOf 8 (t .counts))) (clockBytes w (clockRows (t .clocks))) (tableBlock (t .table))
+    ∙ rw (length-headBytes (t .processes) (length (t .table)) waiting (t .kept), length-eight w (t .counts), length-clocks w (t .clocks), length-tableBlock (t .table) short)
     (omega arith)
+  where
+    length-four : (h c k b : List ℕ) → length (h ++ c ++ k ++ b) ≡ length h + length c + length k + length b
+    length-four h c k b = simp length-append
 
 pub length-beforeClocks : (w : ℕ) (t : Status) → length (beforeClocks w t) ≡ 8 + 8 * w
 length-beforeClocks w t =
