@@ -10,9 +10,22 @@ pub mod Find
 pub mod Open
 pub mod Status
 pub mod Ledger
-pub mod Delivery
 pub mod Run
-pub mod Stub
+
+-- What is proved of the record's bytes
+pub mod InsertLaws
+pub mod PlaceLaws
+pub mod BlockLaws
+pub mod StoredLaws
+pub mod RecordBlocks
+pub mod RecordLaws
+pub mod RoomLaws
+pub mod PendingLaws
+pub mod SetterLaws
+pub mod StatusLaws
+
+-- What is proved of lists of calls
+pub mod Delivery
 pub mod Watching
 pub mod WatchingLaws
 pub mod PendingOrder

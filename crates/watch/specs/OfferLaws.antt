@@ -38,7 +38,8 @@ use Rattle.watch.specs.Run.{Passed, offers}
 use Rattle.watch.specs.Status.{Storable, insertAt}
 use Rattle.watch.specs.PendingOrder.{place-within, insert-ordered, clear-insert}
 use Rattle.watch.specs.WatchingLaws.{says-processes, says-many, says-pending, says-taken}
-use Rattle.watch.specs.Stub.{insert-record, insert-length, insert-e}
+use Rattle.watch.specs.InsertLaws.{length-insertAt, member-insertAt}
+use Rattle.watch.specs.PendingLaws.{inserted-recordBytes}
 
 -- ---- An offer comes to one of two things
 pub data OfferCase (w mask : ℕ) (clock labels s : List ℕ) : Type 0 where
@@ -189,21 +190,21 @@ module _ (w k : ℕ) (table : List Line) (start : Cut) (R : Rule w k table start
     accepted-watching = record
       { kept = X .kept
       ; bytes-are = rw (says-pending w k table start R L bytes window X) (ap (λ (s : List ℕ). inserted w s i e) (X .bytes-are)
-          ∙ insert-record w (statusOf k table (length (X .kept)) L) (sized w k table start R L bytes window X) i e inside free offered-storable)
+          ∙ inserted-recordBytes w (statusOf k table (length (X .kept)) L) (sized w k table start R L bytes window X) i e inside free offered-storable)
       ; window-is = X .window-is
       ; room = X .room
       ; few = X .few
       ; represents = X .represents
       ; right = record
           { by-rule = X .right .by-rule
-          ; formed = λ f m. ⊎-elim (λ q. rw q (g .formed)) (X .right .formed f) (insert-e i e (L .pending) f m)
-          ; untaken = λ f m. ⊎-elim (λ q. rw q untaken-e) (X .right .untaken f) (insert-e i e (L .pending) f m)
+          ; formed = λ f m. ⊎-elim (λ q. rw q (g .formed)) (X .right .formed f) (member-insertAt i e (L .pending) f .0 m)
+          ; untaken = λ f m. ⊎-elim (λ q. rw q untaken-e) (X .right .untaken f) (member-insertAt i e (L .pending) f .0 m)
           ; was-ready = X .right .was-ready
-          ; eight = λ f. ⊎-elim (λ m. X .right .eight f (inl m)) (⊎-elim (λ m. ⊎-elim (λ q. rw q eight-e) (λ n. X .right .eight f (inr (inl n))) (insert-e i e (L .pending) f m)) (λ m. X .right .eight f (inr (inr m))))
+          ; eight = λ f. ⊎-elim (λ m. X .right .eight f (inl m)) (⊎-elim (λ m. ⊎-elim (λ q. rw q eight-e) (λ n. X .right .eight f (inr (inl n))) (member-insertAt i e (L .pending) f .0 m)) (λ m. X .right .eight f (inr (inr m))))
           }
       ; ordered = insert-ordered e (L .pending) (X .ordered) (offered-key g (rw (says-pending w k table start R L bytes window X) at h32))
       ; clear = clear-insert i e (L .pending) (X .clear) (λ f m. offered-clear (rw (says-pending w k table start R L bytes window X) at h32) f m g)
-      ; faultless = λ f m. ⊎-elim (λ q. rw q g) (X .faultless f) (insert-e i e (L .pending) f m)
-      ; storable = λ f. ⊎-elim (λ m. X .storable f (inl m)) (λ m. ⊎-elim (λ q. rw q offered-storable) (λ n. X .storable f (inr n)) (insert-e i e (L .pending) f m))
-      ; many = omega (arith, free, insert-length i e (L .pending) inside)
+      ; faultless = λ f m. ⊎-elim (λ q. rw q g) (X .faultless f) (member-insertAt i e (L .pending) f .0 m)
+      ; storable = λ f. ⊎-elim (λ m. X .storable f (inl m)) (λ m. ⊎-elim (λ q. rw q offered-storable) (λ n. X .storable f (inr n)) (member-insertAt i e (L .pending) f .0 m))
+      ; many = omega (arith, free, length-insertAt i e (L .pending))
       }

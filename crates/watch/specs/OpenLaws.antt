@@ -1,8 +1,8 @@
 -- What an open leaves: turned back it changes nothing, accepted it leaves a watch of the empty history with the lines of the text's form.
-use Prim.Native.Nat.{ℕ, zero, suc, _+_, _≤_, _<_, _*_}
+use Prim.Native.Nat.{ℕ, zero, suc, _+_, _≤_, _<_, _*_, _%_}
 use native.Mathlib.Omega.{arith}
-use mathlib.Core.Path.{_≡_, refl, sym, ap, ap₂, subst, _∙_}
-use mathlib.Core.Bool.{Bool, true, false, _&&_, _||_}
+use mathlib.Core.Path.{_≡_, refl, sym, ap, ap₂, subst, _∙_, fun-ext}
+use mathlib.Core.Bool.{Bool, true, false, _&&_, _||_, not}
 use mathlib.Core.List.{List, [], _∷_, List·Memᴰ·not-nil}
 use mathlib.Core.Logic.{⊎-elim}
 use lib.Dec.{leb, ltb, eqb, eqb→eq}
@@ -26,7 +26,7 @@ use Rattle.window.specs.Bytes.{frontierLength, windowBytes}
 use Rattle.rules.specs.Text.{Within}
 use Rattle.rules.specs.ReaderAccepts.{reader-accepts}
 use Rattle.rules.specs.LineLaws.{length-linesAt, lineCount-pos, good-linesAt}
-use Rattle.clocks.specs.History.{taken, lastClock}
+use Rattle.clocks.specs.History.{taken, lastClock, event, clockOf}
 use Rattle.clocks.specs.Event.{Cut}
 use Rattle.clocks.specs.JoinedClock.{joined-rule}
 use Rattle.clocks.specs.CountsLaws.{listOf-at}
@@ -38,7 +38,7 @@ use Rattle.watch.specs.AfterCall.{or-false, WatchRight}
 use Rattle.watch.specs.Watching.{worldOf, Rule, all-shaped}
 use Rattle.watch.specs.Run.{Watch, opened}
 use Rattle.watch.specs.Status.{recordBytes}
-use Rattle.watch.specs.Stub.{first-record}
+use Rattle.watch.specs.SetterLaws.{firstRecord-recordBytes}
 
 pub data OpenCase (w : ℕ) (text : List ℕ) (k : ℕ) (labels s window : List ℕ) : Type 0 where
   turned : (n i : ℕ) → openCall w text k labels s window ≡ record { answer = turnedBack n i; bytes = s; window = window } → OpenCase w text k labels s window
@@ -118,10 +118,10 @@ module _ (w : ℕ) (text : List ℕ) (k : ℕ) (labels window : List ℕ) (some-
   W = opened (openTable w table k labels (length window))
 
   pub opened-right : WatchRight w k table (at labels) W
-  unfolding openTable
+  unfolding openTable badWindowLength taken lastClock clockOf event
   opened-right = record
     { kept = startFrontier 8 labels table ∷ []
-    ; bytes-are = first-record w k table (opened-rule .short) ∙ ap₂ (λ (c : Cut) (d : ℕ → Cut). recordBytes w (record { processes = k; table = table; kept = 1; counts = c; clocks = d; pending = [] })) no-counts no-clocks
+    ; bytes-are = firstRecord-recordBytes w k table ∙ ap₂ (λ (c : Cut) (d : ℕ → Cut). recordBytes w (record { processes = k; table = table; kept = 1; counts = c; clocks = d; pending = [] })) no-counts no-clocks
     ; window-is = ap (λ (t : ℕ). windowBytes w t (startFrontier 8 labels table ∷ [])) (sym long)
     ; room = omega (arith, long, one-frontier)
     ; few = omega arith
@@ -149,14 +149,14 @@ module _ (w : ℕ) (text : List ℕ) (k : ℕ) (labels window : List ℕ) (some-
       start : Represents world [] (startFrontier 8 labels table ∷ [])
       start = subst (λ (ls : List ℕ). Represents world [] (startFrontier 8 ls table ∷ [])) (listOf-at 8 labels eight) (start-represents world (Joined 8) P)
 
+      one-frontier : 1 * frontierLength w ≤ length window
+      one-frontier = omega (arith, ltb-false (length window) (frontierLength w) (or-false (ltb (length window) (frontierLength w)) (ltb (1024 * frontierLength w) (length window) || not (eqb (length window % frontierLength w) 0)) h6 .0))
+
       no-counts : _≡_ {A = Cut} (λ p. 0) (taken [])
-      no-counts = ?counts
+      no-counts = fun-ext (λ p. refl)
 
       no-clocks : _≡_ {A = ℕ → Cut} (λ p q. 0) (lastClock [])
-      no-clocks = ?clocks
+      no-clocks = fun-ext (λ p. fun-ext (λ q. refl))
 
       long : length (windowBytes w (length window) (startFrontier 8 labels table ∷ [])) ≡ length window
       long = length-windowBytes w (length window) (startFrontier 8 labels table ∷ []) (all-shaped w [] tt (λ e m. absurd (List·Memᴰ·not-nil m)) k table (at labels) (opened-rule .short) bytes (startFrontier 8 labels table ∷ []) start) one-frontier
-
-      one-frontier : 1 * frontierLength w ≤ length window
-      one-frontier = ?one

@@ -3,10 +3,10 @@ use Prim.Native.Nat.{ℕ, zero, suc, _≤_, _<_}
 use native.Mathlib.Omega.{arith}
 use mathlib.Core.Path.{_≡_, refl, sym, ap₂, subst, _∙_}
 use mathlib.Core.Bool.{Bool, true, false, cond}
-use mathlib.Core.List.{List, [], _∷_, List·Memᴰ, List·Memᴰ·head, List·Memᴰ·tail, List·Memᴰ·cases-cons, List·Memᴰ·not-nil}
+use mathlib.Core.List.{List, [], _∷_, List·Memᴰ, List·Memᴰ·head, List·Memᴰ·tail, List·Memᴰ·cases-cons, List·Memᴰ·not-nil, List·Memᴰ·append-cases}
 use mathlib.Core.Logic.{⊎-elim, _↔_}
 use lib.Dec.{T}
-use lib.ListN.{length, getD}
+use lib.ListN.{length, getD, take}
 use Rattle.clocks.specs.declared.Event.{Event}
 use Rattle.clocks.specs.KeyLaws.{before-total, before-irreflexive, before-transitive}
 use Rattle.clocks.specs.Key.{keyOf, keyBefore}
@@ -15,7 +15,7 @@ use Rattle.window.specs.ListLaws.{place-member}
 use Rattle.watch.specs.Watching.{Ordered, NoClash, Clear}
 use Rattle.watch.specs.Offer.{placeAmong}
 use Rattle.watch.specs.Status.{insertAt, removeAt}
-use Rattle.watch.specs.Stub.{insert-e, remove-e}
+use Rattle.watch.specs.InsertLaws.{member-take, member-drop, member-insertAt}
 
 -- ---- putting in
 pub place-within : (e : Event) (fs : List Event) → placeAmong e fs ≤ length fs
@@ -41,13 +41,17 @@ insert-ordered e [] o h = unfold placeAmong insertAt in ((λ f m. absurd (List·
 insert-ordered e (f ∷ fs) o h = go (keyBefore (keyOf f) (keyOf e)) refl (insert-ordered e fs (o .1) (λ g m. h g (List·Memᴰ·tail m)))
   where
     go : (b : Bool) → keyBefore (keyOf f) (keyOf e) ≡ b → Ordered (insertAt (placeAmong e fs) e fs) → Ordered (insertAt (placeAmong e (f ∷ fs)) e (f ∷ fs))
-    go true b r = rw (insert-first e f fs b) ((λ g m. ⊎-elim (λ q. rw q (true-T b)) (o .0 g) (insert-e (placeAmong e fs) e fs g m)), r)
+    go true b r = rw (insert-first e f fs b) ((λ g m. ⊎-elim (λ q. rw q (true-T b)) (o .0 g) (member-insertAt (placeAmong e fs) e fs g .0 m)), r)
     go false b r = rw (insert-here e f fs b) ((λ g m. ⊎-elim (λ q. rw q ef) (λ k. before-transitive (keyOf e) (keyOf f) (keyOf g) ef (o .0 g k)) (List·Memᴰ·cases-cons m)), o)
       where
         ef : T (keyBefore (keyOf e) (keyOf f))
         ef = ⊎-elim (λ t. t) (⊎-elim (λ q. absurd (h f (List·Memᴰ·head refl) (sym q))) (λ t. absurd (subst T b t))) (before-total (keyOf e) (keyOf f))
 
 -- ---- leaving out
+pub remove-e : {A : Type 0} (i : ℕ) (xs : List A) (z : A) → List·Memᴰ z (removeAt i xs) → List·Memᴰ z xs
+unfolding removeAt
+remove-e i xs z m = ⊎-elim (member-take i xs z) (member-drop (suc i) xs z) (List·Memᴰ·append-cases (take i xs) m)
+
 pub remove-ordered : (i : ℕ) (fs : List Event) → Ordered fs → Ordered (removeAt i fs)
 unfolding removeAt
 remove-ordered zero [] o = tt
@@ -83,7 +87,7 @@ unfolding insertAt
 clear-insert zero e es c h = (h, c)
 clear-insert (suc i) e [] c h = (h, c)
 clear-insert (suc i) e (f ∷ es) c h =
-    ((λ g m. ⊎-elim (λ q. rw q (clash-sym e f (h f (List·Memᴰ·head refl)))) (c .0 g) (insert-e i e es g (unfold insertAt in m))), clear-insert i e es (c .1) (λ g m. h g (List·Memᴰ·tail m)))
+    ((λ g m. ⊎-elim (λ q. rw q (clash-sym e f (h f (List·Memᴰ·head refl)))) (c .0 g) (member-insertAt i e es g .0 (unfold insertAt in m))), clear-insert i e es (c .1) (λ g m. h g (List·Memᴰ·tail m)))
 
 pub clear-remove : (i : ℕ) (es : List Event) → Clear es → Clear (removeAt i es)
 unfolding removeAt

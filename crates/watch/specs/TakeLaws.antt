@@ -29,12 +29,14 @@ use Rattle.clocks.specs.Step.{clock-old}
 use Rattle.clocks.specs.HistoryLaws.{taken-next, taken-other, event-next}
 use Rattle.clocks.specs.Tested.{ready}
 use Rattle.clocks.specs.CausalLaws.{clock-some}
-use Rattle.watch.specs.Watching.{worldOf, Rule, statusOf, Watching, proper, kept-shaped, sized, all-shaped, taken-fits}
+use Rattle.watch.specs.Watching.{worldOf, Rule, statusOf, Watching, proper, kept-shaped, sized, all-shaped}
 use Rattle.watch.specs.Record.{removed, counted}
-use Rattle.watch.specs.PendingOrder.{remove-ordered, clear-remove, clear-other}
+use Rattle.watch.specs.PendingOrder.{remove-ordered, clear-remove, clear-other, remove-e}
 use Rattle.watch.specs.Ledger.{Ledger}
 use Rattle.watch.specs.Status.{removeAt, Status, recordBytes, Storable, withPending, Sized}
-use Rattle.watch.specs.Stub.{remove-record, remove-length, remove-e, count-record}
+use Rattle.watch.specs.InsertLaws.{length-removeAt}
+use Rattle.watch.specs.PendingLaws.{removed-recordBytes}
+use Rattle.watch.specs.SetterLaws.{counted-recordBytes}
 
 -- an event's clock is the last one of its processes; the others' last clocks are what they were
 last-next : (e : Event) (ts : List Event) (p : ℕ) → lastClock (e ∷ ts) p ≡ cond (involved e p) (count e) (lastClock ts p)
@@ -75,7 +77,7 @@ module _ (w k : ℕ) (table : List Line) (start : Cut) (R : Rule w k table start
       pub falsified-watching : (total : ℕ) → length window ≤ total → Watching w k table start without (removed w bytes i) (windowBytes w total (X .kept))
       falsified-watching total g = record
         { kept = X .kept
-        ; bytes-are = ap (λ (s : List ℕ). removed w s i) (X .bytes-are) ∙ remove-record w (statusOf k table (length (X .kept)) L) (sized w k table start R L bytes window X) i l
+        ; bytes-are = ap (λ (s : List ℕ). removed w s i) (X .bytes-are) ∙ removed-recordBytes w (statusOf k table (length (X .kept)) L) (sized w k table start R L bytes window X) i l
         ; window-is = ap (λ (t : ℕ). windowBytes w t (X .kept)) (sym long)
         ; room = omega (arith, long, X .room)
         ; few = X .few
@@ -92,7 +94,7 @@ module _ (w k : ℕ) (table : List Line) (start : Cut) (R : Rule w k table start
         ; clear = clear-remove i (L .pending) (X .clear)
         ; faultless = λ f q. X .faultless f (remove-e i (L .pending) f q)
         ; storable = λ f. ⊎-elim (λ q. X .storable f (inl q)) (λ q. X .storable f (inr (remove-e i (L .pending) f q)))
-        ; many = omega (arith, X .many, remove-length i (L .pending) l)
+        ; many = omega (arith, X .many, length-removeAt i (L .pending) l)
         }
         where
           long : length (windowBytes w total (X .kept)) ≡ total
@@ -156,7 +158,7 @@ module _ (w k : ℕ) (table : List Line) (start : Cut) (R : Rule w k table start
         ; clear = clear-remove i (L .pending) (X .clear)
         ; faultless = λ f q. X .faultless f (remove-e i (L .pending) f q)
         ; storable = λ f. ⊎-elim (storable-later f) (λ q. X .storable f (inr (remove-e i (L .pending) f q)))
-        ; many = omega (arith, X .many, remove-length i (L .pending) l)
+        ; many = omega (arith, X .many, length-removeAt i (L .pending) l)
         }
         where
           long : length (windowBytes w total gs) ≡ total
@@ -178,13 +180,13 @@ module _ (w k : ℕ) (table : List Line) (start : Cut) (R : Rule w k table start
                 ; kept-fits = z .kept-fits
                 ; counts-fit = z .counts-fit
                 ; clocks-fit = z .clocks-fit
-                ; few = omega (arith, X .many, remove-length i (L .pending) l)
+                ; few = omega (arith, X .many, length-removeAt i (L .pending) l)
                 ; storable = λ f q. X .storable f (inr (remove-e i (L .pending) f q))
                 }
 
           bytes-right : counted w (removed w bytes i) e (length gs) ≡ recordBytes w (statusOf k table (length gs) with-event)
           bytes-right =
               ap (λ (s : List ℕ). counted w (removed w s i) e (length gs)) (X .bytes-are)
-              ∙ ap (λ (s : List ℕ). counted w s e (length gs)) (remove-record w old (sized w k table start R L bytes window X) i l)
-              ∙ count-record w smaller smaller-sized e (length gs) (X .storable e (inr m)) (omega arith) (taken-fits w (e ∷ ts) causal storable-later)
+              ∙ ap (λ (s : List ℕ). counted w s e (length gs)) (removed-recordBytes w old (sized w k table start R L bytes window X) i l)
+              ∙ counted-recordBytes w smaller smaller-sized e (length gs) (X .storable e (inr m) .eight-counts)
               ∙ ap (λ (c : ℕ → Cut). recordBytes w (record { processes = k; table = table; kept = length gs; counts = taken (e ∷ ts); clocks = c; pending = removeAt i (L .pending) })) (fun-ext (λ p. sym (last-next e ts p)))

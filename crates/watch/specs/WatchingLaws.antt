@@ -28,8 +28,9 @@ use Rattle.watch.specs.Record.{recordLength, processCount, lineTotal, pe
 use Rattle.watch.specs.Refusals.{badProcesses, badState}
 use Rattle.watch.specs.Ledger.{Ledger}
 use Rattle.watch.specs.Status.{Status, Sized}
-use Rattle.watch.specs.Stub.{record-length, read-processes, read-lines, read-many, read-kept, read-taken, read-clocks, read-table, read-pending, read-event}
 use Rattle.watch.specs.Take.{settingIn, readyIn, validIn}
+use Rattle.watch.specs.PendingLaws.{pendingAt-recordBytes, pendingEvents-recordBytes}
+use Rattle.watch.specs.RecordLaws.{processCount-recordBytes, lineTotal-recordBytes, pendingCount-recordBytes, tableLines-recordBytes, length-recordBytes, keptCount-recordBytes, takenCounts-recordBytes, lastClocks-recordBytes}
 
 module _ (w k : ℕ) (table : List Line) (start : Cut) (R : Rule w k table start) (L : Ledger) (bytes window : List ℕ) (X : Watching w k table start L bytes window) where
   abbrev ts : List Event
@@ -52,37 +53,37 @@ module _ (w k : ℕ) (table : List Line) (start : Cut) (R : Rule w k table start
 
   -- ---- the fields
   pub bytes-long : length bytes ≡ recordLength w
-  bytes-long = ap length (X .bytes-are) ∙ record-length w status z
+  bytes-long = ap length (X .bytes-are) ∙ length-recordBytes w status z
 
   pub says-processes : processCount bytes ≡ k
-  says-processes = ap processCount (X .bytes-are) ∙ read-processes w status z
+  says-processes = ap processCount (X .bytes-are) ∙ processCount-recordBytes w status
 
   pub says-lines : lineTotal bytes ≡ length table
-  says-lines = ap lineTotal (X .bytes-are) ∙ read-lines w status z
+  says-lines = ap lineTotal (X .bytes-are) ∙ lineTotal-recordBytes w status
 
   pub says-many : pendingCount bytes ≡ length (L .pending)
-  says-many = ap pendingCount (X .bytes-are) ∙ read-many w status z
+  says-many = ap pendingCount (X .bytes-are) ∙ pendingCount-recordBytes w status
 
   pub says-kept : keptCount bytes ≡ length (X .kept)
-  says-kept = ap keptCount (X .bytes-are) ∙ read-kept w status z
+  says-kept = ap keptCount (X .bytes-are) ∙ keptCount-recordBytes w status z
 
   pub says-table : tableLines w bytes ≡ table
-  says-table = ap (tableLines w) (X .bytes-are) ∙ read-table w status z
+  says-table = ap (tableLines w) (X .bytes-are) ∙ tableLines-recordBytes w status
 
   pub says-pending : pendingEvents w bytes ≡ L .pending
-  says-pending = ap (pendingEvents w) (X .bytes-are) ∙ read-pending w status z
+  says-pending = ap (pendingEvents w) (X .bytes-are) ∙ pendingEvents-recordBytes w status z
 
   pub says-event : (i : ℕ) (d : Event) → i < length (L .pending) → pendingAt w bytes i ≡ getD (L .pending) i d
-  says-event i d l = ap (λ (s : List ℕ). pendingAt w s i) (X .bytes-are) ∙ read-event w status z i d l
+  says-event i d l = ap (λ (s : List ℕ). pendingAt w s i) (X .bytes-are) ∙ pendingAt-recordBytes w status z i d l
 
   -- the taken counts, from 8 up too
   pub says-taken : at (takenCounts w bytes) ≡ taken ts
-  says-taken = ap (λ (s : List ℕ). at (takenCounts w s)) (X .bytes-are) ∙ ap at (read-taken w status z)
+  says-taken = ap (λ (s : List ℕ). at (takenCounts w s)) (X .bytes-are) ∙ ap at (takenCounts-recordBytes w status z)
       ∙ at-listOf-all 8 (taken ts) (λ p l. taken-silent k (Joined 8) ts history p (omega (arith, R .eight-processes)))
 
   pub says-clocks : (p q : ℕ) → p < 8 → q < 8 → rows (lastClocks w bytes) p q ≡ lastClock ts p q
   says-clocks p q l j =
-      ap (λ (cs : List (List ℕ)). rows cs p q) (ap (lastClocks w) (X .bytes-are) ∙ read-clocks w status z)
+      ap (λ (cs : List (List ℕ)). rows cs p q) (ap (lastClocks w) (X .bytes-are) ∙ lastClocks-recordBytes w status z)
       ∙ ap (λ (c : List ℕ). at c q) (getD-listOf 8 (λ x. listOf 8 (lastClock ts x)) p [] l) ∙ at-listOf 8 (lastClock ts p) q j
 
   -- ---- 34 never comes

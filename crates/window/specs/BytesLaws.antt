@@ -48,7 +48,7 @@ unfolding countBytes
 countBytes-one w c = append-nil (bytesOf w c)
 
 -- A count is read from its place among the bytes of counts.
-number-countBytes : (w : ℕ) (cs rest : List ℕ) → ((p : ℕ) → at cs p < 256 ^ w) → (p : ℕ) → p < length cs
+pub number-countBytes : (w : ℕ) (cs rest : List ℕ) → ((p : ℕ) → at cs p < 256 ^ w) → (p : ℕ) → p < length cs
     → number (countBytes w cs ++ rest) (p * w) w ≡ at cs p
 unfolding countBytes number
 number-countBytes w [] rest h p l = absurd (omega arith)
