@@ -12,3 +12,4 @@ pub mod Shaped
 pub mod BytesLaws
 pub mod WindowLaws
 pub mod StoreLaws
+pub mod LookupLaws

@@ -3,6 +3,8 @@
 pub mod counts;
 pub mod place;
 pub mod stored;
+pub mod order;
+pub mod lookup;
 
 // A kept cut: its counts, each process's labels and the mask of its last event there, and the truth of each line.
 pub struct Frontier {
