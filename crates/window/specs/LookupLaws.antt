@@ -9,12 +9,14 @@ use lib.Dec.{ltb}
 use lib.ListN.{length, getD, drop}
 use borrow.Author.Tests.{lt-ltb, le-ltb}
 use Rattle.codec.specs.Little.{number}
+use Rattle.clocks.specs.Counts.{at}
 use Rattle.window.specs.WindowLaws.{length-counts-at, count-at, length-keys, getD-keys}
 use Rattle.window.specs.OrderLaws.{before-drop-equal, before-drop-other, same-drop-equal, same-drop-other, before-drop-end, same-drop-end}
-use Rattle.window.specs.Seek.{atMost, standsAt}
+use Rattle.window.specs.Seek.{atMost, standsAt, bisect, gallop, seek}
 use Rattle.window.specs.Step.{keysOf}
 use Rattle.window.specs.Order.{before, same}
 use Rattle.window.specs.Bytes.{frontierLength, frontierAt, frontiers}
+use Rattle.window.specs.SeekLaws.{gallop-past, gallop-over, gallop-on, seek-up, seek-down, seek-whole}
 
 -- ---- A number that is not another: which is less, either way round
 not-ltb : (x y : ℕ) → (x ≡ y → ⊥) → ltb x y ≡ not (ltb y x)
@@ -70,3 +72,30 @@ standsAt-within w s n key i l = rw (getD-keys w s n i l, length-keys w s n, lt-l
 pub standsAt-beyond : (w : ℕ) (s : List ℕ) (n : ℕ) (key : List ℕ) (i : ℕ) → n ≤ i → standsAt (keysOf (frontiers w s n)) key i ≡ false
 unfolding standsAt
 standsAt-beyond w s n key i l = rw (length-keys w s n, le-ltb i n l)
+
+module _ (w : ℕ) (s : List ℕ) (n : ℕ) (key : List ℕ) where
+  pub gallop-past-keys : (lo width : ℕ) → lo < n → n ≤ lo + width
+      → gallop (keysOf (frontiers w s n)) key n lo width ≡ bisect (keysOf (frontiers w s n)) key n lo n
+  gallop-past-keys lo width l m =
+      (rw (length-keys w s n) at (gallop-past (keysOf (frontiers w s n)) key n lo width)) l (omega arith) m
+
+  pub gallop-over-keys : (lo width : ℕ) → lo + width < n → atMost (keysOf (frontiers w s n)) key (lo + width) ≡ false
+      → gallop (keysOf (frontiers w s n)) key n lo width ≡ bisect (keysOf (frontiers w s n)) key n lo (lo + width)
+  gallop-over-keys lo width m q =
+      (rw (length-keys w s n) at (gallop-over (keysOf (frontiers w s n)) key n lo width)) (omega arith) m q
+
+  pub gallop-on-keys : (lo width : ℕ) → 0 < width → lo + width < n → atMost (keysOf (frontiers w s n)) key (lo + width) ≡ true
+      → gallop (keysOf (frontiers w s n)) key n lo width ≡ gallop (keysOf (frontiers w s n)) key n (lo + width) (width * 2)
+  gallop-on-keys lo width z m q =
+      (rw (length-keys w s n) at (gallop-on (keysOf (frontiers w s n)) key n lo width)) (omega arith) z m q
+
+  pub seek-up-keys : (hint : ℕ) → hint < n → atMost (keysOf (frontiers w s n)) key hint ≡ true
+      → seek (keysOf (frontiers w s n)) key hint ≡ gallop (keysOf (frontiers w s n)) key n hint 1
+  seek-up-keys hint l q = (rw (length-keys w s n) at (seek-up (keysOf (frontiers w s n)) key hint)) l q
+
+  pub seek-down-keys : (hint : ℕ) → hint < n → atMost (keysOf (frontiers w s n)) key hint ≡ false
+      → seek (keysOf (frontiers w s n)) key hint ≡ bisect (keysOf (frontiers w s n)) key n 0 hint
+  seek-down-keys hint l q = (rw (length-keys w s n) at (seek-down (keysOf (frontiers w s n)) key hint)) l q
+
+  pub seek-whole-keys : (hint : ℕ) → n ≤ hint → seek (keysOf (frontiers w s n)) key hint ≡ bisect (keysOf (frontiers w s n)) key n 0 n
+  seek-whole-keys hint l = (rw (length-keys w s n) at (seek-whole (keysOf (frontiers w s n)) key hint)) l

@@ -1,10 +1,10 @@
 // Frontiers in bytes: a window of the kept cuts.
 
 pub mod counts;
+pub mod lookup;
+pub mod order;
 pub mod place;
 pub mod stored;
-pub mod order;
-pub mod lookup;
 
 // A kept cut: its counts, each process's labels and the mask of its last event there, and the truth of each line.
 pub struct Frontier {

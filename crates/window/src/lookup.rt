@@ -56,7 +56,7 @@ pub fn bisect(s: &[u8], w: usize, n: usize, key: [u32; 8], low: usize, high: usi
     requires { ⌜ Width w ⌝ }
     requires { ⌜ n ≤ 1024 ⌝ }
     requires { ⌜ n * frontierLength w ≤ length (now s) ⌝ }
-    requires { ⌜ high ≤ n ⌝ }
+    requires { ⌜ (low ≤ high) × (high ≤ n) ⌝ }
     ensures { λ r. ⌜ r ≡ bisected (keysOf (frontiers w (now (s .entry)) n)) key n low high ⌝ }
 {
     let mut lo = low;
@@ -118,9 +118,5 @@ pub fn stands_at(s: &[u8], w: usize, n: usize, key: [u32; 8], i: usize) -> bool
     requires { ⌜ n * frontierLength w ≤ length (now s) ⌝ }
     ensures { λ r. ⌜ r ≡ standsAt (keysOf (frontiers w (now (s .entry)) n)) key i ⌝ }
 {
-    if i < n {
-        same_at(s, w, i, key)
-    } else {
-        false
-    }
+    if i < n { same_at(s, w, i, key) } else { false }
 }

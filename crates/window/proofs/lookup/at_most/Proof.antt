@@ -1,24 +1,18 @@
 -- Below p the counts are those of the key, so that the comparison is that of what follows.
-use Rattle.codec.specs.Little.{number}
+use Prim.Native.Nat.{_≤_, _-_, _+_, _*_}
+use native.Mathlib.Omega.{arith}
+use mathlib.Core.Path.{_≡_, sym, _∙_}
+use lib.ListN.{length, drop}
 use denote.Ref.{now}
+use borrow.Author.Needs.{needs}
+use Rattle.codec.specs.Little.{number}
 use Rattle.window.specs.BytesLaws.{count-within}
 use Rattle.window.specs.StoreLaws.{count-next}
 use Rattle.window.specs.LookupLaws.{at-most-other, at-most-equal, at-most-end}
 use Rattle.window.specs.Order.{before}
 use Rattle.window.specs.Bytes.{frontierLength, frontierAt}
-use native.Mathlib.Omega.{arith}
-use mathlib.Core.Path.{_≡_, refl, sym, ap, _∙_}
-use Prim.Native.Nat.{ℕ, _≤_, _<_, _-_, _+_, _*_}
-use mathlib.Core.List.{List, _++_}
-use lib.ListN.{length, getD, take, drop, set, length-set}
-use mathlib.Core.Logic.{⊎-elim}
-use borrow.Author.Needs.{needs}
 use Rattle.window.proofs.lookup.at_most.Statement.{statement}
 use Rattle.window.proofs.lookup.at_most.Tie as tie
-use Rattle.window.proofs.lookup.at_most.Reads as reads
-use Rattle.window.proofs.lookup.at_most.Lts as lts
-use Rattle.window.proofs.counts.read_count.Reads as read-count-reads
-use Rattle.window.proofs.place.frontier_place.Reads as frontier-place-reads
 
 abbrev Inv-loop : tie.InvT-loop
 Inv-loop s w i key next₀ p₀ next p = (p ≤ 8) × (next ≡ i * frontierLength w + p * w) × (length key ≡ 8) × (before key (frontierAt w s i .counts) ≡ before (drop p key) (drop p (frontierAt w s i .counts)))
@@ -26,63 +20,52 @@ Inv-loop s w i key next₀ p₀ next p = (p ≤ 8) × (next ≡ i * frontierLeng
 abbrev μ-loop : tie.MeasureT-loop
 μ-loop s w i key next₀ p₀ next p = 8 - p
 
--- src/lookup.rt:20:9
 frontier-place-requires : tie.Need-frontier-place-requires Inv-loop μ-loop
 frontier-place-requires c κs = search needs
 
--- src/lookup.rt:22:5
 loop-holds : tie.Need-loop-holds Inv-loop μ-loop
 loop-holds c = search needs
 
--- src/lookup.rt:23:13
 read-count-requires : tie.Need-read-count-requires Inv-loop μ-loop
 unfolding frontierLength
-read-count-requires c κs = 
+read-count-requires c κs =
     let a = c .before .before .before .before .args in
     (search needs, omega (arith, count-within (c .before .loop .p) 8 (a .w) (search needs)))
 
--- src/lookup.rt:24:22
 mul-wanted : tie.Need-mul-wanted Inv-loop μ-loop
 mul-wanted c = search needs
 
--- src/lookup.rt:24:22
 array-read-wanted : tie.Need-array-read-wanted Inv-loop μ-loop
 array-read-wanted c = search needs
 
--- src/lookup.rt:26:13
 returns : tie.Need-returns Inv-loop μ-loop
-returns c = 
+returns c =
     let a = c .before .before .before .before .before .before .args in
     let p = c .before .before .before .loop .p in
     let read : c .before .read-count .result ≡ number (now (a .s)) (a .i * frontierLength (a .w) + p * a .w) (a .w) = cc in
     cc (at-most-other (a .w) (now (a .s)) (a .i) (a .t4) p (search needs) (search needs) (λ q. c .if1 .taken (read ∙ q)))
 
--- src/lookup.rt:28:16
 add-next : tie.Need-add-next Inv-loop μ-loop
 unfolding frontierLength
-add-next c = 
+add-next c =
     let a = c .before .before .before .before .before .before .args in
     record { fits = omega (arith, count-within (c .before .before .before .loop .p) 8 (a .w) (search needs)) }
 
--- src/lookup.rt:29:13
 add-p : tie.Need-add-p Inv-loop μ-loop
 add-p c = search needs
 
--- src/lookup.rt:22:5
 loop-less : tie.Need-loop-less Inv-loop μ-loop
 loop-less c = search needs
 
--- src/lookup.rt:22:5
 loop-again : tie.Need-loop-again Inv-loop μ-loop
-loop-again c = 
+loop-again c =
     let a = c .before .before .before .before .before .before .args in
     let p = c .before .before .before .loop .p in
     let read : c .before .read-count .result ≡ number (now (a .s)) (a .i * frontierLength (a .w) + p * a .w) (a .w) = cc in
     (search needs, omega (arith, count-next p (a .w)), search needs, cc (at-most-equal (a .w) (now (a .s)) (a .i) (a .t4) p (search needs) (search needs) (sym read ∙ c .if1 .left)))
 
--- src/lookup.rt:14:1
 returns-2 : tie.Need-returns-2 Inv-loop μ-loop
-returns-2 c = 
+returns-2 c =
     let a = c .before .before .before .before .args in
     let all : c .before .loop .p ≡ 8 = omega arith in
     cc (at-most-end (a .t4) (frontierAt (a .w) (now (a .s)) (a .i) .counts) (search needs))

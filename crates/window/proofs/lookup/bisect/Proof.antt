@@ -1,61 +1,70 @@
+-- Each turn keeps the half in which the definition goes on: the laws `bisect-up` and `bisect-down`.
+use Prim.Native.Nat.{_/_, _≤_, _<_, _-_, _+_}
 use native.Mathlib.Omega.{arith}
-use mathlib.Core.Path.{_≡_, refl, sym, ap, _∙_}
-use Prim.Native.Nat.{ℕ, _≤_, _<_, _-_, _+_, _*_}
-use mathlib.Core.List.{List, _++_}
-use lib.ListN.{length, getD, take, drop, set, length-set}
-use mathlib.Core.Logic.{⊎-elim}
+use mathlib.Core.Path.{_≡_, _∙_}
+use denote.Ref.{now}
 use borrow.Author.Needs.{needs}
+use Rattle.window.specs.SeekLaws.{bisect-up, bisect-down, bisect-end}
+use Rattle.window.specs.LookupLaws.{atMost-keys}
+use Rattle.window.specs.WindowLaws.{place-within}
+use Rattle.window.specs.Seek.{bisect}
+use Rattle.window.specs.Step.{keysOf}
+use Rattle.window.specs.Bytes.{frontiers}
 use Rattle.window.proofs.lookup.bisect.Statement.{statement}
 use Rattle.window.proofs.lookup.bisect.Tie as tie
-use Rattle.window.proofs.lookup.bisect.Reads as reads
-use Rattle.window.proofs.lookup.bisect.Lts as lts
-use Rattle.window.proofs.lookup.at_most.Reads as at-most-reads
 
 abbrev Inv-loop : tie.InvT-loop
-Inv-loop s w n key low high lo₀ hi₀ lo hi = ?
+Inv-loop s w n key low high lo₀ hi₀ lo hi = (lo ≤ hi) × (hi ≤ n) × (bisect (keysOf (frontiers w s n)) key n low high ≡ bisect (keysOf (frontiers w s n)) key n lo hi)
 
 abbrev μ-loop : tie.MeasureT-loop
-μ-loop s w n key low high lo₀ hi₀ lo hi = ?
+μ-loop s w n key low high lo₀ hi₀ lo hi = hi - lo
 
--- src/lookup.rt:64:5
 loop-holds : tie.Need-loop-holds Inv-loop μ-loop
 loop-holds c = search needs
 
--- src/lookup.rt:64:11
 add-loop : tie.Need-add-loop Inv-loop μ-loop
 add-loop c = search needs
 
--- src/lookup.rt:65:28
 sub-middle : tie.Need-sub-middle Inv-loop μ-loop
 sub-middle c = search needs
 
--- src/lookup.rt:65:22
 add-middle : tie.Need-add-middle Inv-loop μ-loop
 add-middle c = search needs
 
--- src/lookup.rt:66:12
 at-most-requires : tie.Need-at-most-requires Inv-loop μ-loop
-at-most-requires c κs = search needs
+at-most-requires c κs =
+    let a = c .before .before .before .args in
+    let lo = c .before .loop .lo in
+    let hi = c .before .loop .hi in
+    let within : lo + (hi - lo) / 2 < a .n = omega arith in
+    (search needs, (search needs, omega (arith, place-within (lo + (hi - lo) / 2) (a .n) (a .w) within)))
 
--- src/lookup.rt:64:5
 loop-less : tie.Need-loop-less Inv-loop μ-loop
 loop-less c = search needs
 
--- src/lookup.rt:64:5
 loop-again : tie.Need-loop-again Inv-loop μ-loop
-loop-again c = search needs
+loop-again c =
+    let a = c .before .before .before .before .before .args in
+    let lo = c .before .before .before .loop .lo in
+    let hi = c .before .before .before .loop .hi in
+    let within : lo + (hi - lo) / 2 < a .n = omega arith in
+    (search needs, search needs, cc (bisect-up (keysOf (frontiers (a .w) (now (a .s)) (a .n))) (a .key) (a .n) lo hi (search needs) (omega arith) (atMost-keys (a .w) (now (a .s)) (a .n) (a .key) (lo + (hi - lo) / 2) within ∙ (cc))))
 
--- src/lookup.rt:64:5
 loop-less-2 : tie.Need-loop-less-2 Inv-loop μ-loop
 loop-less-2 c = search needs
 
--- src/lookup.rt:64:5
 loop-again-2 : tie.Need-loop-again-2 Inv-loop μ-loop
-loop-again-2 c = search needs
+loop-again-2 c =
+    let a = c .before .before .before .before .before .args in
+    let lo = c .before .before .before .loop .lo in
+    let hi = c .before .before .before .loop .hi in
+    let within : lo + (hi - lo) / 2 < a .n = omega arith in
+    (search needs, search needs, cc (bisect-down (keysOf (frontiers (a .w) (now (a .s)) (a .n))) (a .key) (a .n) lo hi (search needs) (omega arith) (atMost-keys (a .w) (now (a .s)) (a .n) (a .key) (lo + (hi - lo) / 2) within ∙ (cc))))
 
--- src/lookup.rt:55:1
 returns : tie.Need-returns Inv-loop μ-loop
-returns c = search needs
+returns c =
+    let a = c .before .before .before .args in
+    cc (bisect-end (keysOf (frontiers (a .w) (now (a .s)) (a .n))) (a .key) (a .n) (c .before .loop .lo) (c .before .loop .hi) (search needs))
 
 pub bisect-spec : {M : Type 1} → statement M
 bisect-spec =

@@ -1,17 +1,13 @@
 -- Below p the counts are equal, so that the comparison is that of what follows.
+use Prim.Native.Nat.{_≤_, _-_}
+use native.Mathlib.Omega.{arith}
+use mathlib.Core.Path.{_≡_}
+use lib.ListN.{length, drop}
+use borrow.Author.Needs.{needs}
 use Rattle.window.specs.OrderLaws.{before-drop-equal, before-drop-other, before-drop-end}
 use Rattle.window.specs.Order.{before}
-use native.Mathlib.Omega.{arith}
-use mathlib.Core.Path.{_≡_, refl, sym, ap, _∙_}
-use Prim.Native.Nat.{ℕ, _≤_, _<_, _-_, _+_, _*_}
-use mathlib.Core.List.{List, _++_}
-use lib.ListN.{length, getD, take, drop, set, length-set}
-use mathlib.Core.Logic.{⊎-elim}
-use borrow.Author.Needs.{needs}
 use Rattle.window.proofs.order.counts_before.Statement.{statement}
 use Rattle.window.proofs.order.counts_before.Tie as tie
-use Rattle.window.proofs.order.counts_before.Reads as reads
-use Rattle.window.proofs.order.counts_before.Lts as lts
 
 abbrev Inv-loop : tie.InvT-loop
 Inv-loop a b p₀ p = (p ≤ 8) × (length a ≡ 8) × (length b ≡ 8) × (before a b ≡ before (drop p a) (drop p b))
@@ -19,51 +15,41 @@ Inv-loop a b p₀ p = (p ≤ 8) × (length a ≡ 8) × (length b ≡ 8) × (befo
 abbrev μ-loop : tie.MeasureT-loop
 μ-loop a b p₀ p = 8 - p
 
--- src/order.rt:11:5
 loop-holds : tie.Need-loop-holds Inv-loop μ-loop
 loop-holds c = search needs
 
--- src/order.rt:12:17
 mul-x : tie.Need-mul-x Inv-loop μ-loop
 mul-x c = search needs
 
--- src/order.rt:12:17
 array-read-x : tie.Need-array-read-x Inv-loop μ-loop
 array-read-x c = search needs
 
--- src/order.rt:13:17
 mul-y : tie.Need-mul-y Inv-loop μ-loop
 mul-y c = search needs
 
--- src/order.rt:13:17
 array-read-y : tie.Need-array-read-y Inv-loop μ-loop
 array-read-y c = search needs
 
--- src/order.rt:15:13
 returns : tie.Need-returns Inv-loop μ-loop
-returns c = 
+returns c =
     let a = c .before .before .before .args in
     let p = c .before .before .loop .p in
     cc (before-drop-other (a .t1) (a .t2) p (search needs) (search needs) (c .if1 .taken))
 
--- src/order.rt:17:13
 add-p : tie.Need-add-p Inv-loop μ-loop
 add-p c = search needs
 
--- src/order.rt:11:5
 loop-less : tie.Need-loop-less Inv-loop μ-loop
 loop-less c = search needs
 
--- src/order.rt:11:5
 loop-again : tie.Need-loop-again Inv-loop μ-loop
-loop-again c = 
+loop-again c =
     let a = c .before .before .before .args in
     let p = c .before .before .loop .p in
     (search needs, search needs, search needs, cc (before-drop-equal (a .t1) (a .t2) p (search needs) (search needs) (c .if1 .left)))
 
--- src/order.rt:7:1
 returns-2 : tie.Need-returns-2 Inv-loop μ-loop
-returns-2 c = 
+returns-2 c =
     let a = c .before .before .args in
     let all : c .before .loop .p ≡ 8 = omega arith in
     cc (before-drop-end (a .t1) (a .t2) 8 (search needs))

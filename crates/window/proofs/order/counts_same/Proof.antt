@@ -1,17 +1,13 @@
 -- Below p the counts are equal, so that the comparison is that of what follows.
+use Prim.Native.Nat.{_≤_, _-_}
+use native.Mathlib.Omega.{arith}
+use mathlib.Core.Path.{_≡_}
+use lib.ListN.{length, drop}
+use borrow.Author.Needs.{needs}
 use Rattle.window.specs.OrderLaws.{same-drop-equal, same-drop-other, same-drop-end}
 use Rattle.window.specs.Order.{same}
-use native.Mathlib.Omega.{arith}
-use mathlib.Core.Path.{_≡_, refl, sym, ap, _∙_}
-use Prim.Native.Nat.{ℕ, _≤_, _<_, _-_, _+_, _*_}
-use mathlib.Core.List.{List, _++_}
-use lib.ListN.{length, getD, take, drop, set, length-set}
-use mathlib.Core.Logic.{⊎-elim}
-use borrow.Author.Needs.{needs}
 use Rattle.window.proofs.order.counts_same.Statement.{statement}
 use Rattle.window.proofs.order.counts_same.Tie as tie
-use Rattle.window.proofs.order.counts_same.Reads as reads
-use Rattle.window.proofs.order.counts_same.Lts as lts
 
 abbrev Inv-loop : tie.InvT-loop
 Inv-loop a b p₀ p = (p ≤ 8) × (length a ≡ 8) × (length b ≡ 8) × (same a b ≡ same (drop p a) (drop p b))
@@ -19,51 +15,41 @@ Inv-loop a b p₀ p = (p ≤ 8) × (length a ≡ 8) × (length b ≡ 8) × (same
 abbrev μ-loop : tie.MeasureT-loop
 μ-loop a b p₀ p = 8 - p
 
--- src/order.rt:27:5
 loop-holds : tie.Need-loop-holds Inv-loop μ-loop
 loop-holds c = search needs
 
--- src/order.rt:28:12
 mul-if1 : tie.Need-mul-if1 Inv-loop μ-loop
 mul-if1 c = search needs
 
--- src/order.rt:28:12
 array-read-if1 : tie.Need-array-read-if1 Inv-loop μ-loop
 array-read-if1 c = search needs
 
--- src/order.rt:28:20
 mul-if1-2 : tie.Need-mul-if1-2 Inv-loop μ-loop
 mul-if1-2 c = search needs
 
--- src/order.rt:28:20
 array-read-if1-2 : tie.Need-array-read-if1-2 Inv-loop μ-loop
 array-read-if1-2 c = search needs
 
--- src/order.rt:29:13
 returns : tie.Need-returns Inv-loop μ-loop
-returns c = 
+returns c =
     let a = c .before .before .before .args in
     let p = c .before .before .loop .p in
     cc (same-drop-other (a .t1) (a .t2) p (search needs) (search needs) (c .if1 .taken))
 
--- src/order.rt:31:13
 add-p : tie.Need-add-p Inv-loop μ-loop
 add-p c = search needs
 
--- src/order.rt:27:5
 loop-less : tie.Need-loop-less Inv-loop μ-loop
 loop-less c = search needs
 
--- src/order.rt:27:5
 loop-again : tie.Need-loop-again Inv-loop μ-loop
-loop-again c = 
+loop-again c =
     let a = c .before .before .before .args in
     let p = c .before .before .loop .p in
     (search needs, search needs, search needs, cc (same-drop-equal (a .t1) (a .t2) p (search needs) (search needs) (c .if1 .left)))
 
--- src/order.rt:23:1
 returns-2 : tie.Need-returns-2 Inv-loop μ-loop
-returns-2 c = 
+returns-2 c =
     let a = c .before .before .args in
     let all : c .before .loop .p ≡ 8 = omega arith in
     cc (same-drop-end (a .t1) (a .t2) 8 (search needs) (search needs))
