@@ -46,7 +46,7 @@ use Rattle.window.specs.Step.{Setting, advanced, sought, withoutLast, Ga
 use Rattle.window.specs.Represents.{World, modelOf, openIn, KeptIn, frontierOf, Sorted, settingOf, Proper, wordOf}
 use Rattle.window.specs.Order.{before, same}
 use Rattle.window.specs.Seek.{seek, standsAt}
-use Rattle.window.specs.LookUp.{found-e, found-i}
+use Rattle.window.specs.FoundLaid.{found-e, found-i}
 use Rattle.window.specs.OrderCuts.{before-pointwise}
 
 -- cuts that count nothing from n up are known by their first n counts

@@ -19,10 +19,11 @@ pub mod Shaped
 pub mod BytesLaws
 pub mod WindowLaws
 pub mod StoreLaws
+pub mod LookupLaws
 -- What is proved of the step
 pub mod MergeLaws
 pub mod FrontierLaws
-pub mod LookUp
+pub mod FoundLaid
 pub mod JudgingNew
 pub mod StepTheorem
 pub mod StartTheorem

@@ -5,17 +5,19 @@ use native.Mathlib.Numerals.{add-one}
 use native.Mathlib.Nat.{zero-mul, suc-mul, le-of-suc-le-suc, le-refl}
 use mathlib.Core.Path.{_≡_, refl, sym, _∙_, ap}
 use mathlib.Core.List.{List, [], _∷_, _++_, List·Memᴰ·head, List·Memᴰ·tail, append-assoc, append-nil}
-use lib.ListN.{length, getD, take, length-append, length-replicate, drop}
+use lib.ListN.{length, getD, take, length-append, length-replicate, drop, length-map, List·getD-map}
 use lib.Seq.{sets, drop-at, length-take-le, take-add, sets-eq}
-use Rattle.codec.specs.Little.{Bytes}
+use Rattle.codec.specs.Little.{Bytes, number}
 use Rattle.clocks.specs.Counts.{listOf, at}
 use Rattle.codec.specs.SetsLaws.{take-sets}
 use Rattle.clocks.specs.CountsLaws.{length-listOf, getD-listOf, filled, listOf-same}
 use Rattle.window.specs.declared.Frontier.{Frontier}
 use Rattle.window.specs.Shaped.{Shaped, AllShaped}
 use Rattle.window.specs.BytesLaws.{count-within, length-frontierBytes, frontierFrom-drop, frontierFrom-bytes, frontierFrom-alike, frontierBytes-from, shaped-from}
-use Rattle.window.specs.Bytes.{frontierLength, frontierBytes, frontierAt, frontiers, framed, windowBytes}
+use Rattle.window.specs.Bytes.{frontierLength, frontierBytes, frontierAt, frontiers, framed, windowBytes, frontierFrom}
 use Rattle.window.specs.ListLaws.{member-place, listOf-more, part-alike}
+use Rattle.window.specs.OrderLaws.{last}
+use Rattle.window.specs.Step.{keysOf}
 
 -- ---- The bytes of frontiers one behind the other
 
@@ -90,6 +92,26 @@ length-frontiers w s n = length-listOf n (frontierAt w s)
 pub getD-frontiers : (w : ℕ) (s : List ℕ) (n i : ℕ) (d : Frontier) → i < n → getD (frontiers w s n) i d ≡ frontierAt w s i
 unfolding frontiers
 getD-frontiers w s n i d l = getD-listOf n (frontierAt w s) i d l
+
+-- The counts of a frontier in a window, by places.
+pub length-counts-at : (w : ℕ) (s : List ℕ) (i : ℕ) → length (frontierAt w s i .counts) ≡ 8
+unfolding frontierAt frontierFrom
+length-counts-at w s i = length-listOf 8 (λ p. number s (i * frontierLength w + p * w) w)
+
+pub count-at : (w : ℕ) (s : List ℕ) (i p : ℕ) → p < 8 → getD (frontierAt w s i .counts) p 0 ≡ number s (i * frontierLength w + p * w) w
+unfolding frontierAt frontierFrom
+count-at w s i p l = getD-listOf 8 (λ q. number s (i * frontierLength w + q * w) w) p 0 l
+
+-- The keys of the first n frontiers.
+pub length-keys : (w : ℕ) (s : List ℕ) (n : ℕ) → length (keysOf (frontiers w s n)) ≡ n
+length-keys w s n = length-map (frontiers w s n) (λ f. f .counts) ∙ length-frontiers w s n
+
+pub getD-keys : (w : ℕ) (s : List ℕ) (n i : ℕ) → i < n → getD (keysOf (frontiers w s n)) i [] ≡ frontierAt w s i .counts
+getD-keys w s n i l =
+    List·getD-map (λ f. f .counts) (frontiers w s n) i none ∙ ap (λ (f : Frontier). f .counts) (getD-frontiers w s n i none l)
+  where
+    none : Frontier
+    none = record { counts = []; labels = []; masks = []; values = 0 }
 
 -- The frontiers of any bytes are of proper shape,
 pub shaped-frontiers : (w : ℕ) (s : List ℕ) (n : ℕ) → Bytes s → n * frontierLength w ≤ length s → AllShaped w (frontiers w s n)

@@ -1,6 +1,8 @@
 // Frontiers in bytes: a window of the kept cuts.
 
 pub mod counts;
+pub mod lookup;
+pub mod order;
 pub mod place;
 pub mod stored;
 
