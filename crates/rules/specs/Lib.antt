@@ -15,3 +15,7 @@ pub mod Fault
 pub mod WordLaws
 pub mod ReaderLaws
 pub mod ReaderPlace
+pub mod TableBytes
+pub mod TableBytesLaws
+pub mod Judge
+pub mod JudgeLaws
