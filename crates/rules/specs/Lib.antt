@@ -15,6 +15,10 @@ pub mod Fault
 pub mod WordLaws
 pub mod ReaderLaws
 pub mod ReaderPlace
+pub mod WordSteps
+pub mod Laying
+pub mod LayingLaws
+pub mod RuleTable
 pub mod TableBytes
 pub mod TableBytesLaws
 pub mod Judge

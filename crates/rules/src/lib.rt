@@ -4,6 +4,8 @@ ghost use Prim.Native.Nat.{_+_, _*_, _^_, _≤_, _<_};
 ghost use mathlib.Core.Path.{_≡_};
 ghost use lib.ListN.{length};
 ghost use Rattle.codec.specs.Bit.{bit};
+ghost use Rattle.rules.specs.Text.{byteAt};
+ghost use Rattle.rules.specs.Reader.{restAt, aWordAt, eWordAt, wordAt};
 ghost use Rattle.rules.specs.Table.{goodLine, goodTable};
 ghost use Rattle.rules.specs.TableBytes.{lineAt, linesOf};
 ghost use Rattle.rules.specs.Judge.{propositionJudged, notJudged, andJudged, eyJudged, esJudged, asJudged, judgeLine, withBit, judge as judged};
@@ -60,6 +62,18 @@ pub enum Read {
     },
 }
 
+// A digit below a bound, or the number of its fault.
+pub enum DigitRead {
+    Digit { value: usize },
+    NoDigit { number: u8 },
+}
+
+// A rule read: the number of its lines. Or the fault met, with its place.
+pub enum RuleRead {
+    Accepted { lines: u32 },
+    Refused { number: u8, place: usize },
+}
+
 // ---- A table in its bytes
 
 // A byte, wider.
@@ -111,6 +125,109 @@ pub fn good_table(k: u32, table: &[u8], lines: u32) -> bool
         i += 1;
     }
     true
+}
+
+// ---- Reading a rule's words
+
+// The byte at a place of a text; behind its end 256, which is no byte.
+fn byte_at(text: &[u8], i: usize) -> u32
+    ensures { λ r. ⌜ r ≡ byteAt (now (text .entry)) i ⌝ }
+{
+    if i < text.len() { wide(text[i]) } else { 256 }
+}
+
+// The rest of a word, letter by letter.
+fn rest(text: &[u8], i: usize, letters: &[u8], word: WordRead) -> WordRead
+    requires { ⌜ i + length (now letters) ≤ 1024 ⌝ }
+    ensures { λ r. ⌜ r ≡ restAt (now (text .entry)) i (now (letters .entry)) word ⌝ }
+{
+    let mut j: usize = 0;
+    while j < letters.len() {
+        let c = byte_at(text, i + j);
+        if c != wide(letters[j]) {
+            return WordRead::NoWord { place: i + j };
+        }
+        j += 1;
+    }
+    word
+}
+
+// The words that begin with a, from their second letter on: at, as, ap, ay, ah, and.
+fn a_word(text: &[u8], i: usize) -> WordRead
+    requires { ⌜ i ≤ 1000 ⌝ }
+    ensures { λ r. ⌜ r ≡ aWordAt (now (text .entry)) i ⌝ }
+{
+    let c = byte_at(text, i);
+    let next = i + 1;
+    if c == b't' as u32 {
+        return WordRead::AtWord { next };
+    }
+    if c == b's' as u32 {
+        return WordRead::BinaryWord { word: Binary::As, next };
+    }
+    if c == b'p' as u32 {
+        return WordRead::UnaryWord { word: Unary::Ap, next };
+    }
+    if c == b'y' as u32 {
+        return WordRead::UnaryWord { word: Unary::Ay, next };
+    }
+    if c == b'h' as u32 {
+        return WordRead::UnaryWord { word: Unary::Ah, next };
+    }
+    if c == b'n' as u32 {
+        return rest(text, next, b"d", WordRead::BinaryWord { word: Binary::And, next: i + 2 });
+    }
+    WordRead::NoWord { place: i }
+}
+
+// The words that begin with e, from their second letter on: ey, es, ep, eh.
+fn e_word(text: &[u8], i: usize) -> WordRead
+    requires { ⌜ i ≤ 1000 ⌝ }
+    ensures { λ r. ⌜ r ≡ eWordAt (now (text .entry)) i ⌝ }
+{
+    let c = byte_at(text, i);
+    let next = i + 1;
+    if c == b'y' as u32 {
+        return WordRead::UnaryWord { word: Unary::Ey, next };
+    }
+    if c == b's' as u32 {
+        return WordRead::BinaryWord { word: Binary::Es, next };
+    }
+    if c == b'p' as u32 {
+        return WordRead::UnaryWord { word: Unary::Ep, next };
+    }
+    if c == b'h' as u32 {
+        return WordRead::UnaryWord { word: Unary::Eh, next };
+    }
+    WordRead::NoWord { place: i }
+}
+
+// The word at a place: those with a, those with e, not, true, false, or.
+fn read_word(text: &[u8], i: usize) -> WordRead
+    requires { ⌜ i ≤ 900 ⌝ }
+    ensures { λ r. ⌜ r ≡ wordAt (now (text .entry)) i ⌝ }
+{
+    let c = byte_at(text, i);
+    let next = i + 1;
+    if c == b'a' as u32 {
+        return a_word(text, next);
+    }
+    if c == b'e' as u32 {
+        return e_word(text, next);
+    }
+    if c == b'n' as u32 {
+        return rest(text, next, b"ot", WordRead::UnaryWord { word: Unary::Not, next: i + 3 });
+    }
+    if c == b't' as u32 {
+        return rest(text, next, b"rue", WordRead::ConstantWord { word: Constant::True, next: i + 4 });
+    }
+    if c == b'f' as u32 {
+        return rest(text, next, b"alse", WordRead::ConstantWord { word: Constant::False, next: i + 5 });
+    }
+    if c == b'o' as u32 {
+        return rest(text, next, b"r", WordRead::BinaryWord { word: Binary::Or, next: i + 2 });
+    }
+    WordRead::NoWord { place: i }
 }
 
 // ---- Judging a frontier
