@@ -1,12 +1,14 @@
 -- What the code of the reader keeps to: lines laid down in a table's bytes, and the answers of its parts.
 use Prim.Native.Nat.{ℕ, _+_, _-_, _*_, _≤_}
 use mathlib.Core.Path.{_≡_}
-use mathlib.Core.Bool.{cond, _&&_}
+use mathlib.Core.Bool.{Bool, true, false, cond, _&&_}
 use mathlib.Core.List.{List}
 use lib.Dec.{leb, ltb, eqb}
 use lib.ListN.{length}
 use lib.Seq.{sets}
 use Rattle.rules.specs.declared.Line.{Line}
+use Rattle.rules.specs.declared.Unary.{Unary}
+use Rattle.rules.specs.declared.Unary.the-variants.{Not, Ey, Ep, Ap, Ay, Eh, Ah}
 use Rattle.rules.specs.declared.Read.{Read}
 use Rattle.rules.specs.declared.Read.the-variants.{Form, Refused}
 use Rattle.rules.specs.declared.DigitRead.{DigitRead}
@@ -19,6 +21,16 @@ use Rattle.rules.specs.Reader.{Reading, formed, refused, readOf}
 -- A table's bytes with lines laid down from line n on.
 unfoldable pub lay : List ℕ → ℕ → List Line → List ℕ
 lay bytes n ls = sets bytes (3 * n) (tableBytes ls)
+
+-- A word with one form has the lines of true before that form's.
+unfoldable pub hasTrue : Unary → Bool
+hasTrue Not = false
+hasTrue Ey = false
+hasTrue Ep = true
+hasTrue Ap = true
+hasTrue Ay = false
+hasTrue Eh = true
+hasTrue Ah = true
 
 -- The digit at a place, below a bound: 1 if it is no digit, 4 if it is not below.
 unfoldable pub digitAt : List ℕ → ℕ → ℕ → DigitRead

@@ -3,19 +3,21 @@ use Prim.Native.Nat.{ℕ, _+_, _*_}
 use native.Mathlib.Omega.{arith}
 use mathlib.Core.Path.{_≡_, refl, sym, _∙_}
 use mathlib.Core.Bool.{Bool, true, false, cond}
-use mathlib.Core.List.{List, [], _++_}
+use mathlib.Core.List.{List, [], _∷_, _++_}
 use lib.Dec.{leb, eqb}
 use lib.ListN.{length}
 use lib.Seq.{length-sets}
 use Rattle.codec.specs.SetsLaws.{sets-append}
 use Rattle.rules.specs.declared.Line.{Line}
+use Rattle.rules.specs.declared.Unary.{Unary}
+use Rattle.rules.specs.declared.Unary.the-variants.{Not, Ey, Ep, Ap, Ay, Eh, Ah}
 use Rattle.rules.specs.declared.Read.{Read}
 use Rattle.rules.specs.declared.Read.the-variants.{Form, Refused}
 use Rattle.rules.specs.TableLaws.{length-tableBytes, tableBytes-append}
-use Rattle.rules.specs.Line.{lineCount, linesAt}
+use Rattle.rules.specs.Line.{trueLines, linesBefore, lineCount, linesAt}
 use Rattle.rules.specs.Table.{tableBytes}
 use Rattle.rules.specs.Text.{byteAt}
-use Rattle.rules.specs.Laying.{lay, closeRead, LaidDown, Done}
+use Rattle.rules.specs.Laying.{lay, hasTrue, closeRead, LaidDown, Done}
 use Rattle.rules.specs.Formula.{Formula}
 use Rattle.rules.specs.Reader.{expect, closeAt, readOf, formed, refused}
 
@@ -33,6 +35,28 @@ unfolding lay
 lay-lay bytes n m ls ms h =
     let e : 3 * m ≡ 3 * n + length (tableBytes ls) = omega (arith, length-tableBytes ls) in
     rw (e, sets-append bytes (3 * n) (tableBytes ls) (tableBytes ms), tableBytes-append ls ms)
+
+-- One line behind the other.
+pub lay-two : (bytes : List ℕ) (n : ℕ) (v w : Line) → lay (lay bytes n (v ∷ [])) (n + 1) (w ∷ []) ≡ lay bytes n (v ∷ w ∷ [])
+lay-two bytes n v w = lay-lay bytes n (n + 1) (v ∷ []) (w ∷ []) refl
+
+pub lay-three : (bytes : List ℕ) (n : ℕ) (v w x : Line)
+    → lay (lay (lay bytes n (v ∷ [])) (n + 1) (w ∷ [])) (n + 2) (x ∷ []) ≡ lay bytes n (v ∷ w ∷ x ∷ [])
+lay-three bytes n v w x = rw (lay-two bytes n v w) (lay-lay bytes n (n + 2) (v ∷ w ∷ []) (x ∷ []) refl)
+
+pub lay-four : (bytes : List ℕ) (n : ℕ) (v w x y : Line)
+    → lay (lay (lay (lay bytes n (v ∷ [])) (n + 1) (w ∷ [])) (n + 2) (x ∷ [])) (n + 3) (y ∷ []) ≡ lay bytes n (v ∷ w ∷ x ∷ y ∷ [])
+lay-four bytes n v w x y = rw (lay-three bytes n v w x) (lay-lay bytes n (n + 3) (v ∷ w ∷ x ∷ []) (y ∷ []) refl)
+
+pub linesBefore-cond : (w : Unary) (n : ℕ) → linesBefore w n ≡ cond (hasTrue w) (trueLines n) []
+unfolding linesBefore hasTrue
+linesBefore-cond Not n = refl
+linesBefore-cond Ey n = refl
+linesBefore-cond Ep n = refl
+linesBefore-cond Ap n = refl
+linesBefore-cond Ay n = refl
+linesBefore-cond Eh n = refl
+linesBefore-cond Ah n = refl
 
 -- Faults
 
