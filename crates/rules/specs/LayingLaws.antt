@@ -1,5 +1,5 @@
 -- Laws of laying lines down, and of the code's answers against the readings they stand for.
-use Prim.Native.Nat.{ℕ, _+_, _*_}
+use Prim.Native.Nat.{ℕ, _+_, _*_, _≤_}
 use native.Mathlib.Omega.{arith}
 use mathlib.Core.Path.{_≡_, refl, sym, _∙_}
 use mathlib.Core.Bool.{Bool, true, false, cond}
@@ -9,12 +9,16 @@ use lib.ListN.{length}
 use lib.Seq.{length-sets}
 use Rattle.codec.specs.SetsLaws.{sets-append}
 use Rattle.rules.specs.declared.Line.{Line}
+use Rattle.rules.specs.declared.Constant.{Constant}
+use Rattle.rules.specs.declared.Constant.the-variants.{True, False}
+use Rattle.rules.specs.declared.Binary.{Binary}
+use Rattle.rules.specs.declared.Binary.the-variants.{And, Es, As, Or}
 use Rattle.rules.specs.declared.Unary.{Unary}
 use Rattle.rules.specs.declared.Unary.the-variants.{Not, Ey, Ep, Ap, Ay, Eh, Ah}
 use Rattle.rules.specs.declared.Read.{Read}
 use Rattle.rules.specs.declared.Read.the-variants.{Form, Refused}
 use Rattle.rules.specs.TableLaws.{length-tableBytes, tableBytes-append}
-use Rattle.rules.specs.Line.{trueLines, linesBefore, lineCount, linesAt}
+use Rattle.rules.specs.Line.{trueLines, linesBefore, lineCount, linesAt, constantLines, linesAfter, linesBetween, linesAfterBoth}
 use Rattle.rules.specs.Table.{tableBytes}
 use Rattle.rules.specs.Text.{byteAt}
 use Rattle.rules.specs.Laying.{lay, hasTrue, closeRead, LaidDown, Done}
@@ -57,6 +61,46 @@ linesBefore-cond Ap n = refl
 linesBefore-cond Ay n = refl
 linesBefore-cond Eh n = refl
 linesBefore-cond Ah n = refl
+
+-- How many lines a word has before, after, between.
+pub constant-five : (w : Constant) (n : ℕ) → length (constantLines w n) ≤ 5
+unfolding constantLines trueLines
+constant-five True n = omega arith
+constant-five False n = omega arith
+
+pub before-four : (w : Unary) (n : ℕ) → length (linesBefore w n) ≤ 4
+unfolding linesBefore trueLines
+before-four Not n = omega arith
+before-four Ey n = omega arith
+before-four Ep n = omega arith
+before-four Ap n = omega arith
+before-four Ay n = omega arith
+before-four Eh n = omega arith
+before-four Ah n = omega arith
+
+pub after-three : (w : Unary) (t a : ℕ) → length (linesAfter w t a) ≤ 3
+unfolding linesAfter
+after-three Not t a = omega arith
+after-three Ey t a = omega arith
+after-three Ep t a = omega arith
+after-three Ap t a = omega arith
+after-three Ay t a = omega arith
+after-three Eh t a = omega arith
+after-three Ah t a = omega arith
+
+pub between-one : (w : Binary) (a : ℕ) → length (linesBetween w a) ≤ 1
+unfolding linesBetween
+between-one And a = omega arith
+between-one Es a = omega arith
+between-one As a = omega arith
+between-one Or a = omega arith
+
+pub both-three : (w : Binary) (a b : ℕ) → length (linesAfterBoth w a b) ≤ 3
+unfolding linesAfterBoth
+both-three And a b = omega arith
+both-three Es a b = omega arith
+both-three As a b = omega arith
+both-three Or a b = omega arith
 
 -- Faults
 

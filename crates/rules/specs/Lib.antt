@@ -18,6 +18,7 @@ pub mod ReaderPlace
 pub mod WordSteps
 pub mod Laying
 pub mod LayingLaws
+pub mod ReaderSteps
 pub mod RuleTable
 pub mod TableBytes
 pub mod TableBytesLaws

@@ -6,9 +6,10 @@ ghost use mathlib.Core.List.{[], _∷_};
 ghost use lib.ListN.{length};
 ghost use Rattle.codec.specs.Bit.{bit};
 ghost use Rattle.rules.specs.Text.{byteAt};
-ghost use Rattle.rules.specs.Reader.{restAt, aWordAt, eWordAt, wordAt};
+ghost use Rattle.rules.specs.Formula.{constant};
+ghost use Rattle.rules.specs.Reader.{restAt, aWordAt, eWordAt, wordAt, atomAt, closeAt, innerWith, formAt};
 ghost use Rattle.rules.specs.Line.{line, trueLines, constantLines, linesBefore, linesAfter, linesBetween, linesAfterBoth};
-ghost use Rattle.rules.specs.Laying.{lay, hasTrue, digitAt, closeRead};
+ghost use Rattle.rules.specs.Laying.{lay, hasTrue, digitAt, closeRead, Done, Room};
 ghost use Rattle.rules.specs.Table.{goodLine, goodTable};
 ghost use Rattle.rules.specs.TableBytes.{lineAt, linesOf};
 ghost use Rattle.rules.specs.Judge.{propositionJudged, notJudged, andJudged, eyJudged, esJudged, asJudged, judgeLine, withBit, judge as judged};
@@ -423,6 +424,42 @@ fn close(text: &[u8], place: usize, laid: usize, closed: usize) -> Read
     } else {
         Read::Refused { number: 3, place }
     }
+}
+
+// (at p b) from behind its word on.
+fn read_atom(text: &[u8], k: u32, place: usize, laid: usize, closed: usize, table: &mut [u8]) -> Read
+    requires { ⌜ (length (now table) ≡ 600) × (place ≤ 900) × (laid < 200) × (closed ≤ 64) ⌝ }
+    ensures { λ r. ⌜ Done laid closed (now (table .entry)) (now (table .exit)) (atomAt (now (text .entry)) k closed place) r ⌝ }
+{
+    if byte_at(text, place) != b' ' as u32 {
+        return Read::Refused { number: 1, place };
+    }
+    let first = read_digit(text, place + 1, k);
+    match first {
+        DigitRead::NoDigit { number } => Read::Refused { number, place: place + 1 },
+        DigitRead::Digit { value: p } => {
+            if byte_at(text, place + 2) != b' ' as u32 {
+                return Read::Refused { number: 1, place: place + 2 };
+            }
+            let second = read_digit(text, place + 3, 8);
+            match second {
+                DigitRead::NoDigit { number } => Read::Refused { number, place: place + 3 },
+                DigitRead::Digit { value: b } => {
+                    put_line(table, laid, 0, p, b);
+                    close(text, place + 4, laid + 1, closed + 1)
+                }
+            }
+        }
+    }
+}
+
+// A word alone, from behind it on.
+fn read_constant(text: &[u8], word: Constant, place: usize, laid: usize, closed: usize, table: &mut [u8]) -> Read
+    requires { ⌜ (length (now table) ≡ 600) × (place ≤ 900) × (laid + 5 ≤ 200) × (closed ≤ 64) ⌝ }
+    ensures { λ r. ⌜ Done laid closed (now (table .entry)) (now (table .exit)) (closeAt (now (text .entry)) closed place (constant word)) r ⌝ }
+{
+    let end = lay_constant(table, word, laid);
+    close(text, place, end, closed + (end - laid))
 }
 
 // ---- Judging a frontier
