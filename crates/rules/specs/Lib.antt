@@ -19,6 +19,8 @@ pub mod WordSteps
 pub mod Laying
 pub mod LayingLaws
 pub mod ReaderSteps
+pub mod FormSteps
+pub mod FormDone
 pub mod RuleTable
 pub mod TableBytes
 pub mod TableBytesLaws

@@ -1,6 +1,6 @@
 // The rule language: reading a rule's text to a table of lines, checking a table, and judging a frontier by it.
 
-ghost use Prim.Native.Nat.{_+_, _*_, _^_, _≤_, _<_};
+ghost use Prim.Native.Nat.{_+_, _-_, _*_, _^_, _≤_, _<_};
 ghost use mathlib.Core.Path.{_≡_};
 ghost use mathlib.Core.List.{[], _∷_};
 ghost use lib.ListN.{length};
@@ -460,6 +460,82 @@ fn read_constant(text: &[u8], word: Constant, place: usize, laid: usize, closed:
 {
     let end = lay_constant(table, word, laid);
     close(text, place, end, closed + (end - laid))
+}
+
+// Behind the form inside a word with one form: the lines after it, and the closing bracket. `end` and `count` are what the form
+// inside left, `added` lines were laid down before it.
+fn close_unary(text: &[u8], word: Unary, truth: usize, added: usize, place: usize, end: usize, count: usize, table: &mut [u8]) -> Read
+    requires { ⌜ (length (now table) ≡ 600) × (truth < 200) × (0 < end) × (end + 3 ≤ 200) × (place ≤ 1024) ⌝ }
+    requires { ⌜ (added ≤ 4) × (count ≤ 64) ⌝ }
+    ensures { λ r. ⌜ r ≡ closeRead (now (text .entry)) place (end + length (linesAfter word truth (end - 1))) (count + added + length (linesAfter word truth (end - 1))) ⌝ }
+    ensures { λ r. ⌜ now (table .exit) ≡ lay (now (table .entry)) end (linesAfter word truth (end - 1)) ⌝ }
+{
+    let total = lay_after(table, word, truth, end - 1);
+    close(text, place, total, count + added + (total - end))
+}
+
+// Behind both forms inside a word with two forms. `first` is the first one's last line, `added` lines were laid down between.
+fn close_binary(text: &[u8], word: Binary, first: usize, added: usize, place: usize, end: usize, count: usize, table: &mut [u8]) -> Read
+    requires { ⌜ (length (now table) ≡ 600) × (first + 1 < end) × (end + 3 ≤ 200) × (place ≤ 1024) ⌝ }
+    requires { ⌜ (added ≤ 4) × (count ≤ 64) ⌝ }
+    ensures { λ r. ⌜ r ≡ closeRead (now (text .entry)) place (end + length (linesAfterBoth word first (end - 1))) (count + added + length (linesAfterBoth word first (end - 1))) ⌝ }
+    ensures { λ r. ⌜ now (table .exit) ≡ lay (now (table .entry)) end (linesAfterBoth word first (end - 1)) ⌝ }
+{
+    let total = lay_after_both(table, word, first, end - 1);
+    close(text, place, total, count + added + (total - end))
+}
+
+// A space and a form inside another.
+fn read_inner(text: &[u8], k: u32, allowance: usize, place: usize, laid: usize, closed: usize, table: &mut [u8]) -> Read
+    requires { ⌜ Room allowance laid closed (place + 1) (now table) ⌝ }
+    ensures { λ r. ⌜ Done laid closed (now (table .entry)) (now (table .exit)) (innerWith (formAt allowance (now (text .entry)) k) (now (text .entry)) closed place) r ⌝ }
+{
+    if byte_at(text, place) != b' ' as u32 {
+        return Read::Refused { number: 1, place };
+    }
+    read_form(text, k, allowance, place + 1, laid, closed, table)
+}
+
+// The form at a place, with brackets nested at most as deep as the allowance. `laid` lines are laid down so far, and `closed` are those of the
+// forms closed so far.
+fn read_form(text: &[u8], k: u32, allowance: usize, place: usize, laid: usize, closed: usize, table: &mut [u8]) -> Read
+    requires { ⌜ Room allowance laid closed place (now table) ⌝ }
+    ensures { λ r. ⌜ Done laid closed (now (table .entry)) (now (table .exit)) (formAt allowance (now (text .entry)) k closed place) r ⌝ }
+{
+    if byte_at(text, place) != b'(' as u32 {
+        return Read::Refused { number: 1, place };
+    }
+    if allowance == 0 {
+        return Read::Refused { number: 2, place };
+    }
+    let found = read_word(text, place + 1);
+    match found {
+        WordRead::AtWord { next } => read_atom(text, k, next, laid, closed, table),
+        WordRead::ConstantWord { word, next } => read_constant(text, word, next, laid, closed, table),
+        WordRead::UnaryWord { word, next } => {
+            let start = lay_before(table, word, laid);
+            let inner = read_inner(text, k, allowance - 1, next, start, closed, table);
+            match inner {
+                Read::Form { place: at, laid: end, closed: count } => close_unary(text, word, laid + 3, start - laid, at, end, count, table),
+                Read::Refused { number, place: at } => Read::Refused { number, place: at },
+            }
+        }
+        WordRead::BinaryWord { word, next } => {
+            let first = read_inner(text, k, allowance - 1, next, laid, closed, table);
+            match first {
+                Read::Form { place: middle, laid: half, closed: some } => {
+                    let start = lay_between(table, word, half - 1);
+                    let second = read_inner(text, k, allowance - 1, middle, start, some, table);
+                    match second {
+                        Read::Form { place: at, laid: end, closed: count } => close_binary(text, word, half - 1, start - half, at, end, count, table),
+                        Read::Refused { number, place: at } => Read::Refused { number, place: at },
+                    }
+                }
+                Read::Refused { number, place: at } => Read::Refused { number, place: at },
+            }
+        }
+        WordRead::NoWord { place: at } => Read::Refused { number: 1, place: at },
+    }
 }
 
 // ---- Judging a frontier
