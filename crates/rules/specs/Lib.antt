@@ -22,6 +22,7 @@ pub mod ReaderSteps
 pub mod FormSteps
 pub mod FormDone
 pub mod RuleTable
+pub mod RuleTableLaws
 pub mod TableBytes
 pub mod TableBytesLaws
 pub mod Judge
