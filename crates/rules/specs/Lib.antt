@@ -1,24 +1,36 @@
--- The definitions of rules, and their laws.
+-- The rule language and PaCTL: from a text to a form, to lines, to their truth at a cut.
+
+-- What a reader has to believe
 pub mod Formula
 pub mod Line
 pub mod Table
+pub mod Text
+pub mod Reader
+pub mod Fault
+pub mod Truth
+pub mod Judge
+pub mod TableBytes
+pub mod Laying
+pub mod RuleTable
+
+-- What is proved of lines and tables
 pub mod LineLaws
 pub mod TableLaws
-pub mod Text
-pub mod TextLaws
-pub mod Reader
-pub mod Truth
+pub mod TableBytesLaws
+pub mod LayingLaws
+pub mod RuleTableLaws
+
+-- What is proved of truth
 pub mod TruthLaws
 pub mod TruthLocal
 pub mod LineTruthLaws
 pub mod LinesMean
-pub mod TableBytes
-pub mod TableBytesLaws
-pub mod Judge
 pub mod JudgeLaws
 pub mod JudgeTruth
+
+-- What is proved of the reader
+pub mod TextLaws
 pub mod ReaderExamples
-pub mod Fault
 pub mod WordLaws
 pub mod ReaderLaws
 pub mod ReaderPlace
@@ -35,3 +47,7 @@ pub mod FaultLaws
 pub mod ReaderStops
 pub mod FormStops
 pub mod GrammarTheorem
+pub mod WordSteps
+pub mod ReaderSteps
+pub mod FormSteps
+pub mod FormDone
