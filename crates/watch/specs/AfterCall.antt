@@ -42,6 +42,10 @@ use Rattle.watch.specs.Status.{removeAt}
 abbrev pub WatchRight : ℕ → ℕ → List Line → Cut → Watch → Type 0
 WatchRight w k table start W = Watching w k table start (W .ledger) (W .bytes) (W .window)
 
+-- Stands for an event that is not there.
+abbrev pub noEvent : Event
+noEvent = record { mask = 0; clock = []; labels = [] }
+
 -- two tests fail together exactly if each does
 pub or-false : (a b : Bool) → a || b ≡ false → (a ≡ false) × (b ≡ false)
 or-false true b h = absurd (true≢false h)
@@ -54,7 +58,7 @@ room-iff w n total = le-div-iff-mul-le (omega arith)
 
 module _ (w k : ℕ) (table : List Line) (start : Cut) (R : Rule w k table start) where
   -- ---- a window lent longer
-  lengthened : (L : Ledger) (bytes window : List ℕ) → Watching w k table start L bytes window → (zeros : ℕ) → Watching w k table start L bytes (window ++ replicate zeros 0)
+  pub lengthened : (L : Ledger) (bytes window : List ℕ) → Watching w k table start L bytes window → (zeros : ℕ) → Watching w k table start L bytes (window ++ replicate zeros 0)
   lengthened L bytes window X zeros = record
     { kept = X .kept
     ; bytes-are = X .bytes-are
@@ -111,19 +115,16 @@ module _ (w k : ℕ) (table : List Line) (start : Cut) (R : Rule w k table start
         (rw (h, n, read, says-pending w k table start R L bytes lent X), rw (h, n, read, says-pending w k table start R L bytes lent X))
 
     -- what the trial comes to
-    abbrev pub none : Event
-    none = record { mask = 0; clock = []; labels = [] }
-
-    pub trial : Outcome w bytes (roomOf w (length lent)) (X .kept) 0 false (L .pending) none
-    trial = outcome w bytes (roomOf w (length lent)) (X .kept) none 0 false (L .pending)
+    pub trial : Outcome w bytes (roomOf w (length lent)) (X .kept) 0 false (L .pending) noEvent
+    trial = outcome w bytes (roomOf w (length lent)) (X .kept) noEvent 0 false (L .pending)
 
     -- of a pending event, by the taken events
     module _ (j : ℕ) (l : j < length (L .pending)) where
       abbrev e : Event
-      e = getD (L .pending) j none
+      e = getD (L .pending) j noEvent
 
       formed : WellFormed k e
-      formed = X .right .formed e (place-member (L .pending) j none l)
+      formed = X .right .formed e (place-member (L .pending) j noEvent l)
 
       is-ready : T (readyIn w bytes e) → Ready e (taken (L .history))
       is-ready = ready-in w k table start R L bytes lent X e formed .0
@@ -163,19 +164,19 @@ module _ (w k : ℕ) (table : List Line) (start : Cut) (R : Rule w k table start
     unfolding ledgerAfter decided
     take-right h = go trial
       where
-        go : Outcome w bytes (roomOf w (length lent)) (X .kept) 0 false (L .pending) none
+        go : Outcome w bytes (roomOf w (length lent)) (X .kept) 0 false (L .pending) noEvent
             → Watching w k table start (ledgerAfter w bytes L decision) (decided w bytes lent (X .kept) decision .bytes) (decided w bytes lent (X .kept) decision .window)
         go (none-decides b q u o) = rw q X
         go (falsifies j l q r n) =
             let i : 0 + j ≡ j = omega arith in
-            rw (q, i, says-event w k table start R L bytes lent X j none l)
-            (subst (Watching w k table start (record { history = L .history; pending = removeAt j (L .pending); falsified = getD (L .pending) j none ∷ L .falsified }) (removed w bytes j)) (sym (X .window-is))
-            (falsified-watching w k table start R L bytes lent X j none l (is-ready j l r) (is-false j l n) (length lent) (omega arith)))
+            rw (q, i, says-event w k table start R L bytes lent X j noEvent l)
+            (subst (Watching w k table start (record { history = L .history; pending = removeAt j (L .pending); falsified = getD (L .pending) j noEvent ∷ L .falsified }) (removed w bytes j)) (sym (X .window-is))
+            (falsified-watching w k table start R L bytes lent X j noEvent l (is-ready j l r) (is-false j l n) (length lent) (omega arith)))
         go (chooses j l q r v f) =
             let i : 0 + j ≡ j = omega arith in
             let many : length (gs j l) ≤ roomOf w (length lent) = fits-room j l f in
-            rw (q, i, says-event w k table start R L bytes lent X j none l, setting-in w k table start R L bytes lent X (getD (L .pending) j none))
-            (taken-watching w k table start R L bytes lent X j none l (is-ready j l r) (is-valid j l v) (length lent)
+            rw (q, i, says-event w k table start R L bytes lent X j noEvent l, setting-in w k table start R L bytes lent X (getD (L .pending) j noEvent))
+            (taken-watching w k table start R L bytes lent X j noEvent l (is-ready j l r) (is-valid j l v) (length lent)
             (room-iff w (length (gs j l)) (length lent) .0 many) (le-trans many (room-1024 h)))
 
   -- ---- Theorem

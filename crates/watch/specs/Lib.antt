@@ -34,3 +34,4 @@ pub mod Deciding
 pub mod TakeLaws
 pub mod AfterCall
 pub mod OpenLaws
+pub mod Balance

@@ -41,7 +41,7 @@ use Rattle.watch.specs.Status.{recordBytes}
 use Rattle.watch.specs.SetterLaws.{firstRecord-recordBytes}
 
 pub data OpenCase (w : ℕ) (text : List ℕ) (k : ℕ) (labels s window : List ℕ) : Type 0 where
-  turned : (n i : ℕ) → openCall w text k labels s window ≡ record { answer = turnedBack n i; bytes = s; window = window } → OpenCase w text k labels s window
+  turned-back : (n i : ℕ) → openCall w text k labels s window ≡ record { answer = turnedBack n i; bytes = s; window = window } → OpenCase w text k labels s window
   opens : (f : Formula) (i : ℕ) → badWindowLength w (length window) ≡ false → badProcesses k ≡ false → badStart k labels ≡ false → readRule text k ≡ formed i f
       → openCall w text k labels s window ≡ openTable w (linesAt 0 f) k labels (length window) → OpenCase w text k labels s window
 
@@ -52,10 +52,10 @@ open-case w text k labels s window =
   where
     go : (a : Bool) → badRecordLength w (length s) || badWindowLength w (length window) ≡ a → (b : Bool) → badProcesses k ≡ b → (c : Bool) → badStart k labels ≡ c
         → (r : Reading) → readRule text k ≡ r → OpenCase w text k labels s window
-    go true h6 b h5 c h9 r h = turned 6 0 (rw h6)
-    go false h6 true h5 c h9 r h = turned 5 0 (rw (h6, h5))
-    go false h6 false h5 true h9 r h = turned 9 0 (rw (h6, h5, h9))
-    go false h6 false h5 false h9 (refused n i) h = turned n i (rw (h6, h5, h9, h))
+    go true h6 b h5 c h9 r h = turned-back 6 0 (rw h6)
+    go false h6 true h5 c h9 r h = turned-back 5 0 (rw (h6, h5))
+    go false h6 false h5 true h9 r h = turned-back 9 0 (rw (h6, h5, h9))
+    go false h6 false h5 false h9 (refused n i) h = turned-back n i (rw (h6, h5, h9, h))
     go false h6 false h5 false h9 (formed i f) h = opens f i (or-false (badRecordLength w (length s)) (badWindowLength w (length window)) h6 .1) h5 h9 h (rw (h6, h5, h9, h))
 
 -- ---- the bytes of good lines
