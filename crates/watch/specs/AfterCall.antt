@@ -126,10 +126,10 @@ module _ (w k : ℕ) (table : List Line) (start : Cut) (R : Rule w k table start
       formed : WellFormed k e
       formed = X .right .formed e (place-member (L .pending) j noEvent l)
 
-      is-ready : T (readyIn w bytes e) → Ready e (taken (L .history))
+      pub is-ready : T (readyIn w bytes e) → Ready e (taken (L .history))
       is-ready = ready-in w k table start R L bytes lent X e formed .0
 
-      is-valid : T (validIn w bytes e) → Joined 8 (L .history) e
+      pub is-valid : T (validIn w bytes e) → Joined 8 (L .history) e
       is-valid = valid-in w k table start R L bytes lent X e formed .0
 
       is-false : validIn w bytes e ≡ false → Joined 8 (L .history) e → ⊥

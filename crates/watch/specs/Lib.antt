@@ -35,3 +35,5 @@ pub mod TakeLaws
 pub mod AfterCall
 pub mod OpenLaws
 pub mod Balance
+pub mod Verdicts
+pub mod Reports
