@@ -37,3 +37,4 @@ pub mod OpenLaws
 pub mod Balance
 pub mod Verdicts
 pub mod Reports
+pub mod SoundRun

@@ -20,7 +20,7 @@ use Rattle.clocks.specs.BoundedLaws.{or-e}
 use Rattle.clocks.specs.Refusal.{badStart}
 use Rattle.window.specs.WindowLaws.{length-windowBytes}
 use Rattle.window.specs.StartTheorem.{start-represents}
-use Rattle.window.specs.Represents.{World, Represents, Proper}
+use Rattle.window.specs.Represents.{Represents, Proper}
 use Rattle.window.specs.Start.{startFrontier}
 use Rattle.window.specs.Bytes.{frontierLength, windowBytes}
 use Rattle.rules.specs.Text.{Within}
@@ -117,6 +117,12 @@ module _ (w : ℕ) (text : List ℕ) (k : ℕ) (labels window : List ℕ) (some-
   abbrev W : Watch
   W = opened (openTable w table k labels (length window))
 
+  -- its window holds the one cut of zeros
+  pub opened-start : Represents (worldOf k table (at labels)) [] (startFrontier 8 labels table ∷ [])
+  opened-start =
+      let P : Proper (worldOf k table (at labels)) (Joined 8) [] = record { some-process = processes .0; room = processes .1; rule = joined-rule k 8; by-rule = tt; good = opened-rule .good } in
+      subst (λ (ls : List ℕ). Represents (worldOf k table (at labels)) [] (startFrontier 8 ls table ∷ [])) (listOf-at 8 labels eight) (start-represents (worldOf k table (at labels)) (Joined 8) P)
+
   pub opened-right : WatchRight w k table (at labels) W
   unfolding openTable badWindowLength taken lastClock clockOf event
   opened-right = record
@@ -125,7 +131,7 @@ module _ (w : ℕ) (text : List ℕ) (k : ℕ) (labels window : List ℕ) (some-
     ; window-is = ap (λ (t : ℕ). windowBytes w t (startFrontier 8 labels table ∷ [])) (sym long)
     ; room = omega (arith, long, one-frontier)
     ; few = omega arith
-    ; represents = start
+    ; represents = opened-start
     ; right = record
         { by-rule = tt
         ; formed = λ e m. absurd (List·Memᴰ·not-nil m)
@@ -140,15 +146,6 @@ module _ (w : ℕ) (text : List ℕ) (k : ℕ) (labels window : List ℕ) (some-
     ; many = omega arith
     }
     where
-      world : World
-      world = worldOf k table (at labels)
-
-      P : Proper world (Joined 8) []
-      P = record { some-process = processes .0; room = processes .1; rule = joined-rule k 8; by-rule = tt; good = opened-rule .good }
-
-      start : Represents world [] (startFrontier 8 labels table ∷ [])
-      start = subst (λ (ls : List ℕ). Represents world [] (startFrontier 8 ls table ∷ [])) (listOf-at 8 labels eight) (start-represents world (Joined 8) P)
-
       one-frontier : 1 * frontierLength w ≤ length window
       one-frontier = omega (arith, ltb-false (length window) (frontierLength w) (or-false (ltb (length window) (frontierLength w)) (ltb (1024 * frontierLength w) (length window) || not (eqb (length window % frontierLength w) 0)) h6 .0))
 
@@ -159,4 +156,4 @@ module _ (w : ℕ) (text : List ℕ) (k : ℕ) (labels window : List ℕ) (some-
       no-clocks = fun-ext (λ p. fun-ext (λ q. refl))
 
       long : length (windowBytes w (length window) (startFrontier 8 labels table ∷ [])) ≡ length window
-      long = length-windowBytes w (length window) (startFrontier 8 labels table ∷ []) (all-shaped w [] tt (λ e m. absurd (List·Memᴰ·not-nil m)) k table (at labels) (opened-rule .short) bytes (startFrontier 8 labels table ∷ []) start) one-frontier
+      long = length-windowBytes w (length window) (startFrontier 8 labels table ∷ []) (all-shaped w [] tt (λ e m. absurd (List·Memᴰ·not-nil m)) k table (at labels) (opened-rule .short) bytes (startFrontier 8 labels table ∷ []) opened-start) one-frontier

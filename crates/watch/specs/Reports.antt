@@ -4,7 +4,7 @@ use Prim.Native.Nat.{ℕ, _+_, _-_, _<_}
 use native.Mathlib.Omega.{arith}
 use mathlib.Core.Path.{_≡_, sym, refl}
 use mathlib.Core.Bool.{Bool, true, false, cond, _||_}
-use mathlib.Core.List.{List, _∷_, List·Memᴰ·cases-cons, _++_, [], map}
+use mathlib.Core.List.{List, _∷_, List·Memᴰ·cases-cons, _++_, [], map, List·Memᴰ·eq-of-singleton}
 use mathlib.Core.Logic.{⊎-elim, inr}
 use lib.ListN.{length, replicate, getD}
 use lib.Dec.{leb}
@@ -164,3 +164,17 @@ module _ (w k : ℕ) (f : Formula) (start : Cut) (R : Rule w k (linesAt 0 f) sta
           rw (t .0, t .1) (turned-plain (W .ledger) (W .ledger) (W .answers) Y refl 6 0)
       go false h = let t = take-else w k table start R (W .ledger) (W .bytes) (W .window ++ replicate more 0) X″ scratch h in
           rw (t .0, t .1) (decided-reporting W X Y more scratch (trial w k table start R (W .ledger) (W .bytes) (W .window ++ replicate more 0) X″ scratch))
+
+  -- ... and what open reports is true
+  pub open-reporting : (fs : List Frontier) → Represents (worldOf k table start) [] fs → Reporting (record { history = []; pending = []; falsified = [] }) (stateOf (length table) (replicate 8 0) fs ∷ [])
+  unfolding stateOf listOf taken
+  open-reporting fs r = record
+    { truthful = λ c t kept i. here c t kept (List·Memᴰ·eq-of-singleton i)
+    ; quiet = λ prior x. let z : _≡_ {A = ℕ} 0 1 = cc in absurd (omega arith)
+    }
+    where
+      here : (c : List ℕ) (t : Bool) (kept : ℕ) → state c t kept ≡ state (replicate 8 0) (bit (getD (map (λ g. g .values) fs) (length fs - 1) 0) (length table - 1)) (length fs) → TrueVerdict k f start [] c t
+      here c t kept x =
+          let a : c ≡ replicate 8 0 = cc in
+          let b : t ≡ bit (getD (map (λ g. g .values) fs) (length fs - 1) 0) (length table - 1) = cc in
+          rw b (state-true k f start w R [] tt fs r c a)
