@@ -12,14 +12,12 @@ pub mod Judge
 pub mod TableBytes
 pub mod Laying
 pub mod RuleTable
-
 -- What is proved of lines and tables
 pub mod LineLaws
 pub mod TableLaws
 pub mod TableBytesLaws
 pub mod LayingLaws
 pub mod RuleTableLaws
-
 -- What is proved of truth
 pub mod TruthLaws
 pub mod TruthLocal
@@ -27,7 +25,6 @@ pub mod LineTruthLaws
 pub mod LinesMean
 pub mod JudgeLaws
 pub mod JudgeTruth
-
 -- What is proved of the reader
 pub mod TextLaws
 pub mod ReaderExamples

@@ -59,20 +59,20 @@ room-iff w n total = le-div-iff-mul-le (omega arith)
 module _ (w k : ℕ) (table : List Line) (start : Cut) (R : Rule w k table start) where
   -- ---- a window lent longer
   pub lengthened : (L : Ledger) (bytes window : List ℕ) → Watching w k table start L bytes window → (zeros : ℕ) → Watching w k table start L bytes (window ++ replicate zeros 0)
-  lengthened L bytes window X zeros = record
-    { kept = X .kept
-    ; bytes-are = X .bytes-are
-    ; window-is = lent-longer w k table start R L bytes window X zeros ∙ ap (λ (t : ℕ). windowBytes w t (X .kept)) (sym long)
-    ; room = omega (arith, long, X .room)
-    ; few = X .few
-    ; represents = X .represents
-    ; right = X .right
-    ; ordered = X .ordered
-    ; clear = X .clear
-    ; faultless = X .faultless
-    ; storable = X .storable
-    ; many = X .many
-    }
+  lengthened L bytes window X zeros = record {
+    kept = X .kept;
+    bytes-are = X .bytes-are;
+    window-is = lent-longer w k table start R L bytes window X zeros ∙ ap (λ (t : ℕ). windowBytes w t (X .kept)) (sym long);
+    room = omega (arith, long, X .room);
+    few = X .few;
+    represents = X .represents;
+    right = X .right;
+    ordered = X .ordered;
+    clear = X .clear;
+    faultless = X .faultless;
+    storable = X .storable;
+    many = X .many;
+  }
     where
       long : length (window ++ replicate zeros 0) ≡ length window + zeros
       long = length-append window (replicate zeros 0) ∙ ap (λ (n : ℕ). length window + n) (length-replicate zeros 0)

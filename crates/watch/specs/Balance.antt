@@ -57,10 +57,10 @@ module _ (w k : ℕ) (table : List Line) (start : Cut) (R : Rule w k table start
       go : OfferCase w mask clock labels (W .bytes) → WatchBalanced (after w (offers mask clock labels) W)
       go (turned n q) = rw q B
       go (accepted h7 h8 h9 h31 h32 h33 q) = rw q
-          (record
-            { each = λ e. omega (arith, B .each e, occurs-insert e (placeAmong (offeredEvent mask clock labels) (pendingEvents w (W .bytes))) (offeredEvent mask clock labels) (W .ledger .pending))
-            ; total = omega (arith, B .total, length-insertAt (placeAmong (offeredEvent mask clock labels) (pendingEvents w (W .bytes))) (offeredEvent mask clock labels) (W .ledger .pending))
-            })
+          (record {
+            each = λ e. omega (arith, B .each e, occurs-insert e (placeAmong (offeredEvent mask clock labels) (pendingEvents w (W .bytes))) (offeredEvent mask clock labels) (W .ledger .pending));
+            total = omega (arith, B .total, length-insertAt (placeAmong (offeredEvent mask clock labels) (pendingEvents w (W .bytes))) (offeredEvent mask clock labels) (W .ledger .pending));
+          })
 
   after-take : (W : Watch) → WatchRight w k table start W → WatchBalanced W → (more : ℕ) (scratch : List ℕ) → WatchBalanced (after w (takes more scratch) W)
   unfolding after ledgerAfter occurrences
@@ -87,17 +87,17 @@ module _ (w k : ℕ) (table : List Line) (start : Cut) (R : Rule w k table start
       decide (falsifies j l q r n) t =
           let i : 0 + j ≡ j = omega arith in
           rw (t ∙ q, i, event-is j l)
-          (record
-            { each = λ e. omega (arith, B .each e, occurs-remove e j (L .pending) noEvent l)
-            ; total = omega (arith, B .total, length-removeAt j (L .pending) l)
-            })
+          (record {
+            each = λ e. omega (arith, B .each e, occurs-remove e j (L .pending) noEvent l);
+            total = omega (arith, B .total, length-removeAt j (L .pending) l);
+          })
       decide (chooses j l q r v f) t =
           let i : 0 + j ≡ j = omega arith in
           rw (t ∙ q, i, event-is j l)
-          (record
-            { each = λ e. omega (arith, B .each e, occurs-remove e j (L .pending) noEvent l)
-            ; total = omega (arith, B .total, length-removeAt j (L .pending) l)
-            })
+          (record {
+            each = λ e. omega (arith, B .each e, occurs-remove e j (L .pending) noEvent l);
+            total = omega (arith, B .total, length-removeAt j (L .pending) l);
+          })
 
       go : (b : Bool) → badLengths w k table start R L bytes lent X′ scratch ≡ b → WatchBalanced (after w (takes more scratch) W)
       go true h = rw (take-6 w k table start R L bytes lent X′ scratch h .1) B

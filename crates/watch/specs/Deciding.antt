@@ -31,10 +31,11 @@ module _ (w : ℕ) (s : List ℕ) (allowed : ℕ) (fs : List Frontier) (d : Even
       → (T (readyIn w s e) → T (validIn w s e) × (fits (settingIn w s e) allowed fs ≡ false)) → (T seen′ ↔ (T seen ⊎ T (readyIn w s e)))
       → Outcome w s allowed fs (i + 1) seen′ es d → Outcome w s allowed fs i seen (e ∷ es) d
   passed-over i seen seen′ e es q h g (none-decides after t u o) = none-decides after (q ∙ t)
-      (λ f m r. ⊎-elim (λ x. rw x (h (rw x at r))) (λ n. u f n r) (List·Memᴰ·cases-cons m))
-      ((λ a. ⊎-elim (λ x. ⊎-elim (λ y. inl y) (λ y. inr (e, List·Memᴰ·head refl, y)) (g .0 x)) (λ x. inr (x .0, List·Memᴰ·tail (x .1), x .2)) (o .0 a))
-      , ⊎-elim (λ a. o .1 (inl (g .1 (inl a))))
-          (λ x. ⊎-elim (λ y. o .1 (inl (g .1 (inr (rw y at (x .2)))))) (λ y. o .1 (inr (x .0, y, x .2))) (List·Memᴰ·cases-cons (x .1))))
+      (λ f m r. ⊎-elim (λ x. rw x (h (rw x at r))) (λ n. u f n r) (List·Memᴰ·cases-cons m)) (
+        (λ a. ⊎-elim (λ x. ⊎-elim (λ y. inl y) (λ y. inr (e, List·Memᴰ·head refl, y)) (g .0 x)) (λ x. inr (x .0, List·Memᴰ·tail (x .1), x .2)) (o .0 a)),
+        ⊎-elim (λ a. o .1 (inl (g .1 (inl a))))
+            (λ x. ⊎-elim (λ y. o .1 (inl (g .1 (inr (rw y at (x .2)))))) (λ y. o .1 (inr (x .0, y, x .2))) (List·Memᴰ·cases-cons (x .1))),
+      )
   passed-over i seen seen′ e es q h g (falsifies j l t r n) = falsifies (suc j) (omega arith) (q ∙ t ∙ ap false-clock (omega arith)) r n
   passed-over i seen seen′ e es q h g (chooses j l t r a f) = chooses (suc j) (omega arith) (q ∙ t ∙ ap chosen (omega arith)) r a f
 

@@ -138,8 +138,7 @@ module _ (k : ℕ) (valid : List Event → Event → Type 0) (r : ClockRule k va
 
 -- ---- Theorem
 module _ (k : ℕ) (valid : List Event → Event → Type 0) (r : ClockRule k valid) (L M : Ledger) (K : Kept-right k valid L) (N : Kept-right k valid M)
-  (S : Settled L) (U : Settled M) (b : (e : Event) → accounted e L ≡ accounted e M) where
-
+    (S : Settled L) (U : Settled M) (b : (e : Event) → accounted e L ≡ accounted e M) where
   pub same-taken-events : Same (L .history) (M .history)
   same-taken-events = record { there = all-taken k valid r L M K N U b; back = all-taken k valid r M L N K S (λ e. sym (b e)) }
 

@@ -11,7 +11,6 @@ pub mod Open
 pub mod Status
 pub mod Ledger
 pub mod Run
-
 -- What is proved of the record's bytes
 pub mod InsertLaws
 pub mod PlaceLaws
@@ -23,7 +22,6 @@ pub mod RoomLaws
 pub mod PendingLaws
 pub mod SetterLaws
 pub mod StatusLaws
-
 -- What is proved of lists of calls
 pub mod Delivery
 pub mod Watching
@@ -38,3 +36,4 @@ pub mod Balance
 pub mod Verdicts
 pub mod Reports
 pub mod SoundRun
+pub mod Demand3

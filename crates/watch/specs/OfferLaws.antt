@@ -60,7 +60,6 @@ offer-case w mask clock labels s = go6 (badRecordLength w (length s)) refl
     Out : Type 0
     Out = OfferCase w mask clock labels s
 
-
     go6 : (b : Bool) → badRecordLength w (length s) ≡ b → Out
     go6 true h6 = turned 6 (rw h6)
     go6 false h6 = go34 (badState w 1024 s) refl
@@ -104,19 +103,18 @@ lowest-below k e f l = lowest-lt e (positive (e .mask) (f .occupied .0) (f .occu
 
 -- ---- An event that was accepted
 module _ (w k : ℕ) (table : List Line) (start : Cut) (R : Rule w k table start) (L : Ledger) (bytes window : List ℕ) (X : Watching w k table start L bytes window)
-  (mask : ℕ) (clock labels : List ℕ) (passed : Passed w (offers mask clock labels)) where
-
+    (mask : ℕ) (clock labels : List ℕ) (passed : Passed w (offers mask clock labels)) where
   abbrev e : Event
   e = offeredEvent mask clock labels
 
   offered-storable : Storable w e
-  offered-storable = record
-    { mask-fits = omega arith
-    ; eight-counts = passed .1
-    ; counts-fit = passed .2
-    ; eight-labels = passed .3
-    ; labels-fit = passed .4
-    }
+  offered-storable = record {
+    mask-fits = omega arith;
+    eight-counts = passed .1;
+    counts-fit = passed .2;
+    eight-labels = passed .3;
+    labels-fit = passed .4;
+  }
 
   offered-faultless : badMask k mask ≡ false → badClock k mask clock ≡ false → badLabels mask labels ≡ false → Faultless k e
   offered-faultless h7 h8 h9 =
@@ -142,7 +140,7 @@ module _ (w k : ℕ) (table : List Line) (start : Cut) (R : Rule w k table start
       let bf : involved f (lowest e) ≡ true = rw p at (lowest-involved f y) in
       let same : at (e .clock) (lowest e) ≡ at (f .clock) (lowest e) = sym c ∙ ap (at (f .clock)) p in
       let meets : T (anyBelow 8 (λ o. (involved e o && involved f o) && eqb (at (e .clock) o) (at (f .clock) o))) =
-          any-i 8 (λ o. (involved e o && involved f o) && eqb (at (e .clock) o) (at (f .clock) o)) (lowest e) x (rw (be, bf, eq-eqb (at (e .clock) (lowest e)) (at (f .clock) (lowest e)) same) tt) in
+      any-i 8 (λ o. (involved e o && involved f o) && eqb (at (e .clock) o) (at (f .clock) o)) (lowest e) x (rw (be, bf, eq-eqb (at (e .clock) (lowest e)) (at (f .clock) (lowest e)) same) tt) in
       subst T h (any-of-i (conflicts e) (L .pending) f m meets)
 
   -- ... and no pending event has one of its counts
@@ -158,8 +156,7 @@ module _ (w k : ℕ) (table : List Line) (start : Cut) (R : Rule w k table start
 
   -- ---- the watch with it
   module _ (h7 : badMask (processCount bytes) mask ≡ false) (h8 : badClock (processCount bytes) mask clock ≡ false) (h9 : badLabels mask labels ≡ false)
-    (h31 : alreadyTaken e (at (takenCounts w bytes)) ≡ false) (h32 : conflicting e (pendingEvents w bytes) ≡ false) (h33 : leb 32 (pendingCount bytes) ≡ false) where
-
+      (h31 : alreadyTaken e (at (takenCounts w bytes)) ≡ false) (h32 : conflicting e (pendingEvents w bytes) ≡ false) (h33 : leb 32 (pendingCount bytes) ≡ false) where
     g : Faultless k e
     g = let p = says-processes w k table start R L bytes window X in offered-faultless (rw p at h7) (rw p at h8) h9
 
@@ -187,24 +184,24 @@ module _ (w k : ℕ) (table : List Line) (start : Cut) (R : Rule w k table start
 
     -- of each pending event, the new one or an old one
     pub accepted-watching : Watching w k table start with-event (inserted w bytes (placeAmong e (pendingEvents w bytes)) e) window
-    accepted-watching = record
-      { kept = X .kept
-      ; bytes-are = rw (says-pending w k table start R L bytes window X) (ap (λ (s : List ℕ). inserted w s i e) (X .bytes-are)
-          ∙ inserted-recordBytes w (statusOf k table (length (X .kept)) L) (sized w k table start R L bytes window X) i e inside free offered-storable)
-      ; window-is = X .window-is
-      ; room = X .room
-      ; few = X .few
-      ; represents = X .represents
-      ; right = record
-          { by-rule = X .right .by-rule
-          ; formed = λ f m. ⊎-elim (λ q. rw q (g .formed)) (X .right .formed f) (member-insertAt i e (L .pending) f .0 m)
-          ; untaken = λ f m. ⊎-elim (λ q. rw q untaken-e) (X .right .untaken f) (member-insertAt i e (L .pending) f .0 m)
-          ; was-ready = X .right .was-ready
-          ; eight = λ f. ⊎-elim (λ m. X .right .eight f (inl m)) (⊎-elim (λ m. ⊎-elim (λ q. rw q eight-e) (λ n. X .right .eight f (inr (inl n))) (member-insertAt i e (L .pending) f .0 m)) (λ m. X .right .eight f (inr (inr m))))
-          }
-      ; ordered = insert-ordered e (L .pending) (X .ordered) (offered-key g (rw (says-pending w k table start R L bytes window X) at h32))
-      ; clear = clear-insert i e (L .pending) (X .clear) (λ f m. offered-clear (rw (says-pending w k table start R L bytes window X) at h32) f m g)
-      ; faultless = λ f m. ⊎-elim (λ q. rw q g) (X .faultless f) (member-insertAt i e (L .pending) f .0 m)
-      ; storable = λ f. ⊎-elim (λ m. X .storable f (inl m)) (λ m. ⊎-elim (λ q. rw q offered-storable) (λ n. X .storable f (inr n)) (member-insertAt i e (L .pending) f .0 m))
-      ; many = omega (arith, free, length-insertAt i e (L .pending))
-      }
+    accepted-watching = record {
+      kept = X .kept;
+      bytes-are = rw (says-pending w k table start R L bytes window X) (ap (λ (s : List ℕ). inserted w s i e) (X .bytes-are)
+          ∙ inserted-recordBytes w (statusOf k table (length (X .kept)) L) (sized w k table start R L bytes window X) i e inside free offered-storable);
+      window-is = X .window-is;
+      room = X .room;
+      few = X .few;
+      represents = X .represents;
+      right = record {
+        by-rule = X .right .by-rule;
+        formed = λ f m. ⊎-elim (λ q. rw q (g .formed)) (X .right .formed f) (member-insertAt i e (L .pending) f .0 m);
+        untaken = λ f m. ⊎-elim (λ q. rw q untaken-e) (X .right .untaken f) (member-insertAt i e (L .pending) f .0 m);
+        was-ready = X .right .was-ready;
+        eight = λ f. ⊎-elim (λ m. X .right .eight f (inl m)) (⊎-elim (λ m. ⊎-elim (λ q. rw q eight-e) (λ n. X .right .eight f (inr (inl n))) (member-insertAt i e (L .pending) f .0 m)) (λ m. X .right .eight f (inr (inr m))));
+      };
+      ordered = insert-ordered e (L .pending) (X .ordered) (offered-key g (rw (says-pending w k table start R L bytes window X) at h32));
+      clear = clear-insert i e (L .pending) (X .clear) (λ f m. offered-clear (rw (says-pending w k table start R L bytes window X) at h32) f m g);
+      faultless = λ f m. ⊎-elim (λ q. rw q g) (X .faultless f) (member-insertAt i e (L .pending) f .0 m);
+      storable = λ f. ⊎-elim (λ m. X .storable f (inl m)) (λ m. ⊎-elim (λ q. rw q offered-storable) (λ n. X .storable f (inr n)) (member-insertAt i e (L .pending) f .0 m));
+      many = omega (arith, free, length-insertAt i e (L .pending));
+    }

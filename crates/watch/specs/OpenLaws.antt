@@ -85,8 +85,7 @@ table-low k i (l ∷ ls) hk hi g (suc (suc (suc j))) = table-low k (i + 1) ls hk
 
 -- ---- the watch that an accepted open left
 module _ (w : ℕ) (text : List ℕ) (k : ℕ) (labels window : List ℕ) (some-byte : 0 < w) (eight : length labels ≡ 8) (bytes : (p : ℕ) → at labels p < 256)
-  (f : Formula) (i : ℕ) (h6 : badWindowLength w (length window) ≡ false) (h5 : badProcesses k ≡ false) (h : readRule text k ≡ formed i f) where
-
+    (f : Formula) (i : ℕ) (h6 : badWindowLength w (length window) ≡ false) (h5 : badProcesses k ≡ false) (h : readRule text k ≡ formed i f) where
   abbrev table : List Line
   table = linesAt 0 f
 
@@ -103,16 +102,16 @@ module _ (w : ℕ) (text : List ℕ) (k : ℕ) (labels window : List ℕ) (some-
   opened-rule =
       let g : goodTable k table ≡ true = good-linesAt k (processes .0) 0 f (within .below) in
       let n : length table ≡ lineCount f = length-linesAt 0 f in
-      record
-        { some-byte = some-byte
-        ; some-process = processes .0
-        ; eight-processes = processes .1
-        ; good = g
-        ; some-line = omega (arith, n, lineCount-pos f)
-        ; short = omega (arith, n, within .short)
-        ; line-bytes = table-low k 0 table (omega (arith, processes .1)) (omega (arith, n, within .short)) g
-        ; labels-fit = bytes
-        }
+      record {
+        some-byte = some-byte;
+        some-process = processes .0;
+        eight-processes = processes .1;
+        good = g;
+        some-line = omega (arith, n, lineCount-pos f);
+        short = omega (arith, n, within .short);
+        line-bytes = table-low k 0 table (omega (arith, processes .1)) (omega (arith, n, within .short)) g;
+        labels-fit = bytes;
+      }
 
   abbrev W : Watch
   W = opened (openTable w table k labels (length window))
@@ -125,26 +124,26 @@ module _ (w : ℕ) (text : List ℕ) (k : ℕ) (labels window : List ℕ) (some-
 
   pub opened-right : WatchRight w k table (at labels) W
   unfolding openTable badWindowLength taken lastClock clockOf event
-  opened-right = record
-    { kept = startFrontier 8 labels table ∷ []
-    ; bytes-are = firstRecord-recordBytes w k table ∙ ap₂ (λ (c : Cut) (d : ℕ → Cut). recordBytes w (record { processes = k; table = table; kept = 1; counts = c; clocks = d; pending = [] })) no-counts no-clocks
-    ; window-is = ap (λ (t : ℕ). windowBytes w t (startFrontier 8 labels table ∷ [])) (sym long)
-    ; room = omega (arith, long, one-frontier)
-    ; few = omega arith
-    ; represents = opened-start
-    ; right = record
-        { by-rule = tt
-        ; formed = λ e m. absurd (List·Memᴰ·not-nil m)
-        ; untaken = λ e m. absurd (List·Memᴰ·not-nil m)
-        ; was-ready = λ e m. absurd (List·Memᴰ·not-nil m)
-        ; eight = λ e. ⊎-elim (λ m. absurd (List·Memᴰ·not-nil m)) (⊎-elim (λ m. absurd (List·Memᴰ·not-nil m)) (λ m. absurd (List·Memᴰ·not-nil m)))
-        }
-    ; ordered = tt
-    ; clear = tt
-    ; faultless = λ e m. absurd (List·Memᴰ·not-nil m)
-    ; storable = λ e. ⊎-elim (λ m. absurd (List·Memᴰ·not-nil m)) (λ m. absurd (List·Memᴰ·not-nil m))
-    ; many = omega arith
-    }
+  opened-right = record {
+    kept = startFrontier 8 labels table ∷ [];
+    bytes-are = firstRecord-recordBytes w k table ∙ ap₂ (λ (c : Cut) (d : ℕ → Cut). recordBytes w (record { processes = k; table = table; kept = 1; counts = c; clocks = d; pending = [] })) no-counts no-clocks;
+    window-is = ap (λ (t : ℕ). windowBytes w t (startFrontier 8 labels table ∷ [])) (sym long);
+    room = omega (arith, long, one-frontier);
+    few = omega arith;
+    represents = opened-start;
+    right = record {
+      by-rule = tt;
+      formed = λ e m. absurd (List·Memᴰ·not-nil m);
+      untaken = λ e m. absurd (List·Memᴰ·not-nil m);
+      was-ready = λ e m. absurd (List·Memᴰ·not-nil m);
+      eight = λ e. ⊎-elim (λ m. absurd (List·Memᴰ·not-nil m)) (⊎-elim (λ m. absurd (List·Memᴰ·not-nil m)) (λ m. absurd (List·Memᴰ·not-nil m)));
+    };
+    ordered = tt;
+    clear = tt;
+    faultless = λ e m. absurd (List·Memᴰ·not-nil m);
+    storable = λ e. ⊎-elim (λ m. absurd (List·Memᴰ·not-nil m)) (λ m. absurd (List·Memᴰ·not-nil m));
+    many = omega arith;
+  }
     where
       one-frontier : 1 * frontierLength w ≤ length window
       one-frontier = omega (arith, ltb-false (length window) (frontierLength w) (or-false (ltb (length window) (frontierLength w)) (ltb (1024 * frontierLength w) (length window) || not (eqb (length window % frontierLength w) 0)) h6 .0))

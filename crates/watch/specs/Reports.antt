@@ -56,10 +56,10 @@ module _ (w k : ℕ) (f : Formula) (start : Cut) (R : Rule w k (linesAt 0 f) sta
 
   -- an answer that is neither leaves the verdicts as they were
   plain-answer : (L M : Ledger) (as′ : List Answer) → Reporting L as′ → M .history ≡ L .history → (a : Answer) → (a ≡ nothingReady → ⊥) → ((c : List ℕ) (t : Bool) (n : ℕ) → a ≡ state c t n → ⊥) → Reporting M (a ∷ as′)
-  plain-answer L M as′ Y q a n m = record
-    { truthful = λ c t kept i. ⊎-elim (λ x. absurd (m c t kept (sym x))) (λ j. rw q (Y .truthful c t kept j)) (List·Memᴰ·cases-cons i)
-    ; quiet = λ prior x. absurd (n (cc))
-    }
+  plain-answer L M as′ Y q a n m = record {
+    truthful = λ c t kept i. ⊎-elim (λ x. absurd (m c t kept (sym x))) (λ j. rw q (Y .truthful c t kept j)) (List·Memᴰ·cases-cons i);
+    quiet = λ prior x. absurd (n (cc));
+  }
 
   turned-plain : (L M : Ledger) (as′ : List Answer) → Reporting L as′ → M .history ≡ L .history → (n i : ℕ) → Reporting M (turnedBack n i ∷ as′)
   turned-plain L M as′ Y q n i = plain-answer L M as′ Y q (turnedBack n i)
@@ -116,16 +116,16 @@ module _ (w k : ℕ) (f : Formula) (start : Cut) (R : Rule w k (linesAt 0 f) sta
 
     taken-reporting : (j : ℕ) (l : j < length (L .pending)) → Ready (getD (L .pending) j noEvent) (taken (L .history)) → Joined 8 (L .history) (getD (L .pending) j noEvent)
         → Reporting (record { history = getD (L .pending) j noEvent ∷ L .history; pending = removeAt j (L .pending); falsified = L .falsified })
-            (stateOf (length table) (listOf 8 (apply (getD (L .pending) j noEvent) (taken (L .history)))) (stepped (settingOf (worldOf k table start) (L .history) (getD (L .pending) j noEvent)) (X′ .kept)) ∷ W .answers)
+        (stateOf (length table) (listOf 8 (apply (getD (L .pending) j noEvent) (taken (L .history)))) (stepped (settingOf (worldOf k table start) (L .history) (getD (L .pending) j noEvent)) (X′ .kept)) ∷ W .answers)
     unfolding stateOf taken apply
     taken-reporting j l r v =
         let e : Event = getD (L .pending) j noEvent in
         let gs : List Frontier = stepped (settingOf (worldOf k table start) (L .history) e) (X′ .kept) in
         let h : History k (Joined 8) (e ∷ L .history) = (record { formed = X .right .formed e (place-member (L .pending) j noEvent l); ready = r; true-clock = v }, X .right .by-rule) in
-        record
-          { truthful = λ c t kept i. ⊎-elim (λ x. here e gs c t kept h (stepped-right w k table start R L bytes lent X′ j noEvent l r v) x) (λ m. verdict-later k f start e (L .history) h c t (Y .truthful c t kept m)) (List·Memᴰ·cases-cons i)
-          ; quiet = λ prior x. let z : _≡_ {A = ℕ} 0 1 = cc in absurd (omega arith)
-          }
+        record {
+          truthful = λ c t kept i. ⊎-elim (λ x. here e gs c t kept h (stepped-right w k table start R L bytes lent X′ j noEvent l r v) x) (λ m. verdict-later k f start e (L .history) h c t (Y .truthful c t kept m)) (List·Memᴰ·cases-cons i);
+          quiet = λ prior x. let z : _≡_ {A = ℕ} 0 1 = cc in absurd (omega arith);
+        }
       where
         here : (e : Event) (gs : List Frontier) (c : List ℕ) (t : Bool) (kept : ℕ) → History k (Joined 8) (e ∷ L .history) → Represents (worldOf k table start) (e ∷ L .history) gs
             → state c t kept ≡ state (listOf 8 (apply e (taken (L .history)))) (bit (getD (map (λ g. g .values) gs) (length gs - 1) 0) (length table - 1)) (length gs)
@@ -138,10 +138,10 @@ module _ (w k : ℕ) (f : Formula) (start : Cut) (R : Rule w k (linesAt 0 f) sta
     decided-reporting : Outcome w bytes (roomOf w (length lent)) (X′ .kept) 0 false (L .pending) noEvent → After (decision w k table start R L bytes lent X′ scratch)
     unfolding ledgerAfter decided
     decided-reporting (none-decides false q u o) = rw q
-        (record
-          { truthful = λ c t kept i. ⊎-elim (λ x. let z : _≡_ {A = ℕ} 0 1 = cc in absurd (omega arith)) (Y .truthful c t kept) (List·Memᴰ·cases-cons i)
-          ; quiet = λ prior x e m r. o .1 (inr (e, m, ready-in w k table start R L bytes lent X′ e (X .right .formed e m) .1 r))
-          })
+        (record {
+          truthful = λ c t kept i. ⊎-elim (λ x. let z : _≡_ {A = ℕ} 0 1 = cc in absurd (omega arith)) (Y .truthful c t kept) (List·Memᴰ·cases-cons i);
+          quiet = λ prior x e m r. o .1 (inr (e, m, ready-in w k table start R L bytes lent X′ e (X .right .formed e m) .1 r));
+        })
     decided-reporting (none-decides true q u o) = rw q (turned-plain L L (W .answers) Y refl 36 0)
     decided-reporting (falsifies j l q r n) = rw q (turned-plain L (record { history = L .history; pending = removeAt (0 + j) (L .pending); falsified = pendingAt w bytes (0 + j) ∷ L .falsified }) (W .answers) Y refl 35 0)
     decided-reporting (chooses j l q r v g) =
@@ -168,10 +168,10 @@ module _ (w k : ℕ) (f : Formula) (start : Cut) (R : Rule w k (linesAt 0 f) sta
   -- ... and what open reports is true
   pub open-reporting : (fs : List Frontier) → Represents (worldOf k table start) [] fs → Reporting (record { history = []; pending = []; falsified = [] }) (stateOf (length table) (replicate 8 0) fs ∷ [])
   unfolding stateOf listOf taken
-  open-reporting fs r = record
-    { truthful = λ c t kept i. here c t kept (List·Memᴰ·eq-of-singleton i)
-    ; quiet = λ prior x. let z : _≡_ {A = ℕ} 0 1 = cc in absurd (omega arith)
-    }
+  open-reporting fs r = record {
+    truthful = λ c t kept i. here c t kept (List·Memᴰ·eq-of-singleton i);
+    quiet = λ prior x. let z : _≡_ {A = ℕ} 0 1 = cc in absurd (omega arith);
+  }
     where
       here : (c : List ℕ) (t : Bool) (kept : ℕ) → state c t kept ≡ state (replicate 8 0) (bit (getD (map (λ g. g .values) fs) (length fs - 1) 0) (length table - 1)) (length fs) → TrueVerdict k f start [] c t
       here c t kept x =

@@ -79,23 +79,23 @@ unfoldable pub after : ℕ → Call → Watch → Watch
 after w (offers mask clock labels) W =
     let r = offerCall w mask clock labels (W .bytes) in
     let e = offeredEvent mask clock labels in
-    record
-      { bytes = r .bytes
-      ; window = W .window
-      ; ledger = offeredLedger w (W .bytes) e (W .ledger) (r .answer)
-      ; accepted = acceptedBy e (W .accepted) (r .answer)
-      ; answers = r .answer ∷ W .answers
-      }
+    record {
+      bytes = r .bytes;
+      window = W .window;
+      ledger = offeredLedger w (W .bytes) e (W .ledger) (r .answer);
+      accepted = acceptedBy e (W .accepted) (r .answer);
+      answers = r .answer ∷ W .answers;
+    }
 after w (takes zeros scratch) W =
     let lent = W .window ++ replicate zeros 0 in
     let r = takeCall w (W .bytes) lent scratch in
-    record
-      { bytes = r .bytes
-      ; window = r .window
-      ; ledger = ledgerAfter w (W .bytes) (W .ledger) (decisionOf w (W .bytes) lent scratch)
-      ; accepted = W .accepted
-      ; answers = r .answer ∷ W .answers
-      }
+    record {
+      bytes = r .bytes;
+      window = r .window;
+      ledger = ledgerAfter w (W .bytes) (W .ledger) (decisionOf w (W .bytes) lent scratch);
+      accepted = W .accepted;
+      answers = r .answer ∷ W .answers;
+    }
 after w (finds line) W =
     record { bytes = W .bytes; window = W .window; ledger = W .ledger; accepted = W .accepted; answers = findCall w line (W .bytes) (W .window) ∷ W .answers }
 

@@ -6,12 +6,11 @@ use mathlib.Core.Bool.{Bool}
 use mathlib.Core.List.{List, [], _∷_, List·Memᴰ, List·Memᴰ·head, List·Memᴰ·tail}
 use lib.ListN.{length}
 use Rattle.rules.specs.Line.{linesAt}
-use Rattle.rules.specs.Text.{textOf}
-use Rattle.rules.specs.ReaderAccepts.{reader-accepts}
 use Rattle.rules.specs.Formula.{Formula, truth}
 use Rattle.clocks.specs.Event.{Cut}
 use Rattle.clocks.specs.Counts.{at}
 use Rattle.window.specs.Start.{startFrontier}
+use Rattle.rules.specs.Reader.{readRule, formed}
 use Rattle.watch.specs.Reports.{Reporting, after-reporting, open-reporting}
 use Rattle.watch.specs.Watching.{Rule}
 use Rattle.watch.specs.Open.{Opened, openTable, openCall}
@@ -49,27 +48,30 @@ run-sound : (w k : ℕ) (f : Formula) (start : Cut) (cs : List Call) (W : Watch)
 unfolding run
 run-sound w k f start [] W p S = S
 run-sound w k f start (c ∷ cs) W p S = run-sound w k f start cs (after w c W) (λ d m. p d (List·Memᴰ·tail m))
-    (record
-      { rule = S .rule
-      ; right = after-right w k (linesAt 0 f) start (S .rule) W (S .right) c (p c (List·Memᴰ·head refl))
-      ; balanced = after-balanced w k (linesAt 0 f) start (S .rule) W (S .right) (S .balanced) c
-      ; reporting = after-reporting w k f start (S .rule) W (S .right) (S .reporting) c
-      })
+    (record {
+      rule = S .rule;
+      right = after-right w k (linesAt 0 f) start (S .rule) W (S .right) c (p c (List·Memᴰ·head refl));
+      balanced = after-balanced w k (linesAt 0 f) start (S .rule) W (S .right) (S .balanced) c;
+      reporting = after-reporting w k f start (S .rule) W (S .right) (S .reporting) c;
+    })
 
 -- ---- Theorem
--- the form is the one whose text was opened
+-- the form is the one that the reader reads, whose text was opened (ReaderAccepts: reader-accepts)
 pub sound-run : (w : ℕ) → 0 < w → (text : List ℕ) (k : ℕ) (labels : List ℕ) → EightBytes labels → (s window : List ℕ) → Accepts w text k labels s window
-    → (cs : List Call) → AllPassed w cs → (f : Formula) × (textOf f ≡ text) × Sound w k f (at labels) (atEnd w text k labels s window cs)
+    → (cs : List Call) → AllPassed w cs → (f : Formula) × (i : ℕ) × (readRule text k ≡ formed i f) × Sound w k f (at labels) (atEnd w text k labels s window cs)
 unfolding openTable occurrences
 sound-run w pos text k labels eight s window a cs p = go (open-case w text k labels s window)
   where
-    go : OpenCase w text k labels s window → (f : Formula) × (textOf f ≡ text) × Sound w k f (at labels) (atEnd w text k labels s window cs)
+    go : OpenCase w text k labels s window → (f : Formula) × (i : ℕ) × (readRule text k ≡ formed i f) × Sound w k f (at labels) (atEnd w text k labels s window cs)
     go (turned-back n i q) =
         let x : turnedBack n i ≡ state (a .0) (a .1) (a .2) = sym (ap (λ (o : Opened). o .answer) q) ∙ a .3 in
         let z : _≡_ {A = ℕ} 0 1 = cc in absurd (omega arith)
     go (opens f i h6 h5 h9 h q) =
         let R : Rule w k (linesAt 0 f) (at labels) = opened-rule w text k labels window pos (eight .0) (eight .1) f i h6 h5 h in
-        let X : WatchRight w k (linesAt 0 f) (at labels) (opened (openTable w (linesAt 0 f) k labels (length window))) = opened-right w text k labels window pos (eight .0) (eight .1) f i h6 h5 h in
-        (f, reader-accepts text k i f .0 h .0,
-        rw q (run-sound w k f (at labels) cs (opened (openTable w (linesAt 0 f) k labels (length window))) p
-        (record { rule = R; right = X; balanced = record { each = λ e. refl; total = refl }; reporting = open-reporting w k f (at labels) R (startFrontier 8 labels (linesAt 0 f) ∷ []) (opened-start w text k labels window pos (eight .0) (eight .1) f i h6 h5 h) })))
+        let X : WatchRight w k (linesAt 0 f) (at labels) (opened (openTable w (linesAt 0 f) k labels (length window))) = opened-right w text k labels window pos (eight .0) (eight .1) f i h6 h5 h in (
+          f,
+          i,
+          h,
+          rw q (run-sound w k f (at labels) cs (opened (openTable w (linesAt 0 f) k labels (length window))) p
+              (record { rule = R; right = X; balanced = record { each = λ e. refl; total = refl }; reporting = open-reporting w k f (at labels) R (startFrontier 8 labels (linesAt 0 f) ∷ []) (opened-start w text k labels window pos (eight .0) (eight .1) f i h6 h5 h) })),
+        )

@@ -75,27 +75,27 @@ module _ (w k : ℕ) (table : List Line) (start : Cut) (R : Rule w k table start
       without = record { history = ts; pending = removeAt i (L .pending); falsified = e ∷ L .falsified }
 
       pub falsified-watching : (total : ℕ) → length window ≤ total → Watching w k table start without (removed w bytes i) (windowBytes w total (X .kept))
-      falsified-watching total g = record
-        { kept = X .kept
-        ; bytes-are = ap (λ (s : List ℕ). removed w s i) (X .bytes-are) ∙ removed-recordBytes w (statusOf k table (length (X .kept)) L) (sized w k table start R L bytes window X) i l
-        ; window-is = ap (λ (t : ℕ). windowBytes w t (X .kept)) (sym long)
-        ; room = omega (arith, long, X .room)
-        ; few = X .few
-        ; represents = X .represents
-        ; right = record
-            { by-rule = X .right .by-rule
-            ; formed = λ f q. X .right .formed f (remove-e i (L .pending) f q)
-            ; untaken = λ f q. X .right .untaken f (remove-e i (L .pending) f q)
-            ; was-ready = λ f q. ⊎-elim (λ s. rw s ([], ts, refl, r, n)) (X .right .was-ready f) (List·Memᴰ·cases-cons q)
-            ; eight = λ f. ⊎-elim (λ q. X .right .eight f (inl q))
-                (⊎-elim (λ q. X .right .eight f (inr (inl (remove-e i (L .pending) f q)))) (λ q. ⊎-elim (λ s. rw s (X .right .eight e (inr (inl m)))) (λ o. X .right .eight f (inr (inr o))) (List·Memᴰ·cases-cons q)))
-            }
-        ; ordered = remove-ordered i (L .pending) (X .ordered)
-        ; clear = clear-remove i (L .pending) (X .clear)
-        ; faultless = λ f q. X .faultless f (remove-e i (L .pending) f q)
-        ; storable = λ f. ⊎-elim (λ q. X .storable f (inl q)) (λ q. X .storable f (inr (remove-e i (L .pending) f q)))
-        ; many = omega (arith, X .many, length-removeAt i (L .pending) l)
-        }
+      falsified-watching total g = record {
+        kept = X .kept;
+        bytes-are = ap (λ (s : List ℕ). removed w s i) (X .bytes-are) ∙ removed-recordBytes w (statusOf k table (length (X .kept)) L) (sized w k table start R L bytes window X) i l;
+        window-is = ap (λ (t : ℕ). windowBytes w t (X .kept)) (sym long);
+        room = omega (arith, long, X .room);
+        few = X .few;
+        represents = X .represents;
+        right = record {
+          by-rule = X .right .by-rule;
+          formed = λ f q. X .right .formed f (remove-e i (L .pending) f q);
+          untaken = λ f q. X .right .untaken f (remove-e i (L .pending) f q);
+          was-ready = λ f q. ⊎-elim (λ s. rw s ([], ts, refl, r, n)) (X .right .was-ready f) (List·Memᴰ·cases-cons q);
+          eight = λ f. ⊎-elim (λ q. X .right .eight f (inl q))
+              (⊎-elim (λ q. X .right .eight f (inr (inl (remove-e i (L .pending) f q)))) (λ q. ⊎-elim (λ s. rw s (X .right .eight e (inr (inl m)))) (λ o. X .right .eight f (inr (inr o))) (List·Memᴰ·cases-cons q)));
+        };
+        ordered = remove-ordered i (L .pending) (X .ordered);
+        clear = clear-remove i (L .pending) (X .clear);
+        faultless = λ f q. X .faultless f (remove-e i (L .pending) f q);
+        storable = λ f. ⊎-elim (λ q. X .storable f (inl q)) (λ q. X .storable f (inr (remove-e i (L .pending) f q)));
+        many = omega (arith, X .many, length-removeAt i (L .pending) l);
+      }
         where
           long : length (windowBytes w total (X .kept)) ≡ total
           long = length-windowBytes w total (X .kept) (kept-shaped w k table start R L bytes window X) (omega (arith, X .room))
@@ -139,27 +139,27 @@ module _ (w k : ℕ) (table : List Line) (start : Cut) (R : Rule w k table start
       pub taken-watching : (total : ℕ) → length gs * frontierLength w ≤ total → length gs ≤ 1024
           → Watching w k table start with-event (counted w (removed w bytes i) e (length gs)) (windowBytes w total gs)
       unfolding taken apply
-      taken-watching total g few = record
-        { kept = gs
-        ; bytes-are = bytes-right
-        ; window-is = ap (λ (t : ℕ). windowBytes w t gs) (sym long)
-        ; room = omega (arith, long)
-        ; few = few
-        ; represents = stepped-right
-        ; right = record
-            { by-rule = later
-            ; formed = λ f q. X .right .formed f (remove-e i (L .pending) f q)
-            ; untaken = still-untaken
-            ; was-ready = λ f q. let u = X .right .was-ready f q in (e ∷ u .0, u .1, ap (λ (zs : List Event). e ∷ zs) (u .2), u .3, u .4)
-            ; eight = λ f. ⊎-elim (λ q. ⊎-elim (λ s. rw s (X .right .eight e (inr (inl m)))) (λ o. X .right .eight f (inl o)) (List·Memᴰ·cases-cons q))
-                (⊎-elim (λ q. X .right .eight f (inr (inl (remove-e i (L .pending) f q)))) (λ q. X .right .eight f (inr (inr q))))
-            }
-        ; ordered = remove-ordered i (L .pending) (X .ordered)
-        ; clear = clear-remove i (L .pending) (X .clear)
-        ; faultless = λ f q. X .faultless f (remove-e i (L .pending) f q)
-        ; storable = λ f. ⊎-elim (storable-later f) (λ q. X .storable f (inr (remove-e i (L .pending) f q)))
-        ; many = omega (arith, X .many, length-removeAt i (L .pending) l)
-        }
+      taken-watching total g few = record {
+        kept = gs;
+        bytes-are = bytes-right;
+        window-is = ap (λ (t : ℕ). windowBytes w t gs) (sym long);
+        room = omega (arith, long);
+        few = few;
+        represents = stepped-right;
+        right = record {
+          by-rule = later;
+          formed = λ f q. X .right .formed f (remove-e i (L .pending) f q);
+          untaken = still-untaken;
+          was-ready = λ f q. let u = X .right .was-ready f q in (e ∷ u .0, u .1, ap (λ (zs : List Event). e ∷ zs) (u .2), u .3, u .4);
+          eight = λ f. ⊎-elim (λ q. ⊎-elim (λ s. rw s (X .right .eight e (inr (inl m)))) (λ o. X .right .eight f (inl o)) (List·Memᴰ·cases-cons q))
+              (⊎-elim (λ q. X .right .eight f (inr (inl (remove-e i (L .pending) f q)))) (λ q. X .right .eight f (inr (inr q))));
+        };
+        ordered = remove-ordered i (L .pending) (X .ordered);
+        clear = clear-remove i (L .pending) (X .clear);
+        faultless = λ f q. X .faultless f (remove-e i (L .pending) f q);
+        storable = λ f. ⊎-elim (storable-later f) (λ q. X .storable f (inr (remove-e i (L .pending) f q)));
+        many = omega (arith, X .many, length-removeAt i (L .pending) l);
+      }
         where
           long : length (windowBytes w total gs) ≡ total
           long = length-windowBytes w total gs shaped g
@@ -173,16 +173,16 @@ module _ (w k : ℕ) (table : List Line) (start : Cut) (R : Rule w k table start
           smaller-sized : Sized w smaller
           smaller-sized =
               let z = sized w k table start R L bytes window X in
-              record
-                { processes-fit = z .processes-fit
-                ; short = z .short
-                ; line-bytes = z .line-bytes
-                ; kept-fits = z .kept-fits
-                ; counts-fit = z .counts-fit
-                ; clocks-fit = z .clocks-fit
-                ; few = omega (arith, X .many, length-removeAt i (L .pending) l)
-                ; storable = λ f q. X .storable f (inr (remove-e i (L .pending) f q))
-                }
+              record {
+                processes-fit = z .processes-fit;
+                short = z .short;
+                line-bytes = z .line-bytes;
+                kept-fits = z .kept-fits;
+                counts-fit = z .counts-fit;
+                clocks-fit = z .clocks-fit;
+                few = omega (arith, X .many, length-removeAt i (L .pending) l);
+                storable = λ f q. X .storable f (inr (remove-e i (L .pending) f q));
+              }
 
           bytes-right : counted w (removed w bytes i) e (length gs) ≡ recordBytes w (statusOf k table (length gs) with-event)
           bytes-right =

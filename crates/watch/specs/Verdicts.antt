@@ -46,12 +46,12 @@ Truthful k f start ts answers = (counts : List ℕ) (truth : Bool) (kept : ℕ) 
 -- ---- A verdict stays true
 module _ (k : ℕ) (f : Formula) (start : Cut) where
   pub verdict-later : (e : Event) (ts : List Event) → History k (Joined 8) (e ∷ ts) → (counts : List ℕ) (truth : Bool) → TrueVerdict k f start ts counts truth → TrueVerdict k f start (e ∷ ts) counts truth
-  verdict-later e ts h counts truth v = record
-    { cut = v .cut
-    ; consistent = consistent-old e ts (v .cut) (v .consistent)
-    ; counts-are = v .counts-are
-    ; truth-is = v .truth-is ∙ holds-local k start (Joined 8) (joined-rule k 8) ts (e ∷ ts) (h .1) h (meaning f) (v .cut) (v .consistent) (agree-old e ts (v .cut) (v .consistent .within))
-    }
+  verdict-later e ts h counts truth v = record {
+    cut = v .cut;
+    consistent = consistent-old e ts (v .cut) (v .consistent);
+    counts-are = v .counts-are;
+    truth-is = v .truth-is ∙ holds-local k start (Joined 8) (joined-rule k 8) ts (e ∷ ts) (h .1) h (meaning f) (v .cut) (v .consistent) (agree-old e ts (v .cut) (v .consistent .within));
+  }
 
   -- ---- the answer of a window that holds the kept cuts
   pub state-true : (w : ℕ) → Rule w k (linesAt 0 f) start → (ts : List Event) → History k (Joined 8) ts → (fs : List Frontier) → Represents (worldOf k (linesAt 0 f) start) ts fs
@@ -63,13 +63,13 @@ module _ (k : ℕ) (f : Formula) (start : Cut) where
       let n : 0 < length fs = some-frontier W (Joined 8) ts P fs r in
       let last : ℕ = length (linesAt 0 f) - 1 in
       let d : Frontier = frontierOf W ts (taken ts) in
-      record
-        { cut = taken ts
-        ; consistent = taken-consistent ts (history-causal k (Joined 8) (joined-rule k 8) ts h)
-        ; counts-are = c
-        ; truth-is =
+      record {
+        cut = taken ts;
+        consistent = taken-consistent ts (history-causal k (Joined 8) (joined-rule k 8) ts h);
+        counts-are = c;
+        truth-is =
             ap (λ (v : ℕ). bit v last) (getD-mapped (λ (g : Frontier). g .values) fs (length fs - 1) d 0 (omega arith))
             ∙ verdict-right W (Joined 8) ts P fs r d last (omega (arith, R .some-line))
             ∙ ap (λ (i : ℕ). lineTruth (modelOf W ts) (linesAt 0 f) (i - 1) (taken ts)) (length-linesAt 0 f)
-            ∙ ap (λ (q : Property). q (taken ts)) (rule-means (modelOf W ts) f)
-        }
+            ∙ ap (λ (q : Property). q (taken ts)) (rule-means (modelOf W ts) f);
+      }

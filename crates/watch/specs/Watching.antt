@@ -116,15 +116,15 @@ module _ (w : ℕ) (ts : List Event) (c : Causal ts) (s : (e : Event) → In e t
 
   pub frontier-shaped : (k : ℕ) (table : List Line) (start : Cut) → length table ≤ 64 → ((p : ℕ) → start p < 256) → (S : Cut) → Consistent ts S → Shaped w (frontierOf (worldOf k table start) ts S)
   unfolding frontierOf labelOf maskOf
-  frontier-shaped k table start short labels S e = record
-    { eight-counts = length-listOf 8 S
-    ; counts-fit = λ p. list-fits S (256 ^ w) p (pow-256-pos w) (λ q. omega (arith, e .within q, taken-fits q))
-    ; eight-labels = length-listOf 8 (λ p. labelOf start ts p (S p))
-    ; labels-fit = λ i. list-fits (λ p. labelOf start ts p (S p)) 256 i (omega arith) (λ q. view-fits (start q) (λ f. getD (f .labels) q 0) 256 q (S q) (labels q) (λ f t. t .labels-fit q))
-    ; eight-masks = length-listOf 8 (λ p. maskOf ts p (S p))
-    ; masks-fit = λ i. list-fits (λ p. maskOf ts p (S p)) 256 i (omega arith) (λ q. view-fits 0 (λ f. f .mask) 256 q (S q) (omega arith) (λ f t. t .mask-fits))
-    ; values-fit = omega (arith, wordOf-lt (length table) (λ j. lineTruth (modelOf (worldOf k table start) ts) table j S), pow-mono short)
-    }
+  frontier-shaped k table start short labels S e = record {
+    eight-counts = length-listOf 8 S;
+    counts-fit = λ p. list-fits S (256 ^ w) p (pow-256-pos w) (λ q. omega (arith, e .within q, taken-fits q));
+    eight-labels = length-listOf 8 (λ p. labelOf start ts p (S p));
+    labels-fit = λ i. list-fits (λ p. labelOf start ts p (S p)) 256 i (omega arith) (λ q. view-fits (start q) (λ f. getD (f .labels) q 0) 256 q (S q) (labels q) (λ f t. t .labels-fit q));
+    eight-masks = length-listOf 8 (λ p. maskOf ts p (S p));
+    masks-fit = λ i. list-fits (λ p. maskOf ts p (S p)) 256 i (omega arith) (λ q. view-fits 0 (λ f. f .mask) 256 q (S q) (omega arith) (λ f t. t .mask-fits));
+    values-fit = omega (arith, wordOf-lt (length table) (λ j. lineTruth (modelOf (worldOf k table start) ts) table j S), pow-mono short);
+  }
 
   pub all-shaped : (k : ℕ) (table : List Line) (start : Cut) → length table ≤ 64 → ((p : ℕ) → start p < 256) → (fs : List Frontier) → Represents (worldOf k table start) ts fs → AllShaped w fs
   all-shaped k table start short labels fs R f m =
@@ -153,13 +153,13 @@ module _ (w k : ℕ) (table : List Line) (start : Cut) (R : Rule w k table start
 
   pub sized : Sized w (statusOf k table (length (X .kept)) L)
   unfolding lastClock
-  sized = record
-    { processes-fit = omega (arith, R .eight-processes)
-    ; short = R .short
-    ; line-bytes = R .line-bytes
-    ; kept-fits = omega (arith, X .few)
-    ; counts-fit = taken-fits w ts causal-history (λ e m. X .storable e (inl m))
-    ; clocks-fit = λ p q. clock-fits w ts causal-history (λ e m. X .storable e (inl m)) p (taken ts p) q
-    ; few = X .many
-    ; storable = λ e m. X .storable e (inr m)
-    }
+  sized = record {
+    processes-fit = omega (arith, R .eight-processes);
+    short = R .short;
+    line-bytes = R .line-bytes;
+    kept-fits = omega (arith, X .few);
+    counts-fit = taken-fits w ts causal-history (λ e m. X .storable e (inl m));
+    clocks-fit = λ p q. clock-fits w ts causal-history (λ e m. X .storable e (inl m)) p (taken ts p) q;
+    few = X .many;
+    storable = λ e m. X .storable e (inr m);
+  }

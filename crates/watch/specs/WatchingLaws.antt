@@ -89,22 +89,33 @@ module _ (w k : ℕ) (table : List Line) (start : Cut) (R : Rule w k table start
   -- ---- 34 never comes
   pub never-34 : (room : ℕ) → length (X .kept) ≤ room → badState w room bytes ≡ false
   unfolding badState badProcesses
-  never-34 room l = rw
-      ( says-processes, says-many, says-lines, says-kept, says-table
-      , ne-eqb k 0 (λ q. omega (arith, R .some-process)), le-ltb 8 k (R .eight-processes), le-ltb 32 (length (L .pending)) (X .many)
-      , ne-eqb (length table) 0 (λ q. omega (arith, R .some-line)), le-ltb 64 (length table) (R .short)
-      , ne-eqb (length (X .kept)) 0 (λ q. omega (arith, some-kept)), le-ltb 1024 (length (X .kept)) (X .few), le-ltb room (length (X .kept)) l, R .good)
+  never-34 room l = rw (
+    says-processes,
+    says-many,
+    says-lines,
+    says-kept,
+    says-table,
+    ne-eqb k 0 (λ q. omega (arith, R .some-process)),
+    le-ltb 8 k (R .eight-processes),
+    le-ltb 32 (length (L .pending)) (X .many),
+    ne-eqb (length table) 0 (λ q. omega (arith, R .some-line)),
+    le-ltb 64 (length table) (R .short),
+    ne-eqb (length (X .kept)) 0 (λ q. omega (arith, some-kept)),
+    le-ltb 1024 (length (X .kept)) (X .few),
+    le-ltb room (length (X .kept)) l,
+    R .good,
+  )
     where
       some-kept : 0 < length (X .kept)
       some-kept = some-frontier world (Joined 8) ts P (X .kept) (X .represents)
 
   -- ---- ready, valid and the step are those of the taken events
   formed-eight : (e : Event) → WellFormed k e → WellFormed 8 e
-  formed-eight e f = record
-    { occupied = f .occupied
-    ; below = λ p l. f .below p (omega (arith, R .eight-processes))
-    ; silent = λ p l. f .silent p (omega (arith, R .eight-processes))
-    }
+  formed-eight e f = record {
+    occupied = f .occupied;
+    below = λ p l. f .below p (omega (arith, R .eight-processes));
+    silent = λ p l. f .silent p (omega (arith, R .eight-processes));
+  }
 
   pub ready-in : (e : Event) → WellFormed k e → T (readyIn w bytes e) ↔ Ready e (taken ts)
   unfolding readyIn

@@ -140,9 +140,10 @@ read-form-read-inner-requires t c κs = let a = c .before .before .before .befor
     let left : 1 ≤ a .allowance = pos-of-ne-zero (o .left) in
     let m = c .before .before .before .before .before .before .before .before .before .before .before .before .before .before .pre .1 in
     let start = c .before .before .before .lay-before .result in
-    let before : start ≤ a .laid + 4 = omega (arith, c .before .before .before .lay-before .ensures .0, before-four w (a .laid)) in
-    (omega (arith, c .before .before .before .before .before .before .before .before .before .before .before .before .before .before .pre .0)
-    , room-first (a .allowance) (a .laid) (a .closed) (a .place) next start (a .table .now) _ m (o .left) near before (search needs))
+    let before : start ≤ a .laid + 4 = omega (arith, c .before .before .before .lay-before .ensures .0, before-four w (a .laid)) in (
+      omega (arith, c .before .before .before .before .before .before .before .before .before .before .before .before .before .before .pre .0),
+      room-first (a .allowance) (a .laid) (a .closed) (a .place) next start (a .table .now) _ m (o .left) near before (search needs),
+    )
 
 read-form-enum-known-inner : (t : ℕ) → read-form-lts.Need-enum-known-inner (form-calls t) (read-form-at t) read-form.Post
 read-form-enum-known-inner t c = search needs
@@ -165,9 +166,10 @@ read-form-close-unary-requires t c κs = let a = c .before .before .before .befo
     let start = c .before .before .before .before .before .before .before .before .before .before .lay-before .result in
     let before : start ≤ a .laid + 4 = omega (arith, c .before .before .before .before .before .before .before .before .before .before .lay-before .ensures .0, before-four w (a .laid)) in
     let d = form-done start (a .closed) _ _ (innerWith (formAt (a .allowance - 1) s (a .k)) s (a .closed) next) _ (c .before .before .inner .given .0 .0) (c .before .before .inner .given .0 .1 .0) (c .before .before .inner .given .0 .1 .1 .0) (c .before .before .before .before .before .before .read-inner .ensures) (c .before .before .inner .given .1) in
-    let x = inside (a .allowance - 1) s (a .k) (a .closed) next _ (d .form) (d .read) in
-    ((search needs, omega (arith, m .lines, m .short), omega (arith, d .laid-now, x .some), omega (arith, d .laid-now, x .short, m .lines), omega (arith, x .near, x .short, m .near))
-    , (omega arith, omega (arith, d .closed-now, x .short)))
+    let x = inside (a .allowance - 1) s (a .k) (a .closed) next _ (d .form) (d .read) in (
+      (search needs, omega (arith, m .lines, m .short), omega (arith, d .laid-now, x .some), omega (arith, d .laid-now, x .short, m .lines), omega (arith, x .near, x .short, m .near)),
+      (omega arith, omega (arith, d .closed-now, x .short)),
+    )
 
 read-form-enum-known-inner-2 : (t : ℕ) → read-form-lts.Need-enum-known-inner-2 (form-calls t) (read-form-at t) read-form.Post
 read-form-enum-known-inner-2 t c = search needs
@@ -186,9 +188,10 @@ read-form-read-inner-requires-2 t c κs = let a = c .before .before .before .bef
     let next = c .before .before .found4 .given .0 .1 .0 in
     let near : next ≤ a .place + 4 = unfold NextBy in (word-near (a .allowance) s (a .place) (BinaryWord w next) o) in
     let left : 1 ≤ a .allowance = pos-of-ne-zero (o .left) in
-    let m = c .before .before .before .before .before .before .before .before .before .before .pre .1 in
-    (omega (arith, c .before .before .before .before .before .before .before .before .before .before .pre .0)
-    , room-first (a .allowance) (a .laid) (a .closed) (a .place) next (a .laid) (a .table .now) _ m (o .left) near (omega arith) (search needs))
+    let m = c .before .before .before .before .before .before .before .before .before .before .pre .1 in (
+      omega (arith, c .before .before .before .before .before .before .before .before .before .before .pre .0),
+      room-first (a .allowance) (a .laid) (a .closed) (a .place) next (a .laid) (a .table .now) _ m (o .left) near (omega arith) (search needs),
+    )
 
 read-form-enum-known-first : (t : ℕ) → read-form-lts.Need-enum-known-first (form-calls t) (read-form-at t) read-form.Post
 read-form-enum-known-first t c = search needs
@@ -238,9 +241,10 @@ read-form-read-inner-requires-3 t c κs = let a = c .before .before .before .bef
     let x = inside (a .allowance - 1) s (a .k) (a .closed) next (c .before .before .before .before .before .before .first .given .0 .0) (d .form) (d .read) in
     let held : half ≡ a .laid + lineCount (d .form) = d .laid-now in
     let start = c .before .before .before .lay-between .result in
-    let between : start ≤ half + 1 = omega (arith, c .before .before .before .lay-between .ensures .0, between-one w (half - 1), x .some) in
-    (omega (arith, c .before .before .before .before .before .before .before .before .before .before .before .before .before .before .before .before .before .before .before .before .before .pre .0)
-    , room-second (a .allowance) (a .laid) (a .closed) (a .place) next _ half start some (d .form) (a .table .now) _ m (o .left) near x held (d .closed-now) between (search needs))
+    let between : start ≤ half + 1 = omega (arith, c .before .before .before .lay-between .ensures .0, between-one w (half - 1), x .some) in (
+      omega (arith, c .before .before .before .before .before .before .before .before .before .before .before .before .before .before .before .before .before .before .before .before .before .pre .0),
+      room-second (a .allowance) (a .laid) (a .closed) (a .place) next _ half start some (d .form) (a .table .now) _ m (o .left) near x held (d .closed-now) between (search needs),
+    )
 
 read-form-enum-known-second : (t : ℕ) → read-form-lts.Need-enum-known-second (form-calls t) (read-form-at t) read-form.Post
 read-form-enum-known-second t c = search needs
@@ -281,9 +285,10 @@ read-form-close-binary-requires t c κs = let a = c .before .before .before .bef
     let y = inside (a .allowance - 1) s (a .k) some (c .before .before .before .before .before .before .before .before .before .before .before .before .before .first .given .0 .0) (c .before .before .second .given .0 .0) (e .form) (e .read) in
     let between : (half ≤ start) × (start ≤ half + 1) = omega (arith, c .before .before .before .before .before .before .before .before .before .before .lay-between .ensures .0, between-one w (half - 1), x .some) in
     let ended : end ≡ start + lineCount (e .form) = e .laid-now in
-    let counted : some ≡ a .closed + lineCount (d .form) = d .closed-now in
-    ((search needs, omega (arith, y .some, x .some), omega (arith, y .short, m .lines), omega (arith, x .near, y .near, y .short, m .near))
-    , (omega arith, omega (arith, e .closed-now, y .short)))
+    let counted : some ≡ a .closed + lineCount (d .form) = d .closed-now in (
+      (search needs, omega (arith, y .some, x .some), omega (arith, y .short, m .lines), omega (arith, x .near, y .near, y .short, m .near)),
+      (omega arith, omega (arith, e .closed-now, y .short)),
+    )
 
 read-form-enum-known-second-2 : (t : ℕ) → read-form-lts.Need-enum-known-second-2 (form-calls t) (read-form-at t) read-form.Post
 read-form-enum-known-second-2 t c = search needs

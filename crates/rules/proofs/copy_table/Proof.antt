@@ -43,12 +43,13 @@ loop-less c = search needs
 loop-again : tie.Need-loop-again Inv-loop μ-loop
 loop-again c = let a = c .before .before .before .args in
     let l = c .before .before .loop in
-    let v = getD (a .from .now) (l .i) 0 in
-    (search needs
-    , simp length-set (omega arith)
-    , below-more (λ j. getD (set (l .table) (l .i) v) j 0 ≡ getD (a .from .now) j 0) (l .i)
-    (λ j h. getD-set-other (l .table) (l .i) j v 0 (λ e. omega arith) ∙ l .inv .2 j h)
-    (getD-set-same (l .table) (l .i) v 0 (omega arith)))
+    let v = getD (a .from .now) (l .i) 0 in (
+      search needs,
+      simp length-set (omega arith),
+      below-more (λ j. getD (set (l .table) (l .i) v) j 0 ≡ getD (a .from .now) j 0) (l .i)
+          (λ j h. getD-set-other (l .table) (l .i) j v 0 (λ e. omega arith) ∙ l .inv .2 j h)
+          (getD-set-same (l .table) (l .i) v 0 (omega arith)),
+    )
 
 -- src/lib.rt:543:1
 same-length : tie.Need-same-length Inv-loop μ-loop
