@@ -167,12 +167,12 @@ module _ (w k : ℕ) (table : List Line) (start : Cut) (R : Rule w k table start
         go : Outcome w bytes (roomOf w (length lent)) (X .kept) 0 false (L .pending) noEvent
             → Watching w k table start (ledgerAfter w bytes L decision) (decided w bytes lent (X .kept) decision .bytes) (decided w bytes lent (X .kept) decision .window)
         go (none-decides b q u o) = rw q X
-        go (falsifies j l q r n) =
+        go (falsifies j l q r n x) =
             let i : 0 + j ≡ j = omega arith in
             rw (q, i, says-event w k table start R L bytes lent X j noEvent l)
             (subst (Watching w k table start (record { history = L .history; pending = removeAt j (L .pending); falsified = getD (L .pending) j noEvent ∷ L .falsified }) (removed w bytes j)) (sym (X .window-is))
             (falsified-watching w k table start R L bytes lent X j noEvent l (is-ready j l r) (is-false j l n) (length lent) (omega arith)))
-        go (chooses j l q r v f) =
+        go (chooses j l q r v f x) =
             let i : 0 + j ≡ j = omega arith in
             let many : length (gs j l) ≤ roomOf w (length lent) = fits-room j l f in
             rw (q, i, says-event w k table start R L bytes lent X j noEvent l, setting-in w k table start R L bytes lent X (getD (L .pending) j noEvent))

@@ -84,14 +84,14 @@ module _ (w k : ℕ) (table : List Line) (start : Cut) (R : Rule w k table start
       decide : Outcome w bytes (roomOf w (length lent)) (X′ .kept) 0 false (L .pending) noEvent
           → decisionOf w bytes lent scratch ≡ decision w k table start R L bytes lent X′ scratch → WatchBalanced (after w (takes more scratch) W)
       decide (none-decides b q u o) t = rw (t ∙ q) B
-      decide (falsifies j l q r n) t =
+      decide (falsifies j l q r n x) t =
           let i : 0 + j ≡ j = omega arith in
           rw (t ∙ q, i, event-is j l)
           (record {
             each = λ e. omega (arith, B .each e, occurs-remove e j (L .pending) noEvent l);
             total = omega (arith, B .total, length-removeAt j (L .pending) l);
           })
-      decide (chooses j l q r v f) t =
+      decide (chooses j l q r v f x) t =
           let i : 0 + j ≡ j = omega arith in
           rw (t ∙ q, i, event-is j l)
           (record {

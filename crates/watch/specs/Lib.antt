@@ -31,6 +31,7 @@ pub mod OfferLaws
 pub mod Deciding
 pub mod TakeLaws
 pub mod AfterCall
+pub mod TakeAnswers
 pub mod OpenLaws
 pub mod Balance
 pub mod Verdicts

@@ -143,8 +143,8 @@ module _ (w k : ℕ) (f : Formula) (start : Cut) (R : Rule w k (linesAt 0 f) sta
           quiet = λ prior x e m r. o .1 (inr (e, m, ready-in w k table start R L bytes lent X′ e (X .right .formed e m) .1 r));
         })
     decided-reporting (none-decides true q u o) = rw q (turned-plain L L (W .answers) Y refl 36 0)
-    decided-reporting (falsifies j l q r n) = rw q (turned-plain L (record { history = L .history; pending = removeAt (0 + j) (L .pending); falsified = pendingAt w bytes (0 + j) ∷ L .falsified }) (W .answers) Y refl 35 0)
-    decided-reporting (chooses j l q r v g) =
+    decided-reporting (falsifies j l q r n x) = rw q (turned-plain L (record { history = L .history; pending = removeAt (0 + j) (L .pending); falsified = pendingAt w bytes (0 + j) ∷ L .falsified }) (W .answers) Y refl 35 0)
+    decided-reporting (chooses j l q r v g x) =
         let i : 0 + j ≡ j = omega arith in
         rw (q, i, says-event w k table start R L bytes lent X′ j noEvent l, setting-in w k table start R L bytes lent X′ (getD (L .pending) j noEvent), says-lines w k table start R L bytes lent X′, says-taken w k table start R L bytes lent X′)
         (taken-reporting j l (is-ready w k table start R L bytes lent X′ scratch j l r) (is-valid w k table start R L bytes lent X′ scratch j l v))

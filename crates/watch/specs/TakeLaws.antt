@@ -29,6 +29,7 @@ use Rattle.clocks.specs.Step.{clock-old}
 use Rattle.clocks.specs.HistoryLaws.{taken-next, taken-other, event-next}
 use Rattle.clocks.specs.Tested.{ready}
 use Rattle.clocks.specs.CausalLaws.{clock-some}
+use Rattle.window.specs.Verdict.{some-frontier}
 use Rattle.watch.specs.Watching.{worldOf, Rule, statusOf, Watching, proper, kept-shaped, sized, all-shaped}
 use Rattle.watch.specs.Record.{removed, counted}
 use Rattle.watch.specs.PendingOrder.{remove-ordered, clear-remove, clear-other, remove-e}
@@ -119,6 +120,9 @@ module _ (w k : ℕ) (table : List Line) (start : Cut) (R : Rule w k table start
 
       pub stepped-right : Represents world (e ∷ ts) gs
       stepped-right = step-represents world (Joined 8) ts e P tk (λ p b. none-closed p) (X .kept) (X .represents)
+
+      pub stepped-some : 0 < length gs
+      stepped-some = some-frontier world (Joined 8) (e ∷ ts) (record { some-process = P .some-process; room = P .room; rule = P .rule; by-rule = later; good = P .good }) gs stepped-right
 
       storable-later : (f : Event) → In f (e ∷ ts) → Storable w f
       storable-later f q = ⊎-elim (λ s. rw s (X .storable e (inr m))) (λ n. X .storable f (inl n)) (List·Memᴰ·cases-cons q)
