@@ -37,4 +37,5 @@ pub mod Balance
 pub mod Verdicts
 pub mod Reports
 pub mod SoundRun
+pub mod Demand2
 pub mod Demand3
