@@ -83,8 +83,10 @@ module _ (a : ℕ) (s : List ℕ) (k laid closed i : ℕ) (w : Binary) (next : �
       → innerWith (formAt (a - 1) s k) s some j ≡ refused n l → Done laid closed old new (formAt a s k closed i) (Refused n l)
   unfolding bodyWith
   binary-second-fault-done old t₁ new j half some n l d e =
-      rw (formAt-word a s k closed i (BinaryWord w next) o
-      , binary-second-fault (formAt (a - 1) s k) s w closed next j (d .form) n l some (d .read) (d .closed-now) e)
+      rw (
+        formAt-word a s k closed i (BinaryWord w next) o,
+        binary-second-fault (formAt (a - 1) s k) s w closed next j (d .form) n l some (d .read) (d .closed-now) e,
+      )
       (done-refused laid closed old new n l)
 
   pub binary-done : (j half some start l end count : ℕ) (old t₁ t₂ t₃ t₄ : List ℕ) (r : Read)
@@ -97,8 +99,10 @@ module _ (a : ℕ) (s : List ℕ) (k laid closed i : ℕ) (w : Binary) (next : �
   binary-done j half some start l end count old t₁ t₂ t₃ t₄ r d p q g e h =
       let weight = length-binary w (half - 1) (half - 1) (end - 1) in
       let pos = lineCount-pos (d .form) in
-      rw (formAt-word a s k closed i (BinaryWord w next) o
-      , binary-form (formAt (a - 1) s k) s w closed next j l (d .form) (g .form) some (d .read) (d .closed-now) (g .read))
+      rw (
+        formAt-word a s k closed i (BinaryWord w next) o,
+        binary-form (formAt (a - 1) s k) s w closed next j l (d .form) (g .form) some (d .read) (d .closed-now) (g .read),
+      )
       (done-close laid closed old t₄ s l _ _ (binary w (d .form) (g .form)) r e
       (omega (arith, d .laid-now, g .laid-now))
       (omega (arith, d .laid-now, d .closed-now, g .closed-now))

@@ -168,19 +168,39 @@ fn a_word(text: &[u8], i: usize) -> WordRead
         return WordRead::AtWord { next };
     }
     if c == b's' as u32 {
-        return WordRead::BinaryWord { word: Binary::As, next };
+        return WordRead::BinaryWord {
+            word: Binary::As,
+            next,
+        };
     }
     if c == b'p' as u32 {
-        return WordRead::UnaryWord { word: Unary::Ap, next };
+        return WordRead::UnaryWord {
+            word: Unary::Ap,
+            next,
+        };
     }
     if c == b'y' as u32 {
-        return WordRead::UnaryWord { word: Unary::Ay, next };
+        return WordRead::UnaryWord {
+            word: Unary::Ay,
+            next,
+        };
     }
     if c == b'h' as u32 {
-        return WordRead::UnaryWord { word: Unary::Ah, next };
+        return WordRead::UnaryWord {
+            word: Unary::Ah,
+            next,
+        };
     }
     if c == b'n' as u32 {
-        return rest(text, next, b"d", WordRead::BinaryWord { word: Binary::And, next: i + 2 });
+        return rest(
+            text,
+            next,
+            b"d",
+            WordRead::BinaryWord {
+                word: Binary::And,
+                next: i + 2,
+            },
+        );
     }
     WordRead::NoWord { place: i }
 }
@@ -193,16 +213,28 @@ fn e_word(text: &[u8], i: usize) -> WordRead
     let c = byte_at(text, i);
     let next = i + 1;
     if c == b'y' as u32 {
-        return WordRead::UnaryWord { word: Unary::Ey, next };
+        return WordRead::UnaryWord {
+            word: Unary::Ey,
+            next,
+        };
     }
     if c == b's' as u32 {
-        return WordRead::BinaryWord { word: Binary::Es, next };
+        return WordRead::BinaryWord {
+            word: Binary::Es,
+            next,
+        };
     }
     if c == b'p' as u32 {
-        return WordRead::UnaryWord { word: Unary::Ep, next };
+        return WordRead::UnaryWord {
+            word: Unary::Ep,
+            next,
+        };
     }
     if c == b'h' as u32 {
-        return WordRead::UnaryWord { word: Unary::Eh, next };
+        return WordRead::UnaryWord {
+            word: Unary::Eh,
+            next,
+        };
     }
     WordRead::NoWord { place: i }
 }
@@ -221,16 +253,48 @@ fn read_word(text: &[u8], i: usize) -> WordRead
         return e_word(text, next);
     }
     if c == b'n' as u32 {
-        return rest(text, next, b"ot", WordRead::UnaryWord { word: Unary::Not, next: i + 3 });
+        return rest(
+            text,
+            next,
+            b"ot",
+            WordRead::UnaryWord {
+                word: Unary::Not,
+                next: i + 3,
+            },
+        );
     }
     if c == b't' as u32 {
-        return rest(text, next, b"rue", WordRead::ConstantWord { word: Constant::True, next: i + 4 });
+        return rest(
+            text,
+            next,
+            b"rue",
+            WordRead::ConstantWord {
+                word: Constant::True,
+                next: i + 4,
+            },
+        );
     }
     if c == b'f' as u32 {
-        return rest(text, next, b"alse", WordRead::ConstantWord { word: Constant::False, next: i + 5 });
+        return rest(
+            text,
+            next,
+            b"alse",
+            WordRead::ConstantWord {
+                word: Constant::False,
+                next: i + 5,
+            },
+        );
     }
     if c == b'o' as u32 {
-        return rest(text, next, b"r", WordRead::BinaryWord { word: Binary::Or, next: i + 2 });
+        return rest(
+            text,
+            next,
+            b"r",
+            WordRead::BinaryWord {
+                word: Binary::Or,
+                next: i + 2,
+            },
+        );
     }
     WordRead::NoWord { place: i }
 }
@@ -406,7 +470,9 @@ fn read_digit(text: &[u8], i: usize, bound: u32) -> DigitRead
     }
     let value = c - 48;
     if value < bound {
-        DigitRead::Digit { value: value as usize }
+        DigitRead::Digit {
+            value: value as usize,
+        }
     } else {
         DigitRead::NoDigit { number: 4 }
     }
@@ -421,14 +487,25 @@ fn close(text: &[u8], place: usize, laid: usize, closed: usize) -> Read
         return Read::Refused { number: 1, place };
     }
     if closed <= 64 {
-        Read::Form { place: place + 1, laid, closed }
+        Read::Form {
+            place: place + 1,
+            laid,
+            closed,
+        }
     } else {
         Read::Refused { number: 3, place }
     }
 }
 
 // (at p b) from behind its word on.
-fn read_atom(text: &[u8], k: u32, place: usize, laid: usize, closed: usize, table: &mut [u8]) -> Read
+fn read_atom(
+    text: &[u8],
+    k: u32,
+    place: usize,
+    laid: usize,
+    closed: usize,
+    table: &mut [u8],
+) -> Read
     requires { ⌜ (length (now table) ≡ 600) × (place ≤ 900) × (laid < 200) × (closed ≤ 64) ⌝ }
     ensures { λ r. ⌜ Done laid closed (now (table .entry)) (now (table .exit)) (atomAt (now (text .entry)) k closed place) r ⌝ }
 {
@@ -437,14 +514,23 @@ fn read_atom(text: &[u8], k: u32, place: usize, laid: usize, closed: usize, tabl
     }
     let first = read_digit(text, place + 1, k);
     match first {
-        DigitRead::NoDigit { number } => Read::Refused { number, place: place + 1 },
+        DigitRead::NoDigit { number } => Read::Refused {
+            number,
+            place: place + 1,
+        },
         DigitRead::Digit { value: p } => {
             if byte_at(text, place + 2) != b' ' as u32 {
-                return Read::Refused { number: 1, place: place + 2 };
+                return Read::Refused {
+                    number: 1,
+                    place: place + 2,
+                };
             }
             let second = read_digit(text, place + 3, 8);
             match second {
-                DigitRead::NoDigit { number } => Read::Refused { number, place: place + 3 },
+                DigitRead::NoDigit { number } => Read::Refused {
+                    number,
+                    place: place + 3,
+                },
                 DigitRead::Digit { value: b } => {
                     put_line(table, laid, 0, p, b);
                     close(text, place + 4, laid + 1, closed + 1)
@@ -455,7 +541,14 @@ fn read_atom(text: &[u8], k: u32, place: usize, laid: usize, closed: usize, tabl
 }
 
 // A word alone, from behind it on.
-fn read_constant(text: &[u8], word: Constant, place: usize, laid: usize, closed: usize, table: &mut [u8]) -> Read
+fn read_constant(
+    text: &[u8],
+    word: Constant,
+    place: usize,
+    laid: usize,
+    closed: usize,
+    table: &mut [u8],
+) -> Read
     requires { ⌜ (length (now table) ≡ 600) × (place ≤ 900) × (laid + 5 ≤ 200) × (closed ≤ 64) ⌝ }
     ensures { λ r. ⌜ Done laid closed (now (table .entry)) (now (table .exit)) (closeAt (now (text .entry)) closed place (constant word)) r ⌝ }
 {
@@ -465,7 +558,16 @@ fn read_constant(text: &[u8], word: Constant, place: usize, laid: usize, closed:
 
 // Behind the form inside a word with one form: the lines after it, and the closing bracket. `end` and `count` are what the form
 // inside left, `added` lines were laid down before it.
-fn close_unary(text: &[u8], word: Unary, truth: usize, added: usize, place: usize, end: usize, count: usize, table: &mut [u8]) -> Read
+fn close_unary(
+    text: &[u8],
+    word: Unary,
+    truth: usize,
+    added: usize,
+    place: usize,
+    end: usize,
+    count: usize,
+    table: &mut [u8],
+) -> Read
     requires { ⌜ (length (now table) ≡ 600) × (truth < 200) × (0 < end) × (end + 3 ≤ 200) × (place ≤ 1024) ⌝ }
     requires { ⌜ (added ≤ 4) × (count ≤ 64) ⌝ }
     ensures { λ r. ⌜ r ≡ closeRead (now (text .entry)) place (end + length (linesAfter word truth (end - 1))) (count + added + length (linesAfter word truth (end - 1))) ⌝ }
@@ -476,7 +578,16 @@ fn close_unary(text: &[u8], word: Unary, truth: usize, added: usize, place: usiz
 }
 
 // Behind both forms inside a word with two forms. `first` is the first one's last line, `added` lines were laid down between.
-fn close_binary(text: &[u8], word: Binary, first: usize, added: usize, place: usize, end: usize, count: usize, table: &mut [u8]) -> Read
+fn close_binary(
+    text: &[u8],
+    word: Binary,
+    first: usize,
+    added: usize,
+    place: usize,
+    end: usize,
+    count: usize,
+    table: &mut [u8],
+) -> Read
     requires { ⌜ (length (now table) ≡ 600) × (first + 1 < end) × (end + 3 ≤ 200) × (place ≤ 1024) ⌝ }
     requires { ⌜ (added ≤ 4) × (count ≤ 64) ⌝ }
     ensures { λ r. ⌜ r ≡ closeRead (now (text .entry)) place (end + length (linesAfterBoth word first (end - 1))) (count + added + length (linesAfterBoth word first (end - 1))) ⌝ }
@@ -487,7 +598,15 @@ fn close_binary(text: &[u8], word: Binary, first: usize, added: usize, place: us
 }
 
 // A space and a form inside another.
-fn read_inner(text: &[u8], k: u32, allowance: usize, place: usize, laid: usize, closed: usize, table: &mut [u8]) -> Read
+fn read_inner(
+    text: &[u8],
+    k: u32,
+    allowance: usize,
+    place: usize,
+    laid: usize,
+    closed: usize,
+    table: &mut [u8],
+) -> Read
     requires { ⌜ Room allowance laid closed (place + 1) (now table) ⌝ }
     ensures { λ r. ⌜ Done laid closed (now (table .entry)) (now (table .exit)) (innerWith (formAt allowance (now (text .entry)) k) (now (text .entry)) closed place) r ⌝ }
 {
@@ -499,7 +618,15 @@ fn read_inner(text: &[u8], k: u32, allowance: usize, place: usize, laid: usize, 
 
 // The form at a place, with brackets nested at most as deep as the allowance. `laid` lines are laid down so far, and `closed` are those of the
 // forms closed so far.
-fn read_form(text: &[u8], k: u32, allowance: usize, place: usize, laid: usize, closed: usize, table: &mut [u8]) -> Read
+fn read_form(
+    text: &[u8],
+    k: u32,
+    allowance: usize,
+    place: usize,
+    laid: usize,
+    closed: usize,
+    table: &mut [u8],
+) -> Read
     requires { ⌜ Room allowance laid closed place (now table) ⌝ }
     ensures { λ r. ⌜ Done laid closed (now (table .entry)) (now (table .exit)) (formAt allowance (now (text .entry)) k closed place) r ⌝ }
 {
@@ -512,30 +639,61 @@ fn read_form(text: &[u8], k: u32, allowance: usize, place: usize, laid: usize, c
     let found = read_word(text, place + 1);
     match found {
         WordRead::AtWord { next } => read_atom(text, k, next, laid, closed, table),
-        WordRead::ConstantWord { word, next } => read_constant(text, word, next, laid, closed, table),
+        WordRead::ConstantWord { word, next } => read_constant(
+            text,
+            word,
+            next,
+            laid,
+            closed,
+            table,
+        ),
         WordRead::UnaryWord { word, next } => {
             let start = lay_before(table, word, laid);
             let inner = read_inner(text, k, allowance - 1, next, start, closed, table);
             match inner {
-                Read::Form { place: at, laid: end, closed: count } => close_unary(text, word, laid + 3, start - laid, at, end, count, table),
+                Read::Form {
+                    place: at,
+                    laid: end,
+                    closed: count,
+                } => close_unary(text, word, laid + 3, start - laid, at, end, count, table),
                 Read::Refused { number, place: at } => Read::Refused { number, place: at },
             }
         }
         WordRead::BinaryWord { word, next } => {
             let first = read_inner(text, k, allowance - 1, next, laid, closed, table);
             match first {
-                Read::Form { place: middle, laid: half, closed: some } => {
+                Read::Form {
+                    place: middle,
+                    laid: half,
+                    closed: some,
+                } => {
                     let start = lay_between(table, word, half - 1);
                     let second = read_inner(text, k, allowance - 1, middle, start, some, table);
                     match second {
-                        Read::Form { place: at, laid: end, closed: count } => close_binary(text, word, half - 1, start - half, at, end, count, table),
+                        Read::Form {
+                            place: at,
+                            laid: end,
+                            closed: count,
+                        } => close_binary(
+                            text,
+                            word,
+                            half - 1,
+                            start - half,
+                            at,
+                            end,
+                            count,
+                            table,
+                        ),
                         Read::Refused { number, place: at } => Read::Refused { number, place: at },
                     }
                 }
                 Read::Refused { number, place: at } => Read::Refused { number, place: at },
             }
         }
-        WordRead::NoWord { place: at } => Read::Refused { number: 1, place: at },
+        WordRead::NoWord { place: at } => Read::Refused {
+            number: 1,
+            place: at,
+        },
     }
 }
 
@@ -557,13 +715,20 @@ pub fn read_rule(text: &[u8], k: u32, table: &mut [u8]) -> RuleRead
     ensures { λ r. ⌜ now (table .exit) ≡ ruleTable (now (text .entry)) k (now (table .entry)) ⌝ }
 {
     if table.len() != 192 {
-        return RuleRead::Refused { number: 6, place: 0 };
+        return RuleRead::Refused {
+            number: 6,
+            place: 0,
+        };
     }
     let mut lines = [0u8; 600];
     let form = read_form(text, k, 32, 0, 0, 0, &mut lines);
     match form {
         Read::Refused { number, place } => RuleRead::Refused { number, place },
-        Read::Form { place, laid, closed } => {
+        Read::Form {
+            place,
+            laid,
+            closed,
+        } => {
             if place < text.len() {
                 return RuleRead::Refused { number: 1, place };
             }
@@ -674,14 +839,7 @@ fn with_bit(v: u64, i: u32, t: bool) -> u64
 }
 
 // A frontier's word: bit i is line i's truth there. The words of the cuts that precede it go in by their OR and their AND.
-pub fn judge(
-    table: &[u8],
-    lines: u32,
-    labels: [u8; 8],
-    any: u64,
-    all: u64,
-    preceded: bool,
-) -> u64
+pub fn judge(table: &[u8], lines: u32, labels: [u8; 8], any: u64, all: u64, preceded: bool) -> u64
     requires { ⌜ (lines ≤ 64) × (3 * lines ≤ length (now table)) ⌝ }
     ensures { λ r. ⌜ r ≡ judged labels any all preceded (linesOf (now (table .entry)) lines) ⌝ }
 {

@@ -49,7 +49,14 @@ fn print_judged(table: &[u8], lines: u32, labels: [u8; 8]) {
     }
     print_number(rules::judge(table, lines, labels, 0, 0, false));
     print_number(rules::judge(table, lines, labels, 0xaaaa_aaaa_aaaa_aaaa, 0, true));
-    print_number(rules::judge(table, lines, labels, 0xffff_ffff_ffff_ffff, 0x5555_5555_5555_5555, true));
+    print_number(rules::judge(
+        table,
+        lines,
+        labels,
+        0xffff_ffff_ffff_ffff,
+        0x5555_5555_5555_5555,
+        true,
+    ));
 }
 
 fn print_accepted(k: u32, table: &[u8], lines: u32) {

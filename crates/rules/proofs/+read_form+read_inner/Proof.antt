@@ -1,24 +1,22 @@
+-- The reader of a form and that of a form inside call each other. Twice the allowance is the measure, one more for the form inside. Each return
+-- follows the definition `formAt` by the byte, the allowance and the word, and then by what the forms inside answered (FormDone).
+use Prim.Native.Nat.{ℕ, _≤_, _<_, _-_, _+_, _*_}
 use native.Mathlib.Nat.{pos-of-ne-zero}
-use Rattle.rules.specs.Text.{byteAt}
-use Rattle.rules.specs.LineLaws.{lineCount-pos}
-use Rattle.rules.specs.Line.{lineCount, linesBefore, linesBetween}
-use Rattle.rules.specs.declared.WordRead.the-variants.{AtWord, ConstantWord, UnaryWord, BinaryWord, NoWord}
+use native.Mathlib.Omega.{arith}
+use mathlib.Core.Path.{_≡_, sym, _∙_}
+use borrow.Author.Needs.{needs}
+use borrow.Fn.Kinds.{In}
+use borrow.Fn.PlainCycle.{Measures, is, falls, and}
+use Rattle.rules.specs.Line.{lineCount}
+use Rattle.rules.specs.declared.WordRead.the-variants.{AtWord, ConstantWord, UnaryWord, BinaryWord}
 use Rattle.rules.specs.declared.WordRead.{WordRead}
 use Rattle.rules.specs.ReaderSteps.{expect-met, expect-other}
 use Rattle.rules.specs.Reader.{bodyWith, innerWith, formAt}
 use Rattle.rules.specs.LayingLaws.{done-refused, before-four, between-one}
 use Rattle.rules.specs.FormDone.{room-first, room-second, unary-fault-done, unary-done, binary-fault-done, binary-second-fault-done, binary-done}
-use Rattle.rules.specs.FormSteps.{Opened, formAt-other, formAt-deep, formAt-word, word-near, NextBy, inside, FormDone, form-done, fault-done}
-use native.Mathlib.Omega.{arith}
-use mathlib.Core.Path.{_≡_, refl, sym, ap, _∙_}
-use Prim.Native.Nat.{ℕ, _≤_, _<_, _-_, _+_, _*_}
-use mathlib.Core.List.{List, _++_}
-use lib.ListN.{length, getD, take, drop, set, length-set}
-use mathlib.Core.Logic.{⊎-elim}
-use borrow.Author.Needs.{needs}
-use Prim.Native.Nat.{ℕ, _<_}
-use borrow.Fn.Kinds.{In}
-use borrow.Fn.PlainCycle.{Measures, is, falls, and}
+use Rattle.rules.specs.FormSteps.{Opened, formAt-other, formAt-deep, formAt-word, word-near, NextBy, inside, form-done, fault-done}
+use Rattle.rules.proofs.+read_form+read_inner.{statement}
+use Rattle.rules.proofs.+read_form+read_inner.Tie.{close}
 use Rattle.rules.proofs.read_form.Reads as read-form
 use Rattle.rules.proofs.read_form.Kinds as read-form-kinds
 use Rattle.rules.proofs.+read_form+read_inner.Lts-read_form as read-form-lts
@@ -33,8 +31,6 @@ use Rattle.rules.proofs.lay_between.Reads as lay-between-reads
 use Rattle.rules.proofs.read_atom.Reads as read-atom-reads
 use Rattle.rules.proofs.read_constant.Reads as read-constant-reads
 use Rattle.rules.proofs.read_word.Reads as read-word-reads
-use Rattle.rules.proofs.+read_form+read_inner.{statement}
-use Rattle.rules.proofs.+read_form+read_inner.Tie.{close}
 
 abbrev μ-read-form : Measures 2 read-form-kinds.ps ℕ
 μ-read-form κs a = 2 * a .1 .1 .0
@@ -140,9 +136,10 @@ read-form-read-inner-requires t c κs = let a = c .before .before .before .befor
     let left : 1 ≤ a .allowance = pos-of-ne-zero (o .left) in
     let m = c .before .before .before .before .before .before .before .before .before .before .before .before .before .before .pre .1 in
     let start = c .before .before .before .lay-before .result in
-    let before : start ≤ a .laid + 4 = omega (arith, c .before .before .before .lay-before .ensures .0, before-four w (a .laid)) in
-    (omega (arith, c .before .before .before .before .before .before .before .before .before .before .before .before .before .before .pre .0)
-    , room-first (a .allowance) (a .laid) (a .closed) (a .place) next start (a .table .now) _ m (o .left) near before (search needs))
+    let before : start ≤ a .laid + 4 = omega (arith, c .before .before .before .lay-before .ensures .0, before-four w (a .laid)) in (
+      omega (arith, c .before .before .before .before .before .before .before .before .before .before .before .before .before .before .pre .0),
+      room-first (a .allowance) (a .laid) (a .closed) (a .place) next start (a .table .now) _ m (o .left) near before (search needs),
+    )
 
 read-form-enum-known-inner : (t : ℕ) → read-form-lts.Need-enum-known-inner (form-calls t) (read-form-at t) read-form.Post
 read-form-enum-known-inner t c = search needs
@@ -165,9 +162,10 @@ read-form-close-unary-requires t c κs = let a = c .before .before .before .befo
     let start = c .before .before .before .before .before .before .before .before .before .before .lay-before .result in
     let before : start ≤ a .laid + 4 = omega (arith, c .before .before .before .before .before .before .before .before .before .before .lay-before .ensures .0, before-four w (a .laid)) in
     let d = form-done start (a .closed) _ _ (innerWith (formAt (a .allowance - 1) s (a .k)) s (a .closed) next) _ (c .before .before .inner .given .0 .0) (c .before .before .inner .given .0 .1 .0) (c .before .before .inner .given .0 .1 .1 .0) (c .before .before .before .before .before .before .read-inner .ensures) (c .before .before .inner .given .1) in
-    let x = inside (a .allowance - 1) s (a .k) (a .closed) next _ (d .form) (d .read) in
-    ((search needs, omega (arith, m .lines, m .short), omega (arith, d .laid-now, x .some), omega (arith, d .laid-now, x .short, m .lines), omega (arith, x .near, x .short, m .near))
-    , (omega arith, omega (arith, d .closed-now, x .short)))
+    let x = inside (a .allowance - 1) s (a .k) (a .closed) next _ (d .form) (d .read) in (
+      (search needs, omega (arith, m .lines, m .short), omega (arith, d .laid-now, x .some), omega (arith, d .laid-now, x .short, m .lines), omega (arith, x .near, x .short, m .near)),
+      (omega arith, omega (arith, d .closed-now, x .short)),
+    )
 
 read-form-enum-known-inner-2 : (t : ℕ) → read-form-lts.Need-enum-known-inner-2 (form-calls t) (read-form-at t) read-form.Post
 read-form-enum-known-inner-2 t c = search needs
@@ -186,9 +184,10 @@ read-form-read-inner-requires-2 t c κs = let a = c .before .before .before .bef
     let next = c .before .before .found4 .given .0 .1 .0 in
     let near : next ≤ a .place + 4 = unfold NextBy in (word-near (a .allowance) s (a .place) (BinaryWord w next) o) in
     let left : 1 ≤ a .allowance = pos-of-ne-zero (o .left) in
-    let m = c .before .before .before .before .before .before .before .before .before .before .pre .1 in
-    (omega (arith, c .before .before .before .before .before .before .before .before .before .before .pre .0)
-    , room-first (a .allowance) (a .laid) (a .closed) (a .place) next (a .laid) (a .table .now) _ m (o .left) near (omega arith) (search needs))
+    let m = c .before .before .before .before .before .before .before .before .before .before .pre .1 in (
+      omega (arith, c .before .before .before .before .before .before .before .before .before .before .pre .0),
+      room-first (a .allowance) (a .laid) (a .closed) (a .place) next (a .laid) (a .table .now) _ m (o .left) near (omega arith) (search needs),
+    )
 
 read-form-enum-known-first : (t : ℕ) → read-form-lts.Need-enum-known-first (form-calls t) (read-form-at t) read-form.Post
 read-form-enum-known-first t c = search needs
@@ -238,9 +237,10 @@ read-form-read-inner-requires-3 t c κs = let a = c .before .before .before .bef
     let x = inside (a .allowance - 1) s (a .k) (a .closed) next (c .before .before .before .before .before .before .first .given .0 .0) (d .form) (d .read) in
     let held : half ≡ a .laid + lineCount (d .form) = d .laid-now in
     let start = c .before .before .before .lay-between .result in
-    let between : start ≤ half + 1 = omega (arith, c .before .before .before .lay-between .ensures .0, between-one w (half - 1), x .some) in
-    (omega (arith, c .before .before .before .before .before .before .before .before .before .before .before .before .before .before .before .before .before .before .before .before .before .pre .0)
-    , room-second (a .allowance) (a .laid) (a .closed) (a .place) next _ half start some (d .form) (a .table .now) _ m (o .left) near x held (d .closed-now) between (search needs))
+    let between : start ≤ half + 1 = omega (arith, c .before .before .before .lay-between .ensures .0, between-one w (half - 1), x .some) in (
+      omega (arith, c .before .before .before .before .before .before .before .before .before .before .before .before .before .before .before .before .before .before .before .before .before .pre .0),
+      room-second (a .allowance) (a .laid) (a .closed) (a .place) next _ half start some (d .form) (a .table .now) _ m (o .left) near x held (d .closed-now) between (search needs),
+    )
 
 read-form-enum-known-second : (t : ℕ) → read-form-lts.Need-enum-known-second (form-calls t) (read-form-at t) read-form.Post
 read-form-enum-known-second t c = search needs
@@ -281,9 +281,10 @@ read-form-close-binary-requires t c κs = let a = c .before .before .before .bef
     let y = inside (a .allowance - 1) s (a .k) some (c .before .before .before .before .before .before .before .before .before .before .before .before .before .first .given .0 .0) (c .before .before .second .given .0 .0) (e .form) (e .read) in
     let between : (half ≤ start) × (start ≤ half + 1) = omega (arith, c .before .before .before .before .before .before .before .before .before .before .lay-between .ensures .0, between-one w (half - 1), x .some) in
     let ended : end ≡ start + lineCount (e .form) = e .laid-now in
-    let counted : some ≡ a .closed + lineCount (d .form) = d .closed-now in
-    ((search needs, omega (arith, y .some, x .some), omega (arith, y .short, m .lines), omega (arith, x .near, y .near, y .short, m .near))
-    , (omega arith, omega (arith, e .closed-now, y .short)))
+    let counted : some ≡ a .closed + lineCount (d .form) = d .closed-now in (
+      (search needs, omega (arith, y .some, x .some), omega (arith, y .short, m .lines), omega (arith, x .near, y .near, y .short, m .near)),
+      (omega arith, omega (arith, e .closed-now, y .short)),
+    )
 
 read-form-enum-known-second-2 : (t : ℕ) → read-form-lts.Need-enum-known-second-2 (form-calls t) (read-form-at t) read-form.Post
 read-form-enum-known-second-2 t c = search needs
