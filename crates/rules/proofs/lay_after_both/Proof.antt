@@ -1,7 +1,6 @@
--- Word by word: one line, or three behind one another.
+-- Word by word: one line, or three.
 use mathlib.Core.Path.{refl}
 use borrow.Author.Needs.{needs}
-use Rattle.rules.specs.LayingLaws.{lay-three}
 use Rattle.rules.specs.Line.{linesAfterBoth}
 use Rattle.rules.proofs.lay_after_both.Statement.{statement}
 use Rattle.rules.proofs.lay_after_both.Tie as tie
@@ -39,29 +38,14 @@ add-result-3 c = search needs
 enum-told-4 : tie.Need-enum-told-4
 enum-told-4 c = search needs
 
-put-line-requires-4 : tie.Need-put-line-requires-4
-put-line-requires-4 c κs = search needs
+add-lay-negated : tie.Need-add-lay-negated
+add-lay-negated c = search needs
 
-add-put-line : tie.Need-add-put-line
-add-put-line c = search needs
+add-lay-negated-2 : tie.Need-add-lay-negated-2
+add-lay-negated-2 c = search needs
 
-add-put-line-2 : tie.Need-add-put-line-2
-add-put-line-2 c = search needs
-
-add-put-line-3 : tie.Need-add-put-line-3
-add-put-line-3 c = search needs
-
-put-line-requires-5 : tie.Need-put-line-requires-5
-put-line-requires-5 c κs = search needs
-
-add-put-line-4 : tie.Need-add-put-line-4
-add-put-line-4 c = search needs
-
-add-put-line-5 : tie.Need-add-put-line-5
-add-put-line-5 c = search needs
-
-put-line-requires-6 : tie.Need-put-line-requires-6
-put-line-requires-6 c κs = search needs
+lay-negated-requires : tie.Need-lay-negated-requires
+lay-negated-requires c κs = search needs
 
 add-result-4 : tie.Need-add-result-4
 add-result-4 c = search needs
@@ -92,7 +76,7 @@ same-length-4 c = search needs
 
 returns-4 : tie.Need-returns-4
 unfolding linesAfterBoth
-returns-4 c = rw (c .before .before .before .before .before .before .before .before .before .before .before .before .enum-told4 .given .1, c .before .before .put-line6 .ensures, c .before .before .before .before .before .before .put-line5 .ensures, c .before .before .before .before .before .before .before .before .before .before .put-line4 .ensures) (refl, lay-three _ _ _ _ _)
+returns-4 c = rw (c .before .before .before .before .enum-told4 .given .1) (refl, c .before .before .lay-negated .ensures)
 
 pub lay-after-both-spec : {M : Type 1} → statement M
 lay-after-both-spec =
@@ -109,14 +93,9 @@ lay-after-both-spec =
     put-line-requires-3
     add-result-3
     enum-told-4
-    put-line-requires-4
-    add-put-line
-    add-put-line-2
-    add-put-line-3
-    put-line-requires-5
-    add-put-line-4
-    add-put-line-5
-    put-line-requires-6
+    add-lay-negated
+    add-lay-negated-2
+    lay-negated-requires
     add-result-4
     same-length
     returns
