@@ -2,18 +2,19 @@
 use Prim.Native.Nat.{ℕ, zero, suc, _+_, _-_, _*_, _≤_, _<_}
 use native.Mathlib.Nat.{suc-add, zero-add}
 use native.Mathlib.Omega.{arith}
-use mathlib.Core.Path.{_≡_, refl, sym, ap, _∙_}
-use mathlib.Core.Bool.{Bool}
-use mathlib.Core.List.{List, [], _∷_, _++_}
-use lib.Dec.{eqb, ltb}
-use lib.ListN.{length, take, drop, replicate, length-replicate}
-use lib.Seq.{sets, sets-eq, take-append-add, length-sets}
+use mathlib.Core.Path.{_≡_, refl, ap, _∙_}
+use mathlib.Core.Bool.{true}
+use mathlib.Core.List.{List, _∷_, _++_}
+use lib.ListN.{length, take, drop, replicate, length-replicate, length-append}
+use lib.Seq.{sets, sets-eq, take-append-add}
 use borrow.Author.Tests.{eq-eqb, ne-eqb, lt-ltb, le-ltb}
 use Rattle.rules.specs.declared.RuleRead.the-variants.{Accepted, Refused}
-use Rattle.rules.specs.Formula.{Formula}
+use Rattle.rules.specs.Formula.{Formula, AtomsBelow}
 use Rattle.rules.specs.Line.{lineCount, linesAt}
-use Rattle.rules.specs.LineLaws.{length-linesAt}
-use Rattle.rules.specs.Table.{tableBytes}
+use Rattle.rules.specs.LineLaws.{length-linesAt, good-linesAt}
+use Rattle.rules.specs.Table.{tableBytes, goodTable}
+use Rattle.rules.specs.TableBytes.{linesOf}
+use Rattle.rules.specs.TableBytesLaws.{linesOf-tableBytes}
 use Rattle.rules.specs.TableLaws.{length-tableBytes}
 use Rattle.rules.specs.Reader.{formed, refused, andThen, formAt, readRule}
 use Rattle.rules.specs.Laying.{lay}
@@ -75,3 +76,20 @@ take-laid lines f h e =
     let bs = tableBytes (linesAt 0 f) in
     let long : length bs ≡ 3 * lineCount f = length-tableBytes (linesAt 0 f) ∙ ap (λ (n : ℕ). 3 * n) (length-linesAt 0 f) in
     ap (take 192) e ∙ front-zeros bs 192 600 (192 - 3 * lineCount f) 408 (omega arith) (omega arith)
+
+-- A table has 192 bytes, its lines are the form's, and they are good.
+pub length-tableOf : (f : Formula) → lineCount f ≤ 64 → length (tableOf f) ≡ 192
+unfolding tableOf
+length-tableOf f h =
+    let bs = tableBytes (linesAt 0 f) in
+    let long : length bs ≡ 3 * lineCount f = length-tableBytes (linesAt 0 f) ∙ ap (λ (n : ℕ). 3 * n) (length-linesAt 0 f) in
+    let zeros : List ℕ = replicate (192 - 3 * lineCount f) 0 in
+    let size : length zeros ≡ 192 - 3 * lineCount f = length-replicate {A = ℕ} (192 - 3 * lineCount f) 0 in
+    length-append bs zeros ∙ omega arith
+
+pub linesOf-tableOf : (f : Formula) → linesOf (tableOf f) (lineCount f) ≡ linesAt 0 f
+unfolding tableOf
+linesOf-tableOf f = rw (length-linesAt 0 f) at (linesOf-tableBytes (linesAt 0 f) (replicate (192 - 3 * lineCount f) 0))
+
+pub good-tableOf : (k : ℕ) (f : Formula) → 0 < k → AtomsBelow k f → goodTable k (linesOf (tableOf f) (lineCount f)) ≡ true
+good-tableOf k f h b = rw (linesOf-tableOf f) (good-linesAt k h 0 f b)

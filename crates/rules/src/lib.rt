@@ -8,7 +8,7 @@ ghost use Rattle.codec.specs.Bit.{bit};
 ghost use Rattle.rules.specs.Text.{byteAt};
 ghost use Rattle.rules.specs.Formula.{constant};
 ghost use Rattle.rules.specs.Reader.{restAt, aWordAt, eWordAt, wordAt, atomAt, closeAt, innerWith, formAt};
-ghost use Rattle.rules.specs.Line.{line, trueLines, constantLines, linesBefore, linesAfter, linesBetween, linesAfterBoth};
+ghost use Rattle.rules.specs.Line.{line, notLine, trueLines, constantLines, linesBefore, linesAfter, linesBetween, linesAfterBoth};
 ghost use Rattle.rules.specs.Laying.{lay, hasTrue, digitAt, closeRead, Done, Room};
 ghost use Rattle.rules.specs.Table.{goodLine, goodTable};
 ghost use Rattle.rules.specs.RuleTable.{ruleAnswer, ruleTable};
@@ -157,6 +157,25 @@ fn rest(text: &[u8], i: usize, letters: &[u8], word: WordRead) -> WordRead
     word
 }
 
+// A word with the place after it.
+fn constant_word(word: Constant, next: usize) -> WordRead
+    ensures { λ r. ⌜ r ≡ WordRead.ConstantWord word next ⌝ }
+{
+    WordRead::ConstantWord { word, next }
+}
+
+fn unary_word(word: Unary, next: usize) -> WordRead
+    ensures { λ r. ⌜ r ≡ WordRead.UnaryWord word next ⌝ }
+{
+    WordRead::UnaryWord { word, next }
+}
+
+fn binary_word(word: Binary, next: usize) -> WordRead
+    ensures { λ r. ⌜ r ≡ WordRead.BinaryWord word next ⌝ }
+{
+    WordRead::BinaryWord { word, next }
+}
+
 // The words that begin with a, from their second letter on: at, as, ap, ay, ah, and.
 fn a_word(text: &[u8], i: usize) -> WordRead
     requires { ⌜ i ≤ 1000 ⌝ }
@@ -168,39 +187,19 @@ fn a_word(text: &[u8], i: usize) -> WordRead
         return WordRead::AtWord { next };
     }
     if c == b's' as u32 {
-        return WordRead::BinaryWord {
-            word: Binary::As,
-            next,
-        };
+        return binary_word(Binary::As, next);
     }
     if c == b'p' as u32 {
-        return WordRead::UnaryWord {
-            word: Unary::Ap,
-            next,
-        };
+        return unary_word(Unary::Ap, next);
     }
     if c == b'y' as u32 {
-        return WordRead::UnaryWord {
-            word: Unary::Ay,
-            next,
-        };
+        return unary_word(Unary::Ay, next);
     }
     if c == b'h' as u32 {
-        return WordRead::UnaryWord {
-            word: Unary::Ah,
-            next,
-        };
+        return unary_word(Unary::Ah, next);
     }
     if c == b'n' as u32 {
-        return rest(
-            text,
-            next,
-            b"d",
-            WordRead::BinaryWord {
-                word: Binary::And,
-                next: i + 2,
-            },
-        );
+        return rest(text, next, b"d", binary_word(Binary::And, i + 2));
     }
     WordRead::NoWord { place: i }
 }
@@ -213,28 +212,16 @@ fn e_word(text: &[u8], i: usize) -> WordRead
     let c = byte_at(text, i);
     let next = i + 1;
     if c == b'y' as u32 {
-        return WordRead::UnaryWord {
-            word: Unary::Ey,
-            next,
-        };
+        return unary_word(Unary::Ey, next);
     }
     if c == b's' as u32 {
-        return WordRead::BinaryWord {
-            word: Binary::Es,
-            next,
-        };
+        return binary_word(Binary::Es, next);
     }
     if c == b'p' as u32 {
-        return WordRead::UnaryWord {
-            word: Unary::Ep,
-            next,
-        };
+        return unary_word(Unary::Ep, next);
     }
     if c == b'h' as u32 {
-        return WordRead::UnaryWord {
-            word: Unary::Eh,
-            next,
-        };
+        return unary_word(Unary::Eh, next);
     }
     WordRead::NoWord { place: i }
 }
@@ -253,48 +240,16 @@ fn read_word(text: &[u8], i: usize) -> WordRead
         return e_word(text, next);
     }
     if c == b'n' as u32 {
-        return rest(
-            text,
-            next,
-            b"ot",
-            WordRead::UnaryWord {
-                word: Unary::Not,
-                next: i + 3,
-            },
-        );
+        return rest(text, next, b"ot", unary_word(Unary::Not, i + 3));
     }
     if c == b't' as u32 {
-        return rest(
-            text,
-            next,
-            b"rue",
-            WordRead::ConstantWord {
-                word: Constant::True,
-                next: i + 4,
-            },
-        );
+        return rest(text, next, b"rue", constant_word(Constant::True, i + 4));
     }
     if c == b'f' as u32 {
-        return rest(
-            text,
-            next,
-            b"alse",
-            WordRead::ConstantWord {
-                word: Constant::False,
-                next: i + 5,
-            },
-        );
+        return rest(text, next, b"alse", constant_word(Constant::False, i + 5));
     }
     if c == b'o' as u32 {
-        return rest(
-            text,
-            next,
-            b"r",
-            WordRead::BinaryWord {
-                word: Binary::Or,
-                next: i + 2,
-            },
-        );
+        return rest(text, next, b"r", binary_word(Binary::Or, i + 2));
     }
     WordRead::NoWord { place: i }
 }
@@ -366,6 +321,17 @@ fn lay_before(table: &mut [u8], word: Unary, n: usize) -> usize
     }
 }
 
+// Not line `last`, a line, and not that one, behind `last`.
+fn lay_negated(table: &mut [u8], last: usize, kind: u8, a: usize, b: usize)
+    requires { ⌜ (length (now table) ≡ 600) × (last + 4 ≤ 200) × (a < 200) × (b < 200) ⌝ }
+    ensures { λ r. ⌜ now (table .exit) ≡ lay (now (table .entry)) (last + 1) (notLine last ∷ line kind a b ∷ notLine (last + 2) ∷ []) ⌝ }
+{
+    let n = last + 1;
+    put_line(table, n, 1, last, 0);
+    put_line(table, n + 1, kind, a, b);
+    put_line(table, n + 2, 1, last + 2, 0);
+}
+
 // The lines after that form's. Its last line is `last`, and that of true is `truth`.
 fn lay_after(table: &mut [u8], word: Unary, truth: usize, last: usize) -> usize
     requires { ⌜ (length (now table) ≡ 600) × (truth < 200) × (last + 4 ≤ 200) ⌝ }
@@ -390,21 +356,15 @@ fn lay_after(table: &mut [u8], word: Unary, truth: usize, last: usize) -> usize
             n + 1
         }
         Unary::Ay => {
-            put_line(table, n, 1, last, 0);
-            put_line(table, n + 1, 3, last + 1, 0);
-            put_line(table, n + 2, 1, last + 2, 0);
+            lay_negated(table, last, 3, last + 1, 0);
             n + 3
         }
         Unary::Eh => {
-            put_line(table, n, 1, last, 0);
-            put_line(table, n + 1, 5, truth, last + 1);
-            put_line(table, n + 2, 1, last + 2, 0);
+            lay_negated(table, last, 5, truth, last + 1);
             n + 3
         }
         Unary::Ah => {
-            put_line(table, n, 1, last, 0);
-            put_line(table, n + 1, 4, truth, last + 1);
-            put_line(table, n + 2, 1, last + 2, 0);
+            lay_negated(table, last, 4, truth, last + 1);
             n + 3
         }
     }
@@ -447,9 +407,7 @@ fn lay_after_both(table: &mut [u8], word: Binary, first: usize, last: usize) -> 
             n + 1
         }
         Binary::Or => {
-            put_line(table, n, 1, last, 0);
-            put_line(table, n + 1, 2, first + 1, last + 1);
-            put_line(table, n + 2, 1, last + 2, 0);
+            lay_negated(table, last, 2, first + 1, last + 1);
             n + 3
         }
     }

@@ -1,50 +1,36 @@
-use Rattle.rules.specs.Laying.{lay, closeRead}
+-- The lines laid down after the form inside are counted by how far the table grew.
+use Prim.Native.Nat.{_-_, _+_}
+use native.Mathlib.Omega.{arith}
+use mathlib.Core.Path.{_≡_, _∙_}
+use lib.ListN.{length}
+use borrow.Author.Needs.{needs}
 use Rattle.rules.specs.Line.{linesAfter}
 use Rattle.rules.specs.LayingLaws.{after-three}
-use native.Mathlib.Omega.{arith}
-use mathlib.Core.Path.{_≡_, refl, sym, ap, _∙_}
-use Prim.Native.Nat.{ℕ, _≤_, _<_, _-_, _+_, _*_}
-use mathlib.Core.List.{List, _++_}
-use lib.ListN.{length, getD, take, drop, set, length-set}
-use mathlib.Core.Logic.{⊎-elim}
-use borrow.Author.Needs.{needs}
 use Rattle.rules.proofs.close_unary.Statement.{statement}
 use Rattle.rules.proofs.close_unary.Tie as tie
-use Rattle.rules.proofs.close_unary.Reads as reads
-use Rattle.rules.proofs.close_unary.Lts as lts
-use Rattle.rules.proofs.close.Reads as close-reads
-use Rattle.rules.proofs.lay_after.Reads as lay-after-reads
 
--- src/lib.rt:473:47
 sub-lay-after : tie.Need-sub-lay-after
 sub-lay-after c = search needs
 
--- src/lib.rt:473:9
 lay-after-requires : tie.Need-lay-after-requires
 lay-after-requires c κs = search needs
 
--- src/lib.rt:474:31
 add-close : tie.Need-add-close
 add-close c = search needs
 
--- src/lib.rt:474:48
 sub-close : tie.Need-sub-close
 sub-close c = search needs
 
--- src/lib.rt:474:31
 add-close-2 : tie.Need-add-close-2
 add-close-2 c = let a = c .before .before .before .before .before .before .args in
     omega (arith, after-three (a .word) (a .truth) (a .end - 1))
 
--- src/lib.rt:474:5
 close-requires : tie.Need-close-requires
 close-requires c κs = search needs
 
--- src/lib.rt:467:1
 same-length : tie.Need-same-length
 same-length c = search needs
 
--- src/lib.rt:467:1
 returns : tie.Need-returns
 returns c = let a = c .before .before .before .before .before .before .before .args in
     let total = c .before .before .before .lay-after .result in

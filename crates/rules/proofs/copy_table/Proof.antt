@@ -1,16 +1,13 @@
-use lib.Seq.{ext-getD, getD-set-same, getD-set-other, getD-take, length-take-le}
-use borrow.Author.Count.{below-more, below-none}
+-- The table agrees with what is copied below i; two lists that agree at every place are equal.
+use Prim.Native.Nat.{ℕ, _≤_, _<_, _-_}
 use native.Mathlib.Omega.{arith}
-use mathlib.Core.Path.{_≡_, refl, sym, ap, _∙_}
-use Prim.Native.Nat.{ℕ, _≤_, _<_, _-_, _+_, _*_}
-use mathlib.Core.List.{List, _++_}
-use lib.ListN.{length, getD, take, drop, set, length-set}
-use mathlib.Core.Logic.{⊎-elim}
+use mathlib.Core.Path.{_≡_, sym, _∙_}
+use lib.Seq.{ext-getD, getD-set-same, getD-set-other, getD-take, length-take-le}
+use lib.ListN.{length, getD, take, set, length-set}
+use borrow.Author.Count.{below-more}
 use borrow.Author.Needs.{needs}
 use Rattle.rules.proofs.copy_table.Statement.{statement}
 use Rattle.rules.proofs.copy_table.Tie as tie
-use Rattle.rules.proofs.copy_table.Reads as reads
-use Rattle.rules.proofs.copy_table.Lts as lts
 
 abbrev Inv-loop : tie.InvT-loop
 Inv-loop from table₀ i₀ table i =
@@ -19,27 +16,21 @@ Inv-loop from table₀ i₀ table i =
 abbrev μ-loop : tie.MeasureT-loop
 μ-loop from table₀ i₀ table i = 192 - i
 
--- src/lib.rt:548:5
 loop-holds : tie.Need-loop-holds Inv-loop μ-loop
 loop-holds c = (search needs, search needs, λ j h. absurd (omega arith))
 
--- src/lib.rt:549:20
 shared-slice-read-table : tie.Need-shared-slice-read-table Inv-loop μ-loop
 shared-slice-read-table c = search needs
 
--- src/lib.rt:549:9
 slice-write-table : tie.Need-slice-write-table Inv-loop μ-loop
 slice-write-table c = search needs
 
--- src/lib.rt:550:9
 add-i : tie.Need-add-i Inv-loop μ-loop
 add-i c = search needs
 
--- src/lib.rt:548:5
 loop-less : tie.Need-loop-less Inv-loop μ-loop
 loop-less c = search needs
 
--- src/lib.rt:548:5
 loop-again : tie.Need-loop-again Inv-loop μ-loop
 loop-again c = let a = c .before .before .before .args in
     let l = c .before .before .loop in
@@ -51,11 +42,9 @@ loop-again c = let a = c .before .before .before .args in
           (getD-set-same (l .table) (l .i) v 0 (omega arith)),
     )
 
--- src/lib.rt:543:1
 same-length : tie.Need-same-length Inv-loop μ-loop
 same-length c = search needs
 
--- src/lib.rt:543:1
 returns : tie.Need-returns Inv-loop μ-loop
 returns c = let a = c .before .before .args in
     let l = c .before .loop in
