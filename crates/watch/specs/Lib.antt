@@ -37,3 +37,4 @@ pub mod Verdicts
 pub mod Reports
 pub mod SoundRun
 pub mod Demand3
+pub mod Examples
