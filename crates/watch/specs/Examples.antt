@@ -1,6 +1,6 @@
 -- The starred examples of 01 as one list, on the calls' definitions: from a rule's text and the bytes that open is lent.
 use Prim.Native.Nat.{ℕ, zero, suc}
-use mathlib.Core.Path.{_≡_, refl, sym, _∙_}
+use mathlib.Core.Path.{_≡_, refl, sym, ap, _∙_}
 use mathlib.Core.Bool.{true, false, not, _&&_}
 use mathlib.Core.List.{List, [], _∷_, map, _++_}
 use lib.ListN.{replicate}
@@ -142,8 +142,7 @@ pub record StarredExamples : Type 0 where
   pub three : watch 3 someOrder (comes first ++ comes second) .answers
       ≡ (state (eight 1 2 1) false 2 ∷ held 1 ∷ state (eight 1 1 0) false 2 ∷ held 1 ∷ state (eight 0 0 0) false 1 ∷ [])
   pub three-cuts : keptCuts (watch 3 someOrder (comes first ++ comes second)) ≡ (eight 1 1 0 ∷ eight 1 2 1 ∷ [])
-  pub three-history : watch 3 someOrder (comes first ++ comes second) .ledger .history ≡ second ∷ first ∷ []
-  pub three-source : sourceKeeps 3 (second ∷ first ∷ []) ≡ (eight 0 0 0 ∷ eight 1 1 0 ∷ eight 1 2 1 ∷ [])
+  pub three-source : sourceKeeps 3 (watch 3 someOrder (comes first ++ comes second) .ledger .history) ≡ (eight 0 0 0 ∷ eight 1 1 0 ∷ eight 1 2 1 ∷ [])
 
 -- ---- Theorem
 
@@ -161,20 +160,21 @@ unfolding badStart restAt aWordAt eWordAt wordAt andThen expect expectDigit clos
 starred =
     let ab : watch 2 someOrder (a1 ++ a2 ++ b1) .window ≡ windowBytes 2 200 frontiersAt21 = refl in
     let ba : watch 2 someOrder (b1 ++ a1 ++ a2) .window ≡ windowBytes 2 200 frontiersAt21 = refl in
+    let history : watch 3 someOrder (comes first ++ comes second) .ledger .history ≡ second ∷ first ∷ [] = refl in
+    let source : sourceKeeps 3 (second ∷ first ∷ []) ≡ (eight 0 0 0 ∷ eight 1 1 0 ∷ eight 1 2 1 ∷ []) = refl in
     record {
-  arrival = refl;
-  arrival-cuts = refl;
-  other-order = refl;
-  same-window = ab ∙ sym ba;
-  then-both = refl;
-  alone-false = refl;
-  alone = refl;
-  in-every-order = refl;
-  ap-start = refl;
-  ay-start = refl;
-  ey-next = refl;
-  three = refl;
-  three-cuts = refl;
-  three-history = refl;
-  three-source = refl;
-}
+      arrival = refl;
+      arrival-cuts = refl;
+      other-order = refl;
+      same-window = ab ∙ sym ba;
+      then-both = refl;
+      alone-false = refl;
+      alone = refl;
+      in-every-order = refl;
+      ap-start = refl;
+      ay-start = refl;
+      ey-next = refl;
+      three = refl;
+      three-cuts = refl;
+      three-source = ap (sourceKeeps 3) history ∙ source;
+    }
