@@ -39,3 +39,4 @@ pub mod Reports
 pub mod SoundRun
 pub mod Demand2
 pub mod Demand3
+pub mod Examples
