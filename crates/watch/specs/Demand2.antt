@@ -68,20 +68,20 @@ demanded w k f start Z S =
     let X = S .right in
     let W : World = worldOf k (linesAt 0 f) start in
     let ts : List Event = Z .ledger .history in
-    record
-      { frontiers-kept = X .kept
-      ; cuts = X .represents .cuts
-      ; record-is = X .bytes-are
-      ; window-is = X .window-is
-      ; read-back = ap (λ (s : List ℕ). frontiers w s (keptCount (Z .bytes))) (X .window-is) ∙ says-frontiers w k (linesAt 0 f) start (S .rule) (Z .ledger) (Z .bytes) (Z .window) X (length (Z .window))
-      ; frontiers-are = X .represents .are
-      ; ascending = X .represents .sorted
-      ; exactly = λ C. ((λ m. let c = X .represents .kept C m in (c .consistent, complete C (c .kept))), λ c. X .represents .complete C (record { consistent = c .0; kept = inl (c .1 .0, c .1 .1, none-closed (c .1 .0), c .1 .2) }))
-      ; line-true = λ C i l. bit-wordOf (length (linesAt 0 f)) (λ j. lineTruth (modelOf W ts) (linesAt 0 f) j C) i l
-      ; no-more-bits = λ C i l. bit-above (wordOf (length (linesAt 0 f)) (λ j. lineTruth (modelOf W ts) (linesAt 0 f) j C)) (length (linesAt 0 f)) i (wordOf-lt (length (linesAt 0 f)) (λ j. lineTruth (modelOf W ts) (linesAt 0 f) j C)) l
-      ; rule-true = rule-means (modelOf W ts) f
-      ; history-true = X .right .by-rule
-      }
+    record {
+      frontiers-kept = X .kept;
+      cuts = X .represents .cuts;
+      record-is = X .bytes-are;
+      window-is = X .window-is;
+      read-back = ap (λ (s : List ℕ). frontiers w s (keptCount (Z .bytes))) (X .window-is) ∙ says-frontiers w k (linesAt 0 f) start (S .rule) (Z .ledger) (Z .bytes) (Z .window) X (length (Z .window));
+      frontiers-are = X .represents .are;
+      ascending = X .represents .sorted;
+      exactly = λ C. ((λ m. let c = X .represents .kept C m in (c .consistent, complete C (c .kept))), λ c. X .represents .complete C (record { consistent = c .0; kept = inl (c .1 .0, c .1 .1, none-closed (c .1 .0), c .1 .2) }));
+      line-true = λ C i l. bit-wordOf (length (linesAt 0 f)) (λ j. lineTruth (modelOf W ts) (linesAt 0 f) j C) i l;
+      no-more-bits = λ C i l. bit-above (wordOf (length (linesAt 0 f)) (λ j. lineTruth (modelOf W ts) (linesAt 0 f) j C)) (length (linesAt 0 f)) i (wordOf-lt (length (linesAt 0 f)) (λ j. lineTruth (modelOf W ts) (linesAt 0 f) j C)) l;
+      rule-true = rule-means (modelOf W ts) f;
+      history-true = X .right .by-rule;
+    }
   where
     none-closed : (p : ℕ) → T (openIn (worldOf k (linesAt 0 f) start) p)
     none-closed p = rw (bit-zero p) tt

@@ -33,8 +33,7 @@ use Rattle.watch.specs.AfterCall.{noEvent, badLengths, decision, take-el
 use Rattle.watch.specs.TakeLaws.{stepped-some}
 
 module _ (w k : ℕ) (table : List Line) (start : Cut) (R : Rule w k table start) (L : Ledger) (bytes lent : List ℕ) (X : Watching w k table start L bytes lent)
-  (scratch : List ℕ) (h : badLengths w k table start R L bytes lent X scratch ≡ false) where
-
+    (scratch : List ℕ) (h : badLengths w k table start R L bytes lent X scratch ≡ false) where
   abbrev room : ℕ
   room = roomOf w (length lent)
 
