@@ -40,6 +40,7 @@ use Rattle.watch.specs.OfferLaws.{accepted}
 use Rattle.watch.specs.Verdicts.{TrueVerdict, Truthful}
 use Rattle.watch.specs.AfterCall.{WatchRight}
 use Rattle.watch.specs.SoundRun.{Sound, Accepts, EightBytes, AllPassed, atEnd, sound-run}
+use Rattle.watch.specs.Examples.{eight}
 
 -- ---- Statement
 

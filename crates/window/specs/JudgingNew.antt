@@ -1,17 +1,16 @@
 -- Judging a new frontier: what is gathered from the frontiers laid down before it is gathered from exactly the cuts that precede it,
 -- so the judged frontier is the cut's own.
-use Prim.Native.Nat.{ℕ, _≤_, _<_, suc, _^_, zero}
+use Prim.Native.Nat.{ℕ, _≤_, _<_, suc, zero}
 use native.Mathlib.Omega.{arith}
 use native.Mathlib.Decide.{decLt}
-use mathlib.Core.Path.{_≡_, sym, ap, fun-ext, _∙_, refl, subst, subst⁻¹}
-use mathlib.Core.Bool.{true, false, not, _&&_, true≢false, Bool, _||_}
+use mathlib.Core.Path.{_≡_, sym, ap, _∙_, refl, subst, subst⁻¹}
+use mathlib.Core.Bool.{true, false, not, _&&_, true≢false, Bool}
 use mathlib.Core.List.{List, _∷_, map, List·Memᴰ}
-use mathlib.Core.Logic.{_⊎_, inl, inr, ⊎-elim, _≢_, _↔_}
+use mathlib.Core.Logic.{_⊎_, inl, inr, ⊎-elim, _≢_}
 use mathlib.Core.Option.{some}
 use lib.Dec.{T, eqb, T-not}
 use lib.ListN.{getD, length}
 use lib.Count.{trailingZeros}
-use lib.Bits.{bitOr, bitAnd}
 use borrow.Author.Tests.{eq-eqb, ne-eqb}
 use Rattle.clocks.specs.declared.Event.{Event}
 use Rattle.rules.specs.TruthLaws.{Ruled, Leads}
@@ -25,14 +24,12 @@ use Rattle.clocks.specs.Step.{consistent-new, Advanced}
 use Rattle.clocks.specs.Counts.{at, listOf}
 use Rattle.clocks.specs.Tested.{ready, consistent}
 use Rattle.clocks.specs.CountsLaws.{getD-listOf, listOf-same, at-listOf}
-use Rattle.clocks.specs.Valid.{Takeable, History, WellFormed}
-use Rattle.clocks.specs.EventLaws.{either, true-T, T-true, ready-same, apply-next, apply-up, less-minus, less-apply}
+use Rattle.clocks.specs.Valid.{Takeable, History}
+use Rattle.clocks.specs.EventLaws.{either, true-T, ready-same, apply-next, apply-up, less-minus, less-apply}
 use Rattle.clocks.specs.TestedLaws.{in-takeable}
-use Rattle.clocks.specs.BoundedLaws.{and-l, and-r, and-i, or-l, or-r, or-e}
+use Rattle.clocks.specs.BoundedLaws.{and-l, and-r}
 use Rattle.clocks.specs.HistoryLaws.{event-zero, event-next}
 use Rattle.codec.specs.Bit.{bit}
-use Rattle.codec.specs.LowestBit.{trailing-lt, bit-trailing}
-use Rattle.codec.specs.BitLaws.{bit-zero, lt-of-bits, bit-or, bit-and}
 use Rattle.rules.specs.Reader.{formed}
 use Rattle.clocks.specs.KeptStep.{new-kept}
 use Rattle.clocks.specs.CausalLaws.{mask-some}
@@ -48,25 +45,8 @@ use Rattle.window.specs.Order.{before, same}
 use Rattle.window.specs.Seek.{seek, standsAt}
 use Rattle.window.specs.FoundLaid.{found-e, found-i}
 use Rattle.window.specs.OrderCuts.{before-pointwise}
-
--- cuts that count nothing from n up are known by their first n counts
-pub listOf-injective : (n : ℕ) (R Q : Cut) → ((p : ℕ) → n ≤ p → R p ≡ 0) → ((p : ℕ) → n ≤ p → Q p ≡ 0) → listOf n R ≡ listOf n Q → R ≡ Q
-listOf-injective n R Q y z h = fun-ext (λ p. every p (decLt p n))
-  where
-    every : (p : ℕ) → Dec (p < n) → R p ≡ Q p
-    every p (yes l) = sym (getD-listOf n R p 0 l) ∙ ap (λ (xs : List ℕ). getD xs p 0) h ∙ getD-listOf n Q p 0 l
-    every p (no l) = y p (omega arith) ∙ sym (z p (omega arith))
-
--- the lowest process of an event takes part
-first-process : (n k : ℕ) (f : Event) → k ≤ n → WellFormed k f → (trailingZeros n (f .mask) < n) × (involved f (trailingZeros n (f .mask)) ≡ true) × (f .mask ≢ 0)
-unfolding involved
-first-process n k f l w =
-    let o = w .occupied .0 in
-    let b : bit (f .mask) o ≡ true = T-true (bit (f .mask) o) (w .occupied .1) in
-    let z : f .mask ≢ 0 = λ q. true≢false (sym b ∙ ap (λ (m : ℕ). bit m o) q ∙ bit-zero o) in
-    let h : f .mask < 2 ^ n = lt-of-bits n (f .mask) (λ p k′. w .below p (omega arith)) in
-    let t : trailingZeros n (f .mask) < n = trailing-lt n (f .mask) (omega arith) h in
-    (t, bit-trailing n (f .mask) t, z)
+use Rattle.window.specs.StoredCuts.{listOf-injective, first-process}
+use Rattle.window.specs.GatherLaws.{Gathers, gathers-same, gathers-added}
 
 module _ (W : World) (valid : List Event → Event → Type 0) (ts : List Event) (e : Event) (P : Proper W valid ts) (tk : Takeable (W .processes) valid ts e)
     (opens : (p : ℕ) → involved e p ≡ true → T (openIn W p)) (S₀ : Cut) (c₀ : Consistent ts S₀) (r₀ : Ready e S₀) where
@@ -241,9 +221,8 @@ module _ (W : World) (valid : List Event → Event → Type 0) (ts : List Event)
       abbrev G : ℕ → Gathered
       G q = gathered s frontiersLaid hints g q
 
-      record Right (q i : ℕ) : Type 0 where
-        some-has : T (bit (G q .ors) i) ↔ Some q i
-        all-have : T (bit (G q .ands) i) ↔ All q i
+      abbrev Right : ℕ → ℕ → Type 0
+      Right q i = Gathers (lineTruth M (W .table) i) (From q) i (G q .ors) (G q .ands)
 
       right-start : (i : ℕ) → i < length (W .table) → Right 0 i
       unfolding gathered
@@ -261,53 +240,6 @@ module _ (W : World) (valid : List Event → Event → Type 0) (ts : List Event)
           only : Some 0 i → T (lineTruth M (W .table) i S₀)
           only w = subst T (ap (lineTruth M (W .table) i) (origin (w .0) (w .1))) (w .2)
 
-      -- where the process adds no cut
-      right-same : (p i : ℕ) → G (suc p) .ors ≡ G p .ors → G (suc p) .ands ≡ G p .ands → ((S′ : Cut) → From (suc p) S′ → From p S′) → Right p i → Right (suc p) i
-      right-same p i o a f r = record {
-        some-has = (
-          (λ t. let w = r .some-has .0 (subst (λ (x : ℕ). T (bit x i)) o t) in (w .0, from-more p (w .0) (w .1), w .2)),
-          λ w. subst⁻¹ (λ (x : ℕ). T (bit x i)) o (r .some-has .1 (w .0, f (w .0) (w .1), w .2)),
-        );
-        all-have = (
-          (λ t S′ w. r .all-have .0 (subst (λ (x : ℕ). T (bit x i)) a t) S′ (f S′ w)),
-          λ h. subst⁻¹ (λ (x : ℕ). T (bit x i)) a (r .all-have .1 (λ S′ w. h S′ (from-more p S′ w))),
-        );
-      }
-
-      -- where it adds the cut R
-      right-added : (p i : ℕ) (R : Cut) (v : ℕ) → G (suc p) .ors ≡ bitOr (G p .ors) v → G (suc p) .ands ≡ bitAnd (G p .ands) v → bit v i ≡ lineTruth M (W .table) i R
-          → From (suc p) R → ((S′ : Cut) → From (suc p) S′ → From p S′ ⊎ (S′ ≡ R)) → Right p i → Right (suc p) i
-      right-added p i R v o a b n f r = record { some-has = (some-there, some-back); all-have = (all-there, all-back) }
-        where
-          ors : bit (G (suc p) .ors) i ≡ bit (G p .ors) i || lineTruth M (W .table) i R
-          ors = ap (λ (x : ℕ). bit x i) o ∙ bit-or (G p .ors) v i ∙ ap (λ (t : Bool). bit (G p .ors) i || t) b
-
-          ands : bit (G (suc p) .ands) i ≡ bit (G p .ands) i && lineTruth M (W .table) i R
-          ands = ap (λ (x : ℕ). bit x i) a ∙ bit-and (G p .ands) v i ∙ ap (λ (t : Bool). bit (G p .ands) i && t) b
-
-          some-there : T (bit (G (suc p) .ors) i) → Some (suc p) i
-          some-there t = ⊎-elim
-              (λ u. let w = r .some-has .0 u in (w .0, from-more p (w .0) (w .1), w .2))
-              (λ u. (R, n, u))
-              (or-e (bit (G p .ors) i) (lineTruth M (W .table) i R) (subst T ors t))
-
-          some-back : Some (suc p) i → T (bit (G (suc p) .ors) i)
-          some-back w = subst⁻¹ T ors (⊎-elim
-              (λ u. or-l (bit (G p .ors) i) (lineTruth M (W .table) i R) (r .some-has .1 (w .0, u, w .2)))
-              (λ q. or-r (bit (G p .ors) i) (lineTruth M (W .table) i R) (subst T (ap (lineTruth M (W .table) i) q) (w .2)))
-              (f (w .0) (w .1)))
-
-          all-there : T (bit (G (suc p) .ands) i) → All (suc p) i
-          all-there t S′ w =
-              let u : T (bit (G p .ands) i && lineTruth M (W .table) i R) = subst T ands t in
-              ⊎-elim
-              (λ k. r .all-have .0 (and-l (bit (G p .ands) i) (lineTruth M (W .table) i R) u) S′ k)
-              (λ q. subst⁻¹ T (ap (lineTruth M (W .table) i) q) (and-r (bit (G p .ands) i) (lineTruth M (W .table) i R) u))
-              (f S′ w)
-
-          all-back : All (suc p) i → T (bit (G (suc p) .ands) i)
-          all-back h = subst⁻¹ T ands (and-i (bit (G p .ands) i) (lineTruth M (W .table) i R) (r .all-have .1 (λ S′ w. h S′ (from-more p S′ w))) (h R n))
-
       right-more : (p i : ℕ) → i < length (W .table) → Right p i → Right (suc p) i
       unfolding gathered consider
       right-more p i l r = go (sought s g p) refl (standsAt (keysOf frontiersLaid) key place) refl
@@ -319,15 +251,15 @@ module _ (W : World) (valid : List Event → Event → Type 0) (ts : List Event)
           place = seek (keysOf frontiersLaid) key (getD (G p .hints) p 0)
 
           go : (b : Bool) → sought s g p ≡ b → (d : Bool) → standsAt (keysOf frontiersLaid) key place ≡ d → Right (suc p) i
-          go false b d k = right-same p i (rw b) (rw b) (λ S′ w. ⊎-elim (λ x. x) (λ x. absurd (subst T b (x .0))) (from-cases p S′ w)) r
-          go true b false k = right-same p i (rw (b, k)) (rw (b, k))
+          go false b d k = gathers-same (lineTruth M (W .table) i) (From p) (From (suc p)) i (G p .ors) (G p .ands) (G (suc p) .ors) (G (suc p) .ands) (rw b) (rw b) (from-more p) (λ S′ w. ⊎-elim (λ x. x) (λ x. absurd (subst T b (x .0))) (from-cases p S′ w)) r
+          go true b false k = gathers-same (lineTruth M (W .table) i) (From p) (From (suc p)) i (G p .ors) (G p .ands) (G (suc p) .ors) (G (suc p) .ands) (rw (b, k)) (rw (b, k)) (from-more p)
               (λ S′ w. ⊎-elim (λ x. x) (λ x. absurd (missing S′ (x .1) (x .2))) (from-cases p S′ w)) r
             where
               missing : (S′ : Cut) → List·Memᴰ S′ laid → key ≡ listOf (W .stored) S′ → ⊥
               missing S′ m q = subst T k (rw q (found-i W us laid sorted S′ m (getD (G p .hints) p 0)))
           go true b true k =
               let w = found-e W us laid sorted key place (true-T k) in
-              right-added p i (w .0) (valuesAt frontiersLaid place) (rw (b, k)) (rw (b, k)) (ap (λ (x : ℕ). bit x i) (w .3) ∙ value-bit (w .0) i l)
+              gathers-added (lineTruth M (W .table) i) (From p) (From (suc p)) i (G p .ors) (G p .ands) (G (suc p) .ors) (G (suc p) .ands) (w .0) (valuesAt frontiersLaid place) (rw (b, k)) (rw (b, k)) (from-more p) (ap (λ (x : ℕ). bit x i) (w .3) ∙ value-bit (w .0) i l)
               (inr (p, omega arith, true-T b, w .1, w .2))
               (λ S′ x. ⊎-elim (λ y. inl y) (λ y. inr (only (w .0) (w .1) (w .2) S′ (y .1) (y .2))) (from-cases p S′ x)) r
             where

@@ -24,6 +24,8 @@ pub mod LookupLaws
 pub mod MergeLaws
 pub mod FrontierLaws
 pub mod FoundLaid
+pub mod StoredCuts
+pub mod GatherLaws
 pub mod JudgingNew
 pub mod StepTheorem
 pub mod StartTheorem
