@@ -8,7 +8,7 @@ use mathlib.Core.List.{List, _∷_, List·Memᴰ}
 use lib.ListN.{length}
 use Rattle.rules.specs.declared.Line.{Line}
 use Rattle.clocks.specs.declared.Event.{Event}
-use Rattle.window.specs.JudgingNew.{listOf-injective}
+use Rattle.window.specs.StoredCuts.{listOf-injective}
 use Rattle.window.specs.Represents.{World, modelOf}
 use Rattle.window.specs.Bytes.{frontiers}
 use Rattle.window.specs.Unique.{window-unique}
