@@ -1,5 +1,5 @@
 -- Laws of judging: a frontier's word has a bit for each line, and bit i is what line i's clause says of the word itself.
-use Prim.Native.Nat.{ℕ, zero, suc, _+_, _^_, _≤_, _<_}
+use Prim.Native.Nat.{ℕ, zero, suc, _+_, _^_, _≤_, _<_, _-_}
 use native.Mathlib.Omega.{arith}
 use native.Mathlib.Nat.{add-zero, zero-add, pow-suc}
 use native.Mathlib.Numerals.{add-one}
@@ -14,10 +14,12 @@ use Rattle.codec.specs.BitLaws.{bit-above, bit-top, bit-under-top}
 use Rattle.rules.specs.declared.Line.{Line}
 use Rattle.rules.specs.Judge.{notJudged, andJudged, esJudged, asJudged, judgeLine, withBit, judgeFrom, judge}
 use Rattle.rules.specs.Table.{goodLine, goodFrom, goodTable}
+use Rattle.rules.specs.TableBytesLaws.{linesFrom-next, linesFrom-end}
+use Rattle.rules.specs.TableBytes.{lineAt, linesFrom}
 
 -- One line more
 
-withBit-lt : (v i : ℕ) (t : Bool) → v < 2 ^ i → withBit v i t < 2 ^ (i + 1)
+pub withBit-lt : (v i : ℕ) (t : Bool) → v < 2 ^ i → withBit v i t < 2 ^ (i + 1)
 withBit-lt v i true h = rw (add-one i, pow-suc) (omega arith)
 withBit-lt v i false h = rw (add-one i, pow-suc) (omega arith)
 
@@ -110,3 +112,14 @@ module _ (labels : List ℕ) (any all : ℕ) (preceded : Bool) where
       → bit (judge labels any all preceded ls) i
       ≡ judgeLine labels (judge labels any all preceded ls) any all preceded i (getD ls i d)
   judge-bit k ls i d g h = rw (zero-add i) at (judgeFrom-bit 0 k 0 ls i d (lit< tt) g h)
+
+  -- Judging the lines from line i on of a table's bytes: line i, then those behind it.
+  pub judgeFrom-next : (v : ℕ) (bytes : List ℕ) (n i : ℕ) → i < n
+      → judgeFrom labels any all preceded v i (linesFrom bytes (n - i) i)
+      ≡ judgeFrom labels any all preceded (withBit v i (judgeLine labels v any all preceded i (lineAt bytes i))) (i + 1) (linesFrom bytes (n - (i + 1)) (i + 1))
+  unfolding judgeFrom
+  judgeFrom-next v bytes n i h = rw (linesFrom-next bytes n i h)
+
+  pub judgeFrom-end : (v : ℕ) (bytes : List ℕ) (n i : ℕ) → n ≤ i → judgeFrom labels any all preceded v i (linesFrom bytes (n - i) i) ≡ v
+  unfolding judgeFrom
+  judgeFrom-end v bytes n i h = rw (linesFrom-end bytes n i h)

@@ -35,3 +35,8 @@ pub mod FaultLaws
 pub mod ReaderStops
 pub mod FormStops
 pub mod GrammarTheorem
+pub mod WordSteps
+pub mod Laying
+pub mod LayingLaws
+pub mod ReaderSteps
+pub mod RuleTable
