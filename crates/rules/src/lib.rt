@@ -167,19 +167,39 @@ fn a_word(text: &[u8], i: usize) -> WordRead
         return WordRead::AtWord { next };
     }
     if c == b's' as u32 {
-        return WordRead::BinaryWord { word: Binary::As, next };
+        return WordRead::BinaryWord {
+            word: Binary::As,
+            next,
+        };
     }
     if c == b'p' as u32 {
-        return WordRead::UnaryWord { word: Unary::Ap, next };
+        return WordRead::UnaryWord {
+            word: Unary::Ap,
+            next,
+        };
     }
     if c == b'y' as u32 {
-        return WordRead::UnaryWord { word: Unary::Ay, next };
+        return WordRead::UnaryWord {
+            word: Unary::Ay,
+            next,
+        };
     }
     if c == b'h' as u32 {
-        return WordRead::UnaryWord { word: Unary::Ah, next };
+        return WordRead::UnaryWord {
+            word: Unary::Ah,
+            next,
+        };
     }
     if c == b'n' as u32 {
-        return rest(text, next, b"d", WordRead::BinaryWord { word: Binary::And, next: i + 2 });
+        return rest(
+            text,
+            next,
+            b"d",
+            WordRead::BinaryWord {
+                word: Binary::And,
+                next: i + 2,
+            },
+        );
     }
     WordRead::NoWord { place: i }
 }
@@ -192,16 +212,28 @@ fn e_word(text: &[u8], i: usize) -> WordRead
     let c = byte_at(text, i);
     let next = i + 1;
     if c == b'y' as u32 {
-        return WordRead::UnaryWord { word: Unary::Ey, next };
+        return WordRead::UnaryWord {
+            word: Unary::Ey,
+            next,
+        };
     }
     if c == b's' as u32 {
-        return WordRead::BinaryWord { word: Binary::Es, next };
+        return WordRead::BinaryWord {
+            word: Binary::Es,
+            next,
+        };
     }
     if c == b'p' as u32 {
-        return WordRead::UnaryWord { word: Unary::Ep, next };
+        return WordRead::UnaryWord {
+            word: Unary::Ep,
+            next,
+        };
     }
     if c == b'h' as u32 {
-        return WordRead::UnaryWord { word: Unary::Eh, next };
+        return WordRead::UnaryWord {
+            word: Unary::Eh,
+            next,
+        };
     }
     WordRead::NoWord { place: i }
 }
@@ -220,16 +252,48 @@ fn read_word(text: &[u8], i: usize) -> WordRead
         return e_word(text, next);
     }
     if c == b'n' as u32 {
-        return rest(text, next, b"ot", WordRead::UnaryWord { word: Unary::Not, next: i + 3 });
+        return rest(
+            text,
+            next,
+            b"ot",
+            WordRead::UnaryWord {
+                word: Unary::Not,
+                next: i + 3,
+            },
+        );
     }
     if c == b't' as u32 {
-        return rest(text, next, b"rue", WordRead::ConstantWord { word: Constant::True, next: i + 4 });
+        return rest(
+            text,
+            next,
+            b"rue",
+            WordRead::ConstantWord {
+                word: Constant::True,
+                next: i + 4,
+            },
+        );
     }
     if c == b'f' as u32 {
-        return rest(text, next, b"alse", WordRead::ConstantWord { word: Constant::False, next: i + 5 });
+        return rest(
+            text,
+            next,
+            b"alse",
+            WordRead::ConstantWord {
+                word: Constant::False,
+                next: i + 5,
+            },
+        );
     }
     if c == b'o' as u32 {
-        return rest(text, next, b"r", WordRead::BinaryWord { word: Binary::Or, next: i + 2 });
+        return rest(
+            text,
+            next,
+            b"r",
+            WordRead::BinaryWord {
+                word: Binary::Or,
+                next: i + 2,
+            },
+        );
     }
     WordRead::NoWord { place: i }
 }
@@ -405,7 +469,9 @@ fn read_digit(text: &[u8], i: usize, bound: u32) -> DigitRead
     }
     let value = c - 48;
     if value < bound {
-        DigitRead::Digit { value: value as usize }
+        DigitRead::Digit {
+            value: value as usize,
+        }
     } else {
         DigitRead::NoDigit { number: 4 }
     }
@@ -420,14 +486,25 @@ fn close(text: &[u8], place: usize, laid: usize, closed: usize) -> Read
         return Read::Refused { number: 1, place };
     }
     if closed <= 64 {
-        Read::Form { place: place + 1, laid, closed }
+        Read::Form {
+            place: place + 1,
+            laid,
+            closed,
+        }
     } else {
         Read::Refused { number: 3, place }
     }
 }
 
 // (at p b) from behind its word on.
-fn read_atom(text: &[u8], k: u32, place: usize, laid: usize, closed: usize, table: &mut [u8]) -> Read
+fn read_atom(
+    text: &[u8],
+    k: u32,
+    place: usize,
+    laid: usize,
+    closed: usize,
+    table: &mut [u8],
+) -> Read
     requires { ⌜ (length (now table) ≡ 600) × (place ≤ 900) × (laid < 200) × (closed ≤ 64) ⌝ }
     ensures { λ r. ⌜ Done laid closed (now (table .entry)) (now (table .exit)) (atomAt (now (text .entry)) k closed place) r ⌝ }
 {
@@ -436,14 +513,23 @@ fn read_atom(text: &[u8], k: u32, place: usize, laid: usize, closed: usize, tabl
     }
     let first = read_digit(text, place + 1, k);
     match first {
-        DigitRead::NoDigit { number } => Read::Refused { number, place: place + 1 },
+        DigitRead::NoDigit { number } => Read::Refused {
+            number,
+            place: place + 1,
+        },
         DigitRead::Digit { value: p } => {
             if byte_at(text, place + 2) != b' ' as u32 {
-                return Read::Refused { number: 1, place: place + 2 };
+                return Read::Refused {
+                    number: 1,
+                    place: place + 2,
+                };
             }
             let second = read_digit(text, place + 3, 8);
             match second {
-                DigitRead::NoDigit { number } => Read::Refused { number, place: place + 3 },
+                DigitRead::NoDigit { number } => Read::Refused {
+                    number,
+                    place: place + 3,
+                },
                 DigitRead::Digit { value: b } => {
                     put_line(table, laid, 0, p, b);
                     close(text, place + 4, laid + 1, closed + 1)
@@ -454,7 +540,14 @@ fn read_atom(text: &[u8], k: u32, place: usize, laid: usize, closed: usize, tabl
 }
 
 // A word alone, from behind it on.
-fn read_constant(text: &[u8], word: Constant, place: usize, laid: usize, closed: usize, table: &mut [u8]) -> Read
+fn read_constant(
+    text: &[u8],
+    word: Constant,
+    place: usize,
+    laid: usize,
+    closed: usize,
+    table: &mut [u8],
+) -> Read
     requires { ⌜ (length (now table) ≡ 600) × (place ≤ 900) × (laid + 5 ≤ 200) × (closed ≤ 64) ⌝ }
     ensures { λ r. ⌜ Done laid closed (now (table .entry)) (now (table .exit)) (closeAt (now (text .entry)) closed place (constant word)) r ⌝ }
 {
@@ -563,14 +656,7 @@ fn with_bit(v: u64, i: u32, t: bool) -> u64
 }
 
 // A frontier's word: bit i is line i's truth there. The words of the cuts that precede it go in by their OR and their AND.
-pub fn judge(
-    table: &[u8],
-    lines: u32,
-    labels: [u8; 8],
-    any: u64,
-    all: u64,
-    preceded: bool,
-) -> u64
+pub fn judge(table: &[u8], lines: u32, labels: [u8; 8], any: u64, all: u64, preceded: bool) -> u64
     requires { ⌜ (lines ≤ 64) × (3 * lines ≤ length (now table)) ⌝ }
     ensures { λ r. ⌜ r ≡ judged labels any all preceded (linesOf (now (table .entry)) lines) ⌝ }
 {

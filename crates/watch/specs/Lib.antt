@@ -9,3 +9,5 @@ pub mod Take
 pub mod Find
 pub mod Open
 pub mod Status
+-- What is proved of them
+pub mod RecordSteps

@@ -44,10 +44,11 @@ loop-again c = let a = c .before .before .before .before .before .before .args i
     let e : c .with-bit .result ≡ withBit (l .v) (l .i) t =
     c .with-bit .ensures
     ∙ ap (withBit (l .v) (l .i)) (c .before .judge-line .ensures ∙ ap (judgeLine (a .labels) (l .v) (a .any) (a .all) (a .preceded) (l .i)) (c .before .before .read-line .ensures))
-    in
-    (search needs
-    , rw e (withBit-lt (l .v) (l .i) t (l .inv .1))
-    , rw e (l .inv .2 ∙ judgeFrom-next (a .labels) (a .any) (a .all) (a .preceded) (l .v) (a .table .now) (a .lines) (l .i) (c .before .before .before .loop-test .taken)))
+    in (
+      search needs,
+      rw e (withBit-lt (l .v) (l .i) t (l .inv .1)),
+      rw e (l .inv .2 ∙ judgeFrom-next (a .labels) (a .any) (a .all) (a .preceded) (l .v) (a .table .now) (a .lines) (l .i) (c .before .before .before .loop-test .taken)),
+    )
 
 returns : tie.Need-returns Inv-loop μ-loop
 returns c = let a = c .before .before .before .args in

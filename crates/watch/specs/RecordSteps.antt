@@ -1,0 +1,37 @@
+-- Places in the record, and what one turn of a loop adds that reads it.
+use Prim.Native.Nat.{ℕ, _+_, _*_, _≤_, _<_}
+use native.Mathlib.Omega.{arith}
+use mathlib.Core.Path.{_≡_}
+use mathlib.Core.List.{List}
+use lib.ListN.{getD, take, drop}
+use Rattle.window.specs.StoreLaws.{count-next}
+use Rattle.codec.specs.Little.{number}
+use Rattle.clocks.specs.Counts.{listOf}
+use Rattle.clocks.specs.declared.Event.{Event}
+use Rattle.window.specs.BytesLaws.{count-within}
+use Rattle.rules.specs.ReaderFrom.{place}
+use Rattle.watch.specs.Record.{clocksPlace, eventLength, pendingPlace, recordLength, pendingAt}
+
+-- ---- Places
+
+-- A pending event ends within the record.
+pub event-within : (w i : ℕ) → i < 32 → pendingPlace w i + eventLength w ≤ recordLength w
+event-within w i l = omega (arith, count-within i 32 (eventLength w) l)
+
+-- The last clock of process p ends within the record's clocks.
+pub clock-within : (w p : ℕ) → p < 8 → clocksPlace w + p * (8 * w) + 8 * w ≤ 8 + 72 * w
+clock-within w p l = omega (arith, count-within p 8 (8 * w) l)
+
+pub clock-next : (w p : ℕ) → clocksPlace w + (p + 1) * (8 * w) ≡ clocksPlace w + p * (8 * w) + 8 * w
+clock-next w p = omega (arith, count-next p (8 * w))
+
+-- The last clock of process p.
+abbrev pub clockAt : ℕ → List ℕ → ℕ → List ℕ
+clockAt w s p = listOf 8 (λ q. number s (clocksPlace w + p * (8 * w) + q * w) w)
+
+-- A pending event from its parts, each read at its place.
+pub event-parts : (w i : ℕ) (s : List ℕ) (place mask : ℕ) (clock labels : List ℕ) → place ≡ pendingPlace w i → mask ≡ getD s place 0
+    → clock ≡ listOf 8 (λ p. number s (place + 8 + p * w) w) → labels ≡ take 8 (drop (place + 8 + 8 * w) s)
+    → _≡_ {A = Event} (record { mask = mask; clock = clock; labels = labels }) (pendingAt w s i)
+unfolding pendingAt
+event-parts w i s place mask clock labels p m c l = rw (m, c, l, p)
