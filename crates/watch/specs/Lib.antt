@@ -10,4 +10,8 @@ pub mod Find
 pub mod Open
 pub mod Status
 -- What is proved of them
+pub mod ListSteps
+pub mod MovingSteps
 pub mod RecordSteps
+pub mod UpdateSteps
+pub mod RefusalSteps

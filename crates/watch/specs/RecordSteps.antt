@@ -1,16 +1,18 @@
 -- Places in the record, and what one turn of a loop adds that reads it.
-use Prim.Native.Nat.{ℕ, _+_, _*_, _≤_, _<_}
+use Prim.Native.Nat.{ℕ, _+_, _*_, _≤_, _<_, _-_}
 use native.Mathlib.Omega.{arith}
+use native.Mathlib.Nat.{mul-le-mul-right, mul-sub, mul-comm}
 use mathlib.Core.Path.{_≡_}
 use mathlib.Core.List.{List}
 use lib.ListN.{getD, take, drop}
 use Rattle.window.specs.StoreLaws.{count-next}
 use Rattle.codec.specs.Little.{number}
-use Rattle.clocks.specs.Counts.{listOf}
+use Rattle.clocks.specs.Counts.{listOf, at}
 use Rattle.clocks.specs.declared.Event.{Event}
 use Rattle.window.specs.BytesLaws.{count-within}
 use Rattle.rules.specs.ReaderFrom.{place}
-use Rattle.watch.specs.Record.{clocksPlace, eventLength, pendingPlace, recordLength, pendingAt}
+use Rattle.clocks.specs.CountsLaws.{at-listOf}
+use Rattle.watch.specs.Record.{clocksPlace, eventLength, pendingPlace, recordLength, pendingAt, takenCounts}
 
 -- ---- Places
 
@@ -35,3 +37,20 @@ pub event-parts : (w i : ℕ) (s : List ℕ) (place mask : ℕ) (clock labels : 
     → _≡_ {A = Event} (record { mask = mask; clock = clock; labels = labels }) (pendingAt w s i)
 unfolding pendingAt
 event-parts w i s place mask clock labels p m c l = rw (m, c, l, p)
+
+-- The places of pending events grow, by an event's length each.
+pub place-below : (w i n : ℕ) → i ≤ n → pendingPlace w i ≤ pendingPlace w n
+place-below w i n l = omega (arith, mul-le-mul-right (eventLength w) l)
+
+pub place-next : (w i : ℕ) → pendingPlace w (i + 1) ≡ pendingPlace w i + eventLength w
+place-next w i = omega (arith, count-next i (eventLength w))
+
+pub events-between : (w i n : ℕ) → pendingPlace w n - pendingPlace w i ≡ (n - i) * eventLength w
+events-between w i n =
+    let k = eventLength w in
+    rw (mul-comm (n - i) k, mul-sub k n i, mul-comm k n, mul-comm k i) (omega arith)
+
+-- The taken count of process p.
+pub taken-at : (w : ℕ) (s : List ℕ) (p : ℕ) → p < 8 → at (takenCounts w s) p ≡ number s (8 + p * w) w
+unfolding takenCounts
+taken-at w s p l = at-listOf 8 (λ q. number s (8 + q * w) w) p l

@@ -2,3 +2,9 @@
 
 // The record's fields, read.
 pub mod record;
+// Bytes moved within a slice, or cleared.
+pub mod moving;
+// The record's bytes, changed.
+pub mod update;
+// What a call is turned back for.
+pub mod refusal;
