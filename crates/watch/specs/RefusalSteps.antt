@@ -1,16 +1,24 @@
 -- The refusals' conditions, test by test, as the functions go through them.
-use Prim.Native.Nat.{ℕ, _+_, _≤_, _<_}
-use mathlib.Core.Path.{_≡_}
-use mathlib.Core.Bool.{Bool, true, false, not, _||_, or-assoc}
+use Prim.Native.Nat.{ℕ, _+_, _≤_, _<_, _-_}
+use native.Mathlib.Omega.{arith}
+use mathlib.Core.Path.{_≡_, refl}
+use mathlib.Core.Bool.{Bool, true, false, not, _||_, or-assoc, true≢false}
 use mathlib.Core.List.{List}
 use lib.Dec.{ltb, eqb}
-use lib.ListN.{drop}
+use lib.ListN.{drop, length, take, length-drop}
+use lib.Seq.{take-all}
+use borrow.Author.Tests.{ltb-false}
 use Rattle.clocks.specs.declared.Event.{Event}
 use Rattle.rules.specs.Table.{goodTable}
 use Rattle.clocks.specs.Bounded.{anyOf}
+use Rattle.rules.specs.TableBytes.{linesOf}
 use Rattle.watch.specs.ListSteps.{rest-next, rest-end}
-use Rattle.watch.specs.Record.{processCount, lineTotal, pendingCount, keptCount, tableLines, pendingAt, pendingEvents}
+use Rattle.watch.specs.Record.{processCount, lineTotal, pendingCount, keptCount, tableLines, pendingAt, pendingEvents, tablePlace}
 use Rattle.watch.specs.Refusals.{badProcesses, badState, conflicts, conflicting}
+
+or-false-e : (a b : Bool) → (a || b) ≡ false → (a ≡ false) × (b ≡ false)
+or-false-e true b h = absurd (true≢false h)
+or-false-e false b h = (refl, h)
 
 -- ---- 34
 
@@ -44,3 +52,22 @@ module _ (w : ℕ) (s : List ℕ) (e : Event) (i : ℕ) where
   pub conflict-none : pendingCount s ≤ i → conflictingFrom w s e i ≡ false
   unfolding conflicting anyOf pendingEvents
   conflict-none l = rw (rest-end (pendingCount s) (pendingAt w s) i l)
+
+-- The table that is lent is the record's from its place on.
+pub lent-table : (w : ℕ) (s : List ℕ) → linesOf (take (length s - tablePlace w) (drop (tablePlace w) s)) (lineTotal s) ≡ tableLines w s
+unfolding tableLines
+lent-table w s =
+    let whole : take (length s - tablePlace w) (drop (tablePlace w) s) ≡ drop (tablePlace w) s = take-all (length s - tablePlace w) (drop (tablePlace w) s) (simp length-drop (omega arith)) in
+    rw whole
+
+-- A state with good numbers has 1 to 8 processes, at most 32 pending events and 1 to 64 lines.
+pub numbers-within : (k pending lines kept room : ℕ) → badNumbers k pending lines kept room ≡ false → (k ≤ 8) × (pending ≤ 32) × (lines ≤ 64) × (kept ≤ 1024) × (kept ≤ room)
+unfolding badNumbers badProcesses
+numbers-within k pending lines kept room h =
+    let p = or-false-e _ _ h in
+    let q = or-false-e _ _ (p .1) in
+    let r = or-false-e (eqb lines 0) _ (q .1) in
+    let t = or-false-e _ _ (r .1) in
+    let u = or-false-e (eqb kept 0) _ (t .1) in
+    let v = or-false-e _ _ (u .1) in
+    (ltb-false 8 k (or-false-e (eqb k 0) _ (p .0) .1), ltb-false 32 pending (q .0), ltb-false 64 lines (t .0), ltb-false 1024 kept (v .0), ltb-false room kept (v .1))

@@ -71,7 +71,7 @@ unfolding eventBytes
 stored-event w s place e c =
     let head : List ℕ = e .mask ∷ replicate 7 0 in
     let counts-end : place + length (head ++ countBytes w (e .clock)) ≡ place + 8 + 8 * w =
-    simp (length-append, length-countBytes, c) (omega arith) in
+    simp (length-countBytes, c) (omega arith) in
     rw (behind s place (e .mask ∷ []) (place + 1) (replicate 7 0) refl, behind s place head (place + 8) (countBytes w (e .clock)) refl)
     (behind s place (head ++ countBytes w (e .clock)) (place + 8 + 8 * w) (e .labels) counts-end)
 

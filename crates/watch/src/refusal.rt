@@ -1,7 +1,12 @@
 // What a call is turned back for by a record, a window or the state of a watch (01, Turned back: 6, 31, 32, 34).
 
+use crate::record::kept_count;
+use crate::record::line_total;
+use crate::record::pending_count;
+use crate::record::pending_event;
+use crate::record::pending_place;
+use crate::record::process_count;
 use clocks::Event;
-use crate::record::{kept_count, line_total, pending_count, pending_event, pending_place, process_count};
 ghost use Prim.Native.Nat.{_+_, _*_, _≤_, _<_};
 ghost use mathlib.Core.Path.{_≡_};
 ghost use mathlib.Core.Bool.{_&&_};
@@ -147,7 +152,12 @@ pub fn conflicts(e: Event, f: Event) -> bool
     let mut p: u32 = 0;
     while p < 8 {
         let i = p as usize;
-        if same_count(codec::has_bit(mask, p), codec::has_bit(other, p), e.clock[i], f.clock[i]) {
+        if same_count(
+            codec::has_bit(mask, p),
+            codec::has_bit(other, p),
+            e.clock[i],
+            f.clock[i],
+        ) {
             return true;
         }
         p += 1;

@@ -1,8 +1,13 @@
 // The record's bytes, changed: a pending event put in or taken out, a taken event counted.
 
+use crate::moving::clear;
+use crate::moving::move_down;
+use crate::moving::move_up;
+use crate::record::event_length;
+use crate::record::pending_count;
+use crate::record::pending_place;
+use crate::record::taken_counts;
 use clocks::Event;
-use crate::record::{event_length, pending_count, pending_place, taken_counts};
-use crate::moving::{clear, move_down, move_up};
 ghost use Prim.Native.Nat.{ℕ, _+_, _*_, _^_, _≤_, _<_};
 ghost use mathlib.Core.Path.{_≡_};
 ghost use lib.Dec.{T};

@@ -1,78 +1,86 @@
-use native.Mathlib.Omega.{arith}
-use mathlib.Core.Path.{_≡_, refl, sym, ap, _∙_}
-use Prim.Native.Nat.{ℕ, _≤_, _<_, _-_, _+_, _*_}
-use mathlib.Core.List.{List, _++_}
-use lib.ListN.{length, getD, take, drop, set, length-set}
-use mathlib.Core.Logic.{⊎-elim}
-use borrow.Author.Needs.{needs}
-use Rattle.watch.proofs.refusal.already_taken.Statement.{statement}
+-- No process passed has its count taken; the first that has decides.
 use Rattle.watch.proofs.refusal.already_taken.Tie as tie
-use Rattle.watch.proofs.refusal.already_taken.Reads as reads
-use Rattle.watch.proofs.refusal.already_taken.Lts as lts
-use Rattle.codec.proofs.has_bit.Reads as has-bit-reads
-use Rattle.watch.proofs.refusal.count_taken_at.Reads as count-taken-at-reads
+use Prim.Native.Nat.{ℕ, _≤_, _-_}
+use native.Mathlib.Omega.{arith}
+use mathlib.Core.Path.{_≡_, sym, ap, _∙_}
+use mathlib.Core.List.{List}
+use mathlib.Core.Bool.{Bool, false, _&&_}
+use lib.Dec.{leb}
+use borrow.Author.Needs.{needs}
+use Rattle.clocks.specs.declared.Event.{Event}
+use Rattle.clocks.specs.Event.{count, involved}
+use Rattle.clocks.specs.History.{taken}
+use Rattle.clocks.specs.Bounded.{anyBelow}
+use Rattle.clocks.specs.BoundedSteps.{any-none, any-next, any-stop}
+use Rattle.clocks.specs.Counts.{at}
+use Rattle.watch.proofs.refusal.already_taken.Statement.{statement}
+use Rattle.watch.specs.Refusals.{alreadyTaken}
+
+-- What 31 asks of process p.
+abbrev test : Event → List ℕ → ℕ → Bool
+test e taken p = involved e p && leb (count e p) (at taken p)
 
 abbrev Inv-loop : tie.InvT-loop
-Inv-loop e taken mask p₀ p = ?
+Inv-loop e taken mask p₀ p = (p ≤ 8) × (anyBelow p (test e taken) ≡ false)
 
 abbrev μ-loop : tie.MeasureT-loop
-μ-loop e taken mask p₀ p = ?
+μ-loop e taken mask p₀ p = 8 - p
 
--- src/refusal.rt:117:16
 cast-mask : tie.Need-cast-mask Inv-loop μ-loop
 cast-mask c = search needs
 
--- src/refusal.rt:119:5
 loop-holds : tie.Need-loop-holds Inv-loop μ-loop
-loop-holds c = search needs
+loop-holds c = (search needs, any-none _)
 
--- src/refusal.rt:120:17
 cast-i : tie.Need-cast-i Inv-loop μ-loop
 cast-i c = search needs
 
--- src/refusal.rt:121:27
 has-bit-requires : tie.Need-has-bit-requires Inv-loop μ-loop
 has-bit-requires c κs = search needs
 
--- src/refusal.rt:121:52
 mul-count-taken-at : tie.Need-mul-count-taken-at Inv-loop μ-loop
 mul-count-taken-at c = search needs
 
--- src/refusal.rt:121:52
 element-copy-out-count-taken-at : tie.Need-element-copy-out-count-taken-at Inv-loop μ-loop
 element-copy-out-count-taken-at c = search needs
 
--- src/refusal.rt:121:64
 mul-count-taken-at-2 : tie.Need-mul-count-taken-at-2 Inv-loop μ-loop
 mul-count-taken-at-2 c = search needs
 
--- src/refusal.rt:121:64
 array-read-count-taken-at : tie.Need-array-read-count-taken-at Inv-loop μ-loop
 array-read-count-taken-at c = search needs
 
--- src/refusal.rt:121:12
 count-taken-at-requires : tie.Need-count-taken-at-requires Inv-loop μ-loop
 count-taken-at-requires c κs = search needs
 
--- src/refusal.rt:122:13
-returns : tie.Need-returns Inv-loop μ-loop
-returns c = search needs
+-- The call's answer is the test at p.
+here : (c : tie.After-count-taken-at Inv-loop μ-loop) → test (c .before .before .before .before .before .args .t1) (c .before .before .before .before .before .args .t2) (c .before .before .before .before .loop .p) ≡ c .count-taken-at .result
+unfolding involved count
+here c =
+    let a = c .before .before .before .before .before .args in
+    let p = c .before .before .before .before .loop .p in
+    ap (λ (b : Bool). b && leb (at (a .t1 .clock) p) (at (a .t2) p)) (sym (c .before .before .has-bit .ensures)) ∙ sym (c .count-taken-at .ensures)
 
--- src/refusal.rt:124:9
+returns : tie.Need-returns Inv-loop μ-loop
+unfolding alreadyTaken
+returns c =
+    let a = c .before .before .before .before .before .before .args in
+    sym (any-stop 8 (c .before .before .before .before .before .loop .p) (test (a .t1) (a .t2)) (search needs) (here (c .before) ∙ c .if1 .taken))
+
 add-p : tie.Need-add-p Inv-loop μ-loop
 add-p c = search needs
 
--- src/refusal.rt:119:5
 loop-less : tie.Need-loop-less Inv-loop μ-loop
 loop-less c = search needs
 
--- src/refusal.rt:119:5
 loop-again : tie.Need-loop-again Inv-loop μ-loop
-loop-again c = search needs
+loop-again c =
+    let a = c .before .before .before .before .before .before .args in
+    (search needs, any-next (c .before .before .before .before .before .loop .p) (test (a .t1) (a .t2)) (c .before .before .before .before .before .loop .inv .1) (here (c .before) ∙ c .if1 .left))
 
--- src/refusal.rt:114:1
 returns-2 : tie.Need-returns-2 Inv-loop μ-loop
-returns-2 c = search needs
+unfolding alreadyTaken
+returns-2 c = let e : c .before .loop .p ≡ 8 = omega arith in rw (← e) (sym (c .before .loop .inv .1))
 
 pub already-taken-spec : {M : Type 1} → statement M
 already-taken-spec =

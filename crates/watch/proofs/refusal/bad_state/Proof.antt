@@ -1,73 +1,64 @@
-use native.Mathlib.Omega.{arith}
-use mathlib.Core.Path.{_≡_, refl, sym, ap, _∙_}
-use Prim.Native.Nat.{ℕ, _≤_, _<_, _-_, _+_, _*_}
-use mathlib.Core.List.{List, _++_}
-use lib.ListN.{length, getD, take, drop, set, length-set}
-use mathlib.Core.Logic.{⊎-elim}
-use borrow.Author.Needs.{needs}
-use Rattle.watch.proofs.refusal.bad_state.Statement.{statement}
+-- The record's numbers, then its table: the law `state-parts`.
 use Rattle.watch.proofs.refusal.bad_state.Tie as tie
-use Rattle.watch.proofs.refusal.bad_state.Reads as reads
-use Rattle.watch.proofs.refusal.bad_state.Lts as lts
-use Rattle.rules.proofs.good_table.Reads as good-table-reads
-use Rattle.watch.proofs.record.kept_count.Reads as kept-count-reads
-use Rattle.watch.proofs.record.line_total.Reads as line-total-reads
-use Rattle.watch.proofs.record.pending_count.Reads as pending-count-reads
-use Rattle.watch.proofs.record.process_count.Reads as process-count-reads
-use Rattle.watch.proofs.refusal.bad_numbers.Reads as bad-numbers-reads
-use Rattle.watch.proofs.refusal.table_place.Reads as table-place-reads
+use native.Mathlib.Omega.{arith}
+use mathlib.Core.Path.{_≡_, _∙_}
+use lib.ListN.{length-take, length-drop}
+use borrow.Author.Needs.{needs}
+use denote.Ref.{now}
+use Rattle.watch.proofs.refusal.bad_state.Statement.{statement}
+use Rattle.watch.specs.RefusalSteps.{badNumbers, state-parts, lent-table, numbers-within}
+use Rattle.watch.specs.Record.{processCount, lineTotal, pendingCount, keptCount}
 
--- src/refusal.rt:97:9
 process-count-requires : tie.Need-process-count-requires
 process-count-requires c κs = search needs
 
--- src/refusal.rt:98:9
 line-total-requires : tie.Need-line-total-requires
 line-total-requires c κs = search needs
 
--- src/refusal.rt:99:23
 pending-count-requires : tie.Need-pending-count-requires
 pending-count-requires c κs = search needs
 
--- src/refusal.rt:99:48
 kept-count-requires : tie.Need-kept-count-requires
 kept-count-requires c κs = search needs
 
--- src/refusal.rt:99:48
 cast-bad-numbers : tie.Need-cast-bad-numbers
 cast-bad-numbers c = search needs
 
--- src/refusal.rt:99:8
 bad-numbers-requires : tie.Need-bad-numbers-requires
 bad-numbers-requires c κs = search needs
 
--- src/refusal.rt:100:9
-returns : tie.Need-returns
-returns c = search needs
+-- The numbers that were read are the record's.
+numbers : (c : tie.After-bad-numbers) → badNumbers (processCount (now (c .before .before .before .before .before .before .args .s))) (pendingCount (now (c .before .before .before .before .before .before .args .s))) (lineTotal (now (c .before .before .before .before .before .before .args .s))) (keptCount (now (c .before .before .before .before .before .before .args .s))) (c .before .before .before .before .before .before .args .room) ≡ c .bad-numbers .result
+numbers c = cc
 
--- src/refusal.rt:102:9
+returns : tie.Need-returns
+returns c =
+    let a = c .before .before .before .before .before .before .before .args in
+    rw (state-parts (a .w) (a .room) (now (a .s)), numbers (c .before), c .if1 .taken)
+
 table-place-requires : tie.Need-table-place-requires
 table-place-requires c κs = search needs
 
--- src/refusal.rt:103:27
 sub-good-table : tie.Need-sub-good-table
 sub-good-table c = search needs
 
--- src/refusal.rt:103:27
 part-good-table-start : tie.Need-part-good-table-start
 part-good-table-start c = search needs
 
--- src/refusal.rt:103:27
 part-good-table-end : tie.Need-part-good-table-end
 part-good-table-end c = search needs
 
--- src/refusal.rt:103:6
 good-table-requires : tie.Need-good-table-requires
-good-table-requires c κs = search needs
+good-table-requires c κs =
+    let s = now (c .before .before .before .before .before .before .before .before .before .args .s) in
+    let few = numbers-within (processCount s) (pendingCount s) (lineTotal s) (keptCount s) (c .before .before .before .before .before .before .before .before .before .args .room) (numbers (c .before .before .before) ∙ c .before .before .if1 .left) in
+    (omega (arith, few .2), simp (length-take, length-drop) (omega (arith, few .2)))
 
--- src/refusal.rt:92:1
 returns-2 : tie.Need-returns-2
-returns-2 c = search needs
+returns-2 c =
+    let a = c .before .before .before .before .before .before .before .before .before .before .args in
+    rw (state-parts (a .w) (a .room) (now (a .s)), numbers (c .before .before .before .before), c .before .before .before .if1 .left)
+    (cc (lent-table (a .w) (now (a .s))))
 
 pub bad-state-spec : {M : Type 1} → statement M
 bad-state-spec =

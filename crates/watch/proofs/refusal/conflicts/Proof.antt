@@ -1,86 +1,92 @@
-use native.Mathlib.Omega.{arith}
-use mathlib.Core.Path.{_≡_, refl, sym, ap, _∙_}
-use Prim.Native.Nat.{ℕ, _≤_, _<_, _-_, _+_, _*_}
-use mathlib.Core.List.{List, _++_}
-use lib.ListN.{length, getD, take, drop, set, length-set}
-use mathlib.Core.Logic.{⊎-elim}
-use borrow.Author.Needs.{needs}
-use Rattle.watch.proofs.refusal.conflicts.Statement.{statement}
+-- No process passed has one count in both events; the first that has decides.
 use Rattle.watch.proofs.refusal.conflicts.Tie as tie
-use Rattle.watch.proofs.refusal.conflicts.Reads as reads
-use Rattle.watch.proofs.refusal.conflicts.Lts as lts
-use Rattle.codec.proofs.has_bit.Reads as has-bit-reads
-use Rattle.watch.proofs.refusal.same_count.Reads as same-count-reads
+use Prim.Native.Nat.{ℕ, _≤_, _-_}
+use native.Mathlib.Omega.{arith}
+use mathlib.Core.Path.{_≡_, sym, _∙_, ap}
+use mathlib.Core.Bool.{Bool, false, _&&_}
+use lib.Dec.{eqb}
+use borrow.Author.Needs.{needs}
+use Rattle.clocks.specs.declared.Event.{Event}
+use Rattle.clocks.specs.Event.{count, involved}
+use Rattle.clocks.specs.Bounded.{anyBelow}
+use Rattle.clocks.specs.BoundedSteps.{any-none, any-next, any-stop}
+use Rattle.codec.specs.Bit.{bit}
+use Rattle.clocks.specs.Counts.{at}
+use Rattle.watch.proofs.refusal.conflicts.Statement.{statement}
+use Rattle.watch.specs.Refusals.{conflicts}
+
+-- What 32 asks of process p.
+abbrev test : Event → Event → ℕ → Bool
+test e f p = (involved e p && involved f p) && eqb (count e p) (count f p)
 
 abbrev Inv-loop : tie.InvT-loop
-Inv-loop e f mask other p₀ p = ?
+Inv-loop e f mask other p₀ p = (p ≤ 8) × (anyBelow p (test e f) ≡ false)
 
 abbrev μ-loop : tie.MeasureT-loop
-μ-loop e f mask other p₀ p = ?
+μ-loop e f mask other p₀ p = 8 - p
 
--- src/refusal.rt:145:16
 cast-mask : tie.Need-cast-mask Inv-loop μ-loop
 cast-mask c = search needs
 
--- src/refusal.rt:146:17
 cast-other : tie.Need-cast-other Inv-loop μ-loop
 cast-other c = search needs
 
--- src/refusal.rt:148:5
 loop-holds : tie.Need-loop-holds Inv-loop μ-loop
-loop-holds c = search needs
+loop-holds c = (search needs, any-none _)
 
--- src/refusal.rt:149:17
 cast-i : tie.Need-cast-i Inv-loop μ-loop
 cast-i c = search needs
 
--- src/refusal.rt:150:23
 has-bit-requires : tie.Need-has-bit-requires Inv-loop μ-loop
 has-bit-requires c κs = search needs
 
--- src/refusal.rt:150:48
 has-bit-requires-2 : tie.Need-has-bit-requires-2 Inv-loop μ-loop
 has-bit-requires-2 c κs = search needs
 
--- src/refusal.rt:150:74
 mul-same-count : tie.Need-mul-same-count Inv-loop μ-loop
 mul-same-count c = search needs
 
--- src/refusal.rt:150:74
 element-copy-out-same-count : tie.Need-element-copy-out-same-count Inv-loop μ-loop
 element-copy-out-same-count c = search needs
 
--- src/refusal.rt:150:86
 mul-same-count-2 : tie.Need-mul-same-count-2 Inv-loop μ-loop
 mul-same-count-2 c = search needs
 
--- src/refusal.rt:150:86
 element-copy-out-same-count-2 : tie.Need-element-copy-out-same-count-2 Inv-loop μ-loop
 element-copy-out-same-count-2 c = search needs
 
--- src/refusal.rt:150:12
 same-count-requires : tie.Need-same-count-requires Inv-loop μ-loop
 same-count-requires c κs = search needs
 
--- src/refusal.rt:151:13
-returns : tie.Need-returns Inv-loop μ-loop
-returns c = search needs
+-- The call's answer is the test at p.
+here : (c : tie.After-same-count Inv-loop μ-loop) → test (c .before .before .before .before .before .before .before .args .t1) (c .before .before .before .before .before .before .before .args .t2) (c .before .before .before .before .before .before .loop .p) ≡ c .same-count .result
+unfolding involved count
+here c =
+    let a = c .before .before .before .before .before .before .before .args in
+    let p = c .before .before .before .before .before .before .loop .p in
+    let both : (bit (a .t1 .mask) p && bit (a .t2 .mask) p) ≡ (c .before .before .before .before .has-bit .result && c .before .before .before .has-bit2 .result) = cc in
+    ap (λ (b : Bool). b && eqb (at (a .t1 .clock) p) (at (a .t2 .clock) p)) both ∙ sym (c .same-count .ensures)
 
--- src/refusal.rt:153:9
+returns : tie.Need-returns Inv-loop μ-loop
+unfolding conflicts
+returns c =
+    let a = c .before .before .before .before .before .before .before .before .args in
+    sym (any-stop 8 (c .before .before .before .before .before .before .before .loop .p) (test (a .t1) (a .t2)) (search needs) (here (c .before) ∙ c .if1 .taken))
+
 add-p : tie.Need-add-p Inv-loop μ-loop
 add-p c = search needs
 
--- src/refusal.rt:148:5
 loop-less : tie.Need-loop-less Inv-loop μ-loop
 loop-less c = search needs
 
--- src/refusal.rt:148:5
 loop-again : tie.Need-loop-again Inv-loop μ-loop
-loop-again c = search needs
+loop-again c =
+    let a = c .before .before .before .before .before .before .before .before .args in
+    (search needs, any-next (c .before .before .before .before .before .before .before .loop .p) (test (a .t1) (a .t2)) (c .before .before .before .before .before .before .before .loop .inv .1) (here (c .before) ∙ c .if1 .left))
 
--- src/refusal.rt:142:1
 returns-2 : tie.Need-returns-2 Inv-loop μ-loop
-returns-2 c = search needs
+unfolding conflicts
+returns-2 c = let e : c .before .loop .p ≡ 8 = omega arith in rw (← e) (sym (c .before .loop .inv .1))
 
 pub conflicts-spec : {M : Type 1} → statement M
 conflicts-spec =

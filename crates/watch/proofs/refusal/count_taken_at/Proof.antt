@@ -1,20 +1,11 @@
-use native.Mathlib.Omega.{arith}
-use mathlib.Core.Path.{_≡_, refl, sym, ap, _∙_}
-use Prim.Native.Nat.{ℕ, _≤_, _<_, _-_, _+_, _*_}
-use mathlib.Core.List.{List, _++_}
-use lib.ListN.{length, getD, take, drop, set, length-set}
-use mathlib.Core.Logic.{⊎-elim}
+-- The two tests, one after the other.
+use Rattle.watch.proofs.refusal.count_taken_at.Tie as tie
 use borrow.Author.Needs.{needs}
 use Rattle.watch.proofs.refusal.count_taken_at.Statement.{statement}
-use Rattle.watch.proofs.refusal.count_taken_at.Tie as tie
-use Rattle.watch.proofs.refusal.count_taken_at.Reads as reads
-use Rattle.watch.proofs.refusal.count_taken_at.Lts as lts
 
--- src/refusal.rt:107:1
 returns : tie.Need-returns
-returns c = search needs
+returns c = rw (c .if1 .taken)
 
--- src/refusal.rt:107:1
 returns-2 : tie.Need-returns-2
 returns-2 c = search needs
 

@@ -1,24 +1,14 @@
-use native.Mathlib.Omega.{arith}
-use mathlib.Core.Path.{_≡_, refl, sym, ap, _∙_}
-use Prim.Native.Nat.{ℕ, _≤_, _<_, _-_, _+_, _*_}
-use mathlib.Core.List.{List, _++_}
-use lib.ListN.{length, getD, take, drop, set, length-set}
-use mathlib.Core.Logic.{⊎-elim}
+-- The tests, one after the other.
+use Rattle.watch.proofs.refusal.same_count.Tie as tie
 use borrow.Author.Needs.{needs}
 use Rattle.watch.proofs.refusal.same_count.Statement.{statement}
-use Rattle.watch.proofs.refusal.same_count.Tie as tie
-use Rattle.watch.proofs.refusal.same_count.Reads as reads
-use Rattle.watch.proofs.refusal.same_count.Lts as lts
 
--- src/refusal.rt:135:13
 returns : tie.Need-returns
-returns c = search needs
+returns c = rw (c .before .if1 .taken, c .if2 .taken)
 
--- src/refusal.rt:130:1
 returns-2 : tie.Need-returns-2
 returns-2 c = search needs
 
--- src/refusal.rt:130:1
 returns-3 : tie.Need-returns-3
 returns-3 c = search needs
 
