@@ -15,3 +15,4 @@ pub mod MovingSteps
 pub mod RecordSteps
 pub mod UpdateSteps
 pub mod RefusalSteps
+pub mod OfferSteps

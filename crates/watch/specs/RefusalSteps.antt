@@ -1,20 +1,20 @@
 -- The refusals' conditions, test by test, as the functions go through them.
 use Prim.Native.Nat.{ℕ, _+_, _≤_, _<_, _-_}
 use native.Mathlib.Omega.{arith}
-use mathlib.Core.Path.{_≡_, refl}
+use mathlib.Core.Path.{_≡_, refl, sym, _∙_}
 use mathlib.Core.Bool.{Bool, true, false, not, _||_, or-assoc, true≢false}
 use mathlib.Core.List.{List}
 use lib.Dec.{ltb, eqb}
 use lib.ListN.{drop, length, take, length-drop}
 use lib.Seq.{take-all}
-use borrow.Author.Tests.{ltb-false}
+use borrow.Author.Tests.{ltb-false, not-false, eqb-true}
 use Rattle.clocks.specs.declared.Event.{Event}
 use Rattle.rules.specs.Table.{goodTable}
 use Rattle.clocks.specs.Bounded.{anyOf}
 use Rattle.rules.specs.TableBytes.{linesOf}
 use Rattle.watch.specs.ListSteps.{rest-next, rest-end}
-use Rattle.watch.specs.Record.{processCount, lineTotal, pendingCount, keptCount, tableLines, pendingAt, pendingEvents, tablePlace}
-use Rattle.watch.specs.Refusals.{badProcesses, badState, conflicts, conflicting}
+use Rattle.watch.specs.Record.{processCount, lineTotal, pendingCount, keptCount, tableLines, pendingAt, pendingEvents, tablePlace, recordLength}
+use Rattle.watch.specs.Refusals.{badProcesses, badState, conflicts, conflicting, badRecordLength}
 
 or-false-e : (a b : Bool) → (a || b) ≡ false → (a ≡ false) × (b ≡ false)
 or-false-e true b h = absurd (true≢false h)
@@ -71,3 +71,14 @@ numbers-within k pending lines kept room h =
     let u = or-false-e (eqb kept 0) _ (t .1) in
     let v = or-false-e _ _ (u .1) in
     (ltb-false 8 k (or-false-e (eqb k 0) _ (p .0) .1), ltb-false 32 pending (q .0), ltb-false 64 lines (t .0), ltb-false 1024 kept (v .0), ltb-false room kept (v .1))
+
+-- ---- What is known where none of them holds
+
+pub right-length : (w n : ℕ) → badRecordLength w n ≡ false → n ≡ recordLength w
+unfolding badRecordLength
+right-length w n h = eqb-true n (recordLength w) (not-false _ h)
+
+pub state-within : (w room : ℕ) (s : List ℕ) → badState w room s ≡ false
+    → (processCount s ≤ 8) × (pendingCount s ≤ 32) × (lineTotal s ≤ 64) × (keptCount s ≤ 1024) × (keptCount s ≤ room)
+state-within w room s h =
+    numbers-within (processCount s) (pendingCount s) (lineTotal s) (keptCount s) room (or-false-e _ _ (sym (state-parts w room s) ∙ h) .0)

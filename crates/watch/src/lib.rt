@@ -8,3 +8,5 @@ pub mod moving;
 pub mod update;
 // What a call is turned back for.
 pub mod refusal;
+// Offer: an event is added to the pending ones.
+pub mod offer;
