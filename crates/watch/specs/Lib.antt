@@ -7,6 +7,7 @@ pub mod Refusals
 pub mod Offer
 pub mod Take
 pub mod Find
+pub mod Words
 pub mod Open
 pub mod Status
 -- What is proved of them
@@ -16,3 +17,5 @@ pub mod RecordSteps
 pub mod UpdateSteps
 pub mod RefusalSteps
 pub mod OfferSteps
+pub mod FindSteps
+pub mod WordsLaws

@@ -10,3 +10,9 @@ pub mod update;
 pub mod refusal;
 // Offer: an event is added to the pending ones.
 pub mod offer;
+// Counts and labels out of the words that C hands over.
+pub mod words;
+// Find: the first kept frontier at which a line holds.
+pub mod find;
+// The functions that C calls.
+pub mod exports;
