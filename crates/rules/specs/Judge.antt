@@ -1,5 +1,6 @@
 -- Judging one frontier: the truth of each table line there, as bits of a word (01, The rule: kinds 0 to 5; The window: values). It
--- is made from the frontier's labels and from the words of the cuts that precede it: their OR, their AND, and whether there is one.
+-- is made from the frontier's labels and from the words of the cuts that precede it: their OR, `any`, their AND, `all`, and whether there is
+-- one, `preceded`.
 use Prim.Native.Nat.{ℕ, _+_, _^_}
 use mathlib.Core.Bool.{Bool, not, cond, _&&_, _||_}
 use mathlib.Core.List.{List, [], _∷_}
@@ -8,7 +9,8 @@ use lib.ListN.{getD}
 use Rattle.codec.specs.Bit.{bit}
 use Rattle.rules.specs.declared.Line.{Line}
 
--- The six kinds, in the order of source 000, section 3. v has the bits of the earlier lines, i is the line's own number.
+-- ---- The six kinds, in the order of source 000, section 3. v has the bits of the earlier lines, i is the line's own number.
+
 -- Proposition b of process a, which the process's label byte says.
 unfoldable pub propositionJudged : List ℕ → ℕ → ℕ → Bool
 propositionJudged labels a b = bit (getD labels a 0) b
@@ -32,6 +34,8 @@ esJudged v any i a b = bit v b || (bit v a && bit any i)
 -- A(a S b): line b, or line a and there is a preceding cut and all of them have this line.
 unfoldable pub asJudged : ℕ → ℕ → Bool → ℕ → ℕ → ℕ → Bool
 asJudged v all preceded i a b = bit v b || (bit v a && (preceded && bit all i))
+
+-- ---- Lines
 
 -- A line, by its kind. No line of another kind is good.
 unfoldable pub judgeLine : List ℕ → ℕ → ℕ → ℕ → Bool → ℕ → Line → Bool

@@ -39,4 +39,7 @@ pub mod WordSteps
 pub mod Laying
 pub mod LayingLaws
 pub mod ReaderSteps
+pub mod FormSteps
+pub mod FormDone
 pub mod RuleTable
+pub mod RuleTableLaws

@@ -1,16 +1,17 @@
 // The rule language: reading a rule's text to a table of lines, checking a table, and judging a frontier by it.
 
-ghost use Prim.Native.Nat.{_+_, _*_, _^_, _≤_, _<_};
+ghost use Prim.Native.Nat.{_+_, _-_, _*_, _^_, _≤_, _<_};
 ghost use mathlib.Core.Path.{_≡_};
 ghost use mathlib.Core.List.{[], _∷_};
-ghost use lib.ListN.{length};
+ghost use lib.ListN.{length, take};
 ghost use Rattle.codec.specs.Bit.{bit};
 ghost use Rattle.rules.specs.Text.{byteAt};
 ghost use Rattle.rules.specs.Formula.{constant};
 ghost use Rattle.rules.specs.Reader.{restAt, aWordAt, eWordAt, wordAt, atomAt, closeAt, innerWith, formAt};
-ghost use Rattle.rules.specs.Line.{line, trueLines, constantLines, linesBefore, linesAfter, linesBetween, linesAfterBoth};
+ghost use Rattle.rules.specs.Line.{line, notLine, trueLines, constantLines, linesBefore, linesAfter, linesBetween, linesAfterBoth};
 ghost use Rattle.rules.specs.Laying.{lay, hasTrue, digitAt, closeRead, Done, Room};
 ghost use Rattle.rules.specs.Table.{goodLine, goodTable};
+ghost use Rattle.rules.specs.RuleTable.{ruleAnswer, ruleTable};
 ghost use Rattle.rules.specs.TableBytes.{lineAt, linesOf};
 ghost use Rattle.rules.specs.Judge.{propositionJudged, notJudged, andJudged, eyJudged, esJudged, asJudged, judgeLine, withBit, judge as judged};
 
@@ -156,6 +157,25 @@ fn rest(text: &[u8], i: usize, letters: &[u8], word: WordRead) -> WordRead
     word
 }
 
+// A word with the place after it.
+fn constant_word(word: Constant, next: usize) -> WordRead
+    ensures { λ r. ⌜ r ≡ WordRead.ConstantWord word next ⌝ }
+{
+    WordRead::ConstantWord { word, next }
+}
+
+fn unary_word(word: Unary, next: usize) -> WordRead
+    ensures { λ r. ⌜ r ≡ WordRead.UnaryWord word next ⌝ }
+{
+    WordRead::UnaryWord { word, next }
+}
+
+fn binary_word(word: Binary, next: usize) -> WordRead
+    ensures { λ r. ⌜ r ≡ WordRead.BinaryWord word next ⌝ }
+{
+    WordRead::BinaryWord { word, next }
+}
+
 // The words that begin with a, from their second letter on: at, as, ap, ay, ah, and.
 fn a_word(text: &[u8], i: usize) -> WordRead
     requires { ⌜ i ≤ 1000 ⌝ }
@@ -167,39 +187,19 @@ fn a_word(text: &[u8], i: usize) -> WordRead
         return WordRead::AtWord { next };
     }
     if c == b's' as u32 {
-        return WordRead::BinaryWord {
-            word: Binary::As,
-            next,
-        };
+        return binary_word(Binary::As, next);
     }
     if c == b'p' as u32 {
-        return WordRead::UnaryWord {
-            word: Unary::Ap,
-            next,
-        };
+        return unary_word(Unary::Ap, next);
     }
     if c == b'y' as u32 {
-        return WordRead::UnaryWord {
-            word: Unary::Ay,
-            next,
-        };
+        return unary_word(Unary::Ay, next);
     }
     if c == b'h' as u32 {
-        return WordRead::UnaryWord {
-            word: Unary::Ah,
-            next,
-        };
+        return unary_word(Unary::Ah, next);
     }
     if c == b'n' as u32 {
-        return rest(
-            text,
-            next,
-            b"d",
-            WordRead::BinaryWord {
-                word: Binary::And,
-                next: i + 2,
-            },
-        );
+        return rest(text, next, b"d", binary_word(Binary::And, i + 2));
     }
     WordRead::NoWord { place: i }
 }
@@ -212,28 +212,16 @@ fn e_word(text: &[u8], i: usize) -> WordRead
     let c = byte_at(text, i);
     let next = i + 1;
     if c == b'y' as u32 {
-        return WordRead::UnaryWord {
-            word: Unary::Ey,
-            next,
-        };
+        return unary_word(Unary::Ey, next);
     }
     if c == b's' as u32 {
-        return WordRead::BinaryWord {
-            word: Binary::Es,
-            next,
-        };
+        return binary_word(Binary::Es, next);
     }
     if c == b'p' as u32 {
-        return WordRead::UnaryWord {
-            word: Unary::Ep,
-            next,
-        };
+        return unary_word(Unary::Ep, next);
     }
     if c == b'h' as u32 {
-        return WordRead::UnaryWord {
-            word: Unary::Eh,
-            next,
-        };
+        return unary_word(Unary::Eh, next);
     }
     WordRead::NoWord { place: i }
 }
@@ -252,48 +240,16 @@ fn read_word(text: &[u8], i: usize) -> WordRead
         return e_word(text, next);
     }
     if c == b'n' as u32 {
-        return rest(
-            text,
-            next,
-            b"ot",
-            WordRead::UnaryWord {
-                word: Unary::Not,
-                next: i + 3,
-            },
-        );
+        return rest(text, next, b"ot", unary_word(Unary::Not, i + 3));
     }
     if c == b't' as u32 {
-        return rest(
-            text,
-            next,
-            b"rue",
-            WordRead::ConstantWord {
-                word: Constant::True,
-                next: i + 4,
-            },
-        );
+        return rest(text, next, b"rue", constant_word(Constant::True, i + 4));
     }
     if c == b'f' as u32 {
-        return rest(
-            text,
-            next,
-            b"alse",
-            WordRead::ConstantWord {
-                word: Constant::False,
-                next: i + 5,
-            },
-        );
+        return rest(text, next, b"alse", constant_word(Constant::False, i + 5));
     }
     if c == b'o' as u32 {
-        return rest(
-            text,
-            next,
-            b"r",
-            WordRead::BinaryWord {
-                word: Binary::Or,
-                next: i + 2,
-            },
-        );
+        return rest(text, next, b"r", binary_word(Binary::Or, i + 2));
     }
     WordRead::NoWord { place: i }
 }
@@ -365,6 +321,17 @@ fn lay_before(table: &mut [u8], word: Unary, n: usize) -> usize
     }
 }
 
+// Not line `last`, a line, and not that one, behind `last`.
+fn lay_negated(table: &mut [u8], last: usize, kind: u8, a: usize, b: usize)
+    requires { ⌜ (length (now table) ≡ 600) × (last + 4 ≤ 200) × (a < 200) × (b < 200) ⌝ }
+    ensures { λ r. ⌜ now (table .exit) ≡ lay (now (table .entry)) (last + 1) (notLine last ∷ line kind a b ∷ notLine (last + 2) ∷ []) ⌝ }
+{
+    let n = last + 1;
+    put_line(table, n, 1, last, 0);
+    put_line(table, n + 1, kind, a, b);
+    put_line(table, n + 2, 1, last + 2, 0);
+}
+
 // The lines after that form's. Its last line is `last`, and that of true is `truth`.
 fn lay_after(table: &mut [u8], word: Unary, truth: usize, last: usize) -> usize
     requires { ⌜ (length (now table) ≡ 600) × (truth < 200) × (last + 4 ≤ 200) ⌝ }
@@ -389,21 +356,15 @@ fn lay_after(table: &mut [u8], word: Unary, truth: usize, last: usize) -> usize
             n + 1
         }
         Unary::Ay => {
-            put_line(table, n, 1, last, 0);
-            put_line(table, n + 1, 3, last + 1, 0);
-            put_line(table, n + 2, 1, last + 2, 0);
+            lay_negated(table, last, 3, last + 1, 0);
             n + 3
         }
         Unary::Eh => {
-            put_line(table, n, 1, last, 0);
-            put_line(table, n + 1, 5, truth, last + 1);
-            put_line(table, n + 2, 1, last + 2, 0);
+            lay_negated(table, last, 5, truth, last + 1);
             n + 3
         }
         Unary::Ah => {
-            put_line(table, n, 1, last, 0);
-            put_line(table, n + 1, 4, truth, last + 1);
-            put_line(table, n + 2, 1, last + 2, 0);
+            lay_negated(table, last, 4, truth, last + 1);
             n + 3
         }
     }
@@ -446,9 +407,7 @@ fn lay_after_both(table: &mut [u8], word: Binary, first: usize, last: usize) -> 
             n + 1
         }
         Binary::Or => {
-            put_line(table, n, 1, last, 0);
-            put_line(table, n + 1, 2, first + 1, last + 1);
-            put_line(table, n + 2, 1, last + 2, 0);
+            lay_negated(table, last, 2, first + 1, last + 1);
             n + 3
         }
     }
@@ -553,6 +512,188 @@ fn read_constant(
 {
     let end = lay_constant(table, word, laid);
     close(text, place, end, closed + (end - laid))
+}
+
+// Behind the form inside a word with one form: the lines after it, and the closing bracket. `end` and `count` are what the form
+// inside left, `added` lines were laid down before it.
+fn close_unary(
+    text: &[u8],
+    word: Unary,
+    truth: usize,
+    added: usize,
+    place: usize,
+    end: usize,
+    count: usize,
+    table: &mut [u8],
+) -> Read
+    requires { ⌜ (length (now table) ≡ 600) × (truth < 200) × (0 < end) × (end + 3 ≤ 200) × (place ≤ 1024) ⌝ }
+    requires { ⌜ (added ≤ 4) × (count ≤ 64) ⌝ }
+    ensures { λ r. ⌜ r ≡ closeRead (now (text .entry)) place (end + length (linesAfter word truth (end - 1))) (count + added + length (linesAfter word truth (end - 1))) ⌝ }
+    ensures { λ r. ⌜ now (table .exit) ≡ lay (now (table .entry)) end (linesAfter word truth (end - 1)) ⌝ }
+{
+    let total = lay_after(table, word, truth, end - 1);
+    close(text, place, total, count + added + (total - end))
+}
+
+// Behind both forms inside a word with two forms. `first` is the first one's last line, `added` lines were laid down between.
+fn close_binary(
+    text: &[u8],
+    word: Binary,
+    first: usize,
+    added: usize,
+    place: usize,
+    end: usize,
+    count: usize,
+    table: &mut [u8],
+) -> Read
+    requires { ⌜ (length (now table) ≡ 600) × (first + 1 < end) × (end + 3 ≤ 200) × (place ≤ 1024) ⌝ }
+    requires { ⌜ (added ≤ 4) × (count ≤ 64) ⌝ }
+    ensures { λ r. ⌜ r ≡ closeRead (now (text .entry)) place (end + length (linesAfterBoth word first (end - 1))) (count + added + length (linesAfterBoth word first (end - 1))) ⌝ }
+    ensures { λ r. ⌜ now (table .exit) ≡ lay (now (table .entry)) end (linesAfterBoth word first (end - 1)) ⌝ }
+{
+    let total = lay_after_both(table, word, first, end - 1);
+    close(text, place, total, count + added + (total - end))
+}
+
+// A space and a form inside another.
+fn read_inner(
+    text: &[u8],
+    k: u32,
+    allowance: usize,
+    place: usize,
+    laid: usize,
+    closed: usize,
+    table: &mut [u8],
+) -> Read
+    requires { ⌜ Room allowance laid closed (place + 1) (now table) ⌝ }
+    ensures { λ r. ⌜ Done laid closed (now (table .entry)) (now (table .exit)) (innerWith (formAt allowance (now (text .entry)) k) (now (text .entry)) closed place) r ⌝ }
+{
+    if byte_at(text, place) != b' ' as u32 {
+        return Read::Refused { number: 1, place };
+    }
+    read_form(text, k, allowance, place + 1, laid, closed, table)
+}
+
+// The form at a place, with brackets nested at most as deep as the allowance. `laid` lines are laid down so far, and `closed` are those of the
+// forms closed so far.
+fn read_form(
+    text: &[u8],
+    k: u32,
+    allowance: usize,
+    place: usize,
+    laid: usize,
+    closed: usize,
+    table: &mut [u8],
+) -> Read
+    requires { ⌜ Room allowance laid closed place (now table) ⌝ }
+    ensures { λ r. ⌜ Done laid closed (now (table .entry)) (now (table .exit)) (formAt allowance (now (text .entry)) k closed place) r ⌝ }
+{
+    if byte_at(text, place) != b'(' as u32 {
+        return Read::Refused { number: 1, place };
+    }
+    if allowance == 0 {
+        return Read::Refused { number: 2, place };
+    }
+    let found = read_word(text, place + 1);
+    match found {
+        WordRead::AtWord { next } => read_atom(text, k, next, laid, closed, table),
+        WordRead::ConstantWord { word, next } => read_constant(
+            text,
+            word,
+            next,
+            laid,
+            closed,
+            table,
+        ),
+        WordRead::UnaryWord { word, next } => {
+            let start = lay_before(table, word, laid);
+            let inner = read_inner(text, k, allowance - 1, next, start, closed, table);
+            match inner {
+                Read::Form {
+                    place: at,
+                    laid: end,
+                    closed: count,
+                } => close_unary(text, word, laid + 3, start - laid, at, end, count, table),
+                Read::Refused { number, place: at } => Read::Refused { number, place: at },
+            }
+        }
+        WordRead::BinaryWord { word, next } => {
+            let first = read_inner(text, k, allowance - 1, next, laid, closed, table);
+            match first {
+                Read::Form {
+                    place: middle,
+                    laid: half,
+                    closed: some,
+                } => {
+                    let start = lay_between(table, word, half - 1);
+                    let second = read_inner(text, k, allowance - 1, middle, start, some, table);
+                    match second {
+                        Read::Form {
+                            place: at,
+                            laid: end,
+                            closed: count,
+                        } => close_binary(
+                            text,
+                            word,
+                            half - 1,
+                            start - half,
+                            at,
+                            end,
+                            count,
+                            table,
+                        ),
+                        Read::Refused { number, place: at } => Read::Refused { number, place: at },
+                    }
+                }
+                Read::Refused { number, place: at } => Read::Refused { number, place: at },
+            }
+        }
+        WordRead::NoWord { place: at } => Read::Refused {
+            number: 1,
+            place: at,
+        },
+    }
+}
+
+// Copies the front of a table's lines over a table.
+fn copy_table(from: &[u8], table: &mut [u8])
+    requires { ⌜ (length (now table) ≡ 192) × (length (now from) ≡ 600) ⌝ }
+    ensures { λ r. ⌜ now (table .exit) ≡ take 192 (now (from .entry)) ⌝ }
+{
+    let mut i: usize = 0;
+    while i < 192 {
+        table[i] = from[i];
+        i += 1;
+    }
+}
+
+// Reads a rule's text for k processes: its table is left in `table`, which has 192 bytes. On a refusal nothing is written.
+pub fn read_rule(text: &[u8], k: u32, table: &mut [u8]) -> RuleRead
+    ensures { λ r. ⌜ r ≡ ruleAnswer (now (text .entry)) k (now (table .entry)) ⌝ }
+    ensures { λ r. ⌜ now (table .exit) ≡ ruleTable (now (text .entry)) k (now (table .entry)) ⌝ }
+{
+    if table.len() != 192 {
+        return RuleRead::Refused {
+            number: 6,
+            place: 0,
+        };
+    }
+    let mut lines = [0u8; 600];
+    let form = read_form(text, k, 32, 0, 0, 0, &mut lines);
+    match form {
+        Read::Refused { number, place } => RuleRead::Refused { number, place },
+        Read::Form {
+            place,
+            laid,
+            closed,
+        } => {
+            if place < text.len() {
+                return RuleRead::Refused { number: 1, place };
+            }
+            copy_table(&lines, table);
+            RuleRead::Accepted { lines: laid as u32 }
+        }
+    }
 }
 
 // ---- Judging a frontier

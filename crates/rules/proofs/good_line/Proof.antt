@@ -1,3 +1,4 @@
+-- Each return is the definition under the tests of the kind.
 use borrow.Author.Tests.{eq-eqb, ne-eqb}
 use borrow.Author.Needs.{needs}
 use Rattle.rules.specs.Table.{goodLine}

@@ -1,3 +1,4 @@
+-- The lines before i are good, so that the check is that of the lines from i on. Each turn is `goodFrom-next`.
 use Prim.Native.Nat.{_≤_, _-_}
 use native.Mathlib.Omega.{arith}
 use mathlib.Core.Bool.{true, false}

@@ -1,3 +1,4 @@
+-- A word has no bit from 64 up.
 use mathlib.Core.Path.{sym}
 use borrow.Author.Needs.{needs}
 use Rattle.codec.specs.BitLaws.{bit-above}

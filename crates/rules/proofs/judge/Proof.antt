@@ -1,3 +1,4 @@
+-- The word so far has the bits of the lines before i. Each turn is `judgeFrom-next`.
 use Prim.Native.Nat.{_^_, _≤_, _<_, _-_}
 use native.Mathlib.Omega.{arith}
 use mathlib.Core.Path.{_≡_, sym, ap, _∙_}

@@ -1,3 +1,4 @@
+-- The definition, with what `has` answers.
 use borrow.Author.Needs.{needs}
 use Rattle.rules.specs.Judge.{esJudged}
 use Rattle.rules.proofs.judge_es.Statement.{statement}

@@ -1,3 +1,4 @@
+-- The definition, with what `has` answers.
 use borrow.Author.Needs.{needs}
 use Rattle.rules.specs.Judge.{eyJudged}
 use Rattle.rules.proofs.judge_ey.Statement.{statement}

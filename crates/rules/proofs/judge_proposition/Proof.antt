@@ -1,3 +1,4 @@
+-- There are eight label bytes; a process behind them has no proposition.
 use native.Mathlib.Omega.{arith}
 use mathlib.Core.Path.{_≡_, sym}
 use lib.ListN.{List·getD-eq-default, length}

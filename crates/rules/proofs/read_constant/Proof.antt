@@ -1,45 +1,29 @@
-use Rattle.rules.specs.LayingLaws.{constant-five}
-use Rattle.rules.specs.ReaderPlace.{constant-short}
-use Rattle.rules.specs.Line.{lineCount, linesAt, constantLines, constantWeight}
+-- The lines that were laid down are as many as the word counts.
+use native.Mathlib.Omega.{arith}
+use borrow.Author.Needs.{needs}
+use Rattle.rules.specs.LayingLaws.{constant-five, done-close}
+use Rattle.rules.specs.Line.{lineCount, linesAt}
 use Rattle.rules.specs.Formula.{constant}
 use Rattle.rules.specs.LineLaws.{length-constant}
-use Rattle.rules.specs.LayingLaws.{done-close}
-use native.Mathlib.Omega.{arith}
-use mathlib.Core.Path.{_≡_, refl, sym, ap, _∙_}
-use Prim.Native.Nat.{ℕ, _≤_, _<_, _-_, _+_, _*_}
-use mathlib.Core.List.{List, _++_}
-use lib.ListN.{length, getD, take, drop, set, length-set}
-use mathlib.Core.Logic.{⊎-elim}
-use borrow.Author.Needs.{needs}
 use Rattle.rules.proofs.read_constant.Statement.{statement}
 use Rattle.rules.proofs.read_constant.Tie as tie
-use Rattle.rules.proofs.read_constant.Reads as reads
-use Rattle.rules.proofs.read_constant.Lts as lts
-use Rattle.rules.proofs.close.Reads as close-reads
-use Rattle.rules.proofs.lay_constant.Reads as lay-constant-reads
 
--- src/lib.rt:461:9
 lay-constant-requires : tie.Need-lay-constant-requires
 lay-constant-requires c κs = search needs
 
--- src/lib.rt:462:39
 sub-close : tie.Need-sub-close
 sub-close c = search needs
 
--- src/lib.rt:462:29
 add-close : tie.Need-add-close
 add-close c = let a = c .before .before .before .before .before .before .args in
     omega (arith, constant-five (a .word) (a .laid))
 
--- src/lib.rt:462:5
 close-requires : tie.Need-close-requires
 close-requires c κs = search needs
 
--- src/lib.rt:457:1
 same-length : tie.Need-same-length
 same-length c = search needs
 
--- src/lib.rt:457:1
 returns : tie.Need-returns
 unfolding lineCount linesAt
 returns c = let a = c .before .before .before .before .before .before .before .args in

@@ -1,42 +1,28 @@
+-- Each return is the definition under the tests of the byte.
 use borrow.Author.Tests.{le-leb, lt-leb, lt-ltb, le-ltb}
-use Rattle.rules.specs.Laying.{digitAt}
-use native.Mathlib.Omega.{arith}
-use mathlib.Core.Path.{_≡_, refl, sym, ap, _∙_}
-use Prim.Native.Nat.{ℕ, _≤_, _<_, _-_, _+_, _*_}
-use mathlib.Core.List.{List, _++_}
-use lib.ListN.{length, getD, take, drop, set, length-set}
-use mathlib.Core.Logic.{⊎-elim}
 use borrow.Author.Needs.{needs}
+use Rattle.rules.specs.Laying.{digitAt}
 use Rattle.rules.proofs.read_digit.Statement.{statement}
 use Rattle.rules.proofs.read_digit.Tie as tie
-use Rattle.rules.proofs.read_digit.Reads as reads
-use Rattle.rules.proofs.read_digit.Lts as lts
-use Rattle.rules.proofs.byte_at.Reads as byte-at-reads
 
--- src/lib.rt:398:9
 byte-at-requires : tie.Need-byte-at-requires
 byte-at-requires c κs = search needs
 
--- src/lib.rt:400:9
 returns : tie.Need-returns
 unfolding digitAt
 returns c = rw (← c .before .byte-at .ensures, lt-leb _ _ (c .if1 .taken))
 
--- src/lib.rt:403:9
 returns-2 : tie.Need-returns-2
 unfolding digitAt
 returns-2 c = rw (← c .before .before .byte-at .ensures, le-leb _ _ (c .before .if1 .left), lt-leb _ _ (c .if2 .taken))
 
--- src/lib.rt:407:35
 cast-t8 : tie.Need-cast-t8
 cast-t8 c = search needs
 
--- src/lib.rt:395:1
 returns-3 : tie.Need-returns-3
 unfolding digitAt
 returns-3 c = rw (← c .before .before .before .byte-at .ensures, le-leb _ _ (c .before .before .if1 .left), le-leb _ _ (c .before .if2 .left), lt-ltb _ _ (c .if3 .taken))
 
--- src/lib.rt:395:1
 returns-4 : tie.Need-returns-4
 unfolding digitAt
 returns-4 c = rw (← c .before .before .before .byte-at .ensures, le-leb _ _ (c .before .before .if1 .left), le-leb _ _ (c .before .if2 .left), le-ltb _ _ (c .if3 .left))

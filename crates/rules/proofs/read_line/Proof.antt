@@ -1,3 +1,4 @@
+-- The three bytes of the line.
 use mathlib.Core.Path.{refl}
 use borrow.Author.Needs.{needs}
 use Rattle.rules.specs.TableBytes.{lineAt}

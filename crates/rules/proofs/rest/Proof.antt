@@ -1,22 +1,17 @@
+-- The loop has met the letters before j: what is left of the word decides. Each turn is `restAt-next`.
+use Prim.Native.Nat.{_≤_, _-_, _+_}
+use native.Mathlib.Omega.{arith}
 use mathlib.Core.Bool.{true, false}
-use Rattle.rules.specs.Text.{byteAt}
+use mathlib.Core.Path.{_≡_, sym, _∙_}
 use lib.Dec.{eqb}
+use lib.ListN.{length, getD, drop}
 use borrow.Author.Tests.{eq-eqb, ne-eqb}
+use borrow.Author.Needs.{needs}
+use Rattle.rules.specs.Text.{byteAt}
 use Rattle.rules.specs.WordSteps.{restAt-next, restAt-end}
 use Rattle.rules.specs.Reader.{restAt}
-use native.Mathlib.Omega.{arith}
-use mathlib.Core.Path.{_≡_, refl, sym, ap, _∙_}
-use Prim.Native.Nat.{ℕ, _≤_, _<_, _-_, _+_, _*_}
-use mathlib.Core.List.{List, _++_}
-use lib.ListN.{length, getD, take, drop, set, length-set}
-use mathlib.Core.Logic.{⊎-elim}
-use borrow.Author.Needs.{needs}
 use Rattle.rules.proofs.rest.Statement.{statement}
 use Rattle.rules.proofs.rest.Tie as tie
-use Rattle.rules.proofs.rest.Reads as reads
-use Rattle.rules.proofs.rest.Lts as lts
-use Rattle.rules.proofs.byte_at.Reads as byte-at-reads
-use Rattle.rules.proofs.wide.Reads as wide-reads
 
 abbrev Inv-loop : tie.InvT-loop
 Inv-loop text i letters word j₀ j =
@@ -25,33 +20,26 @@ Inv-loop text i letters word j₀ j =
 abbrev μ-loop : tie.MeasureT-loop
 μ-loop text i letters word j₀ j = length letters - j
 
--- src/lib.rt:145:5
 loop-holds : tie.Need-loop-holds Inv-loop μ-loop
 loop-holds c = let a = c .before .before .args in
     let e : a .i + 0 ≡ a .i = omega arith in
     (search needs, rw e)
 
--- src/lib.rt:146:31
 add-byte-at : tie.Need-add-byte-at Inv-loop μ-loop
 add-byte-at c = search needs
 
--- src/lib.rt:146:13
 byte-at-requires : tie.Need-byte-at-requires Inv-loop μ-loop
 byte-at-requires c κs = search needs
 
--- src/lib.rt:147:22
 shared-slice-read-wide : tie.Need-shared-slice-read-wide Inv-loop μ-loop
 shared-slice-read-wide c = search needs
 
--- src/lib.rt:147:17
 wide-requires : tie.Need-wide-requires Inv-loop μ-loop
 wide-requires c κs = search needs
 
--- src/lib.rt:148:46
 add-t12 : tie.Need-add-t12 Inv-loop μ-loop
 add-t12 c = search needs
 
--- src/lib.rt:148:13
 returns : tie.Need-returns Inv-loop μ-loop
 returns c = let a = c .before .before .before .before .before .before .before .before .args in
     let l = c .before .before .before .before .before .loop in
@@ -60,15 +48,12 @@ returns c = let a = c .before .before .before .before .before .before .before .b
     in
     sym (l .inv .1 ∙ restAt-next (a .text .now) (a .i) (l .j) (a .letters .now) (a .word) (c .before .before .before .before .loop-test .taken) ∙ rw g)
 
--- src/lib.rt:150:9
 add-j : tie.Need-add-j Inv-loop μ-loop
 add-j c = search needs
 
--- src/lib.rt:145:5
 loop-less : tie.Need-loop-less Inv-loop μ-loop
 loop-less c = search needs
 
--- src/lib.rt:145:5
 loop-again : tie.Need-loop-again Inv-loop μ-loop
 loop-again c = let a = c .before .before .before .before .before .before .before .before .args in
     let l = c .before .before .before .before .before .loop in
@@ -77,7 +62,6 @@ loop-again c = let a = c .before .before .before .before .before .before .before
     in
     (search needs, (l .inv .1 ∙ restAt-next (a .text .now) (a .i) (l .j) (a .letters .now) (a .word) (c .before .before .before .before .loop-test .taken) ∙ rw g))
 
--- src/lib.rt:140:1
 returns-2 : tie.Need-returns-2 Inv-loop μ-loop
 returns-2 c = let a = c .before .before .before .before .args in
     let l = c .before .loop in

@@ -1,3 +1,4 @@
+-- The bit that is added is above the word, so that the sum does not wrap.
 use Prim.Native.Nat.{_^_, _≤_}
 use native.Mathlib.Omega.{arith}
 use lib.Pow.{shl-exact, pow-mono}
