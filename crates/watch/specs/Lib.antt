@@ -18,4 +18,5 @@ pub mod UpdateSteps
 pub mod RefusalSteps
 pub mod OfferSteps
 pub mod FindSteps
+pub mod OpenSteps
 pub mod WordsLaws

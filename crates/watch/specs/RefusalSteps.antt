@@ -4,17 +4,19 @@ use native.Mathlib.Omega.{arith}
 use mathlib.Core.Path.{_≡_, refl, sym, _∙_}
 use mathlib.Core.Bool.{Bool, true, false, not, _||_, or-assoc, true≢false}
 use mathlib.Core.List.{List}
+use mathlib.Core.Option.{some}
 use lib.Dec.{ltb, eqb}
 use lib.ListN.{drop, length, take, length-drop}
 use lib.Seq.{take-all}
-use borrow.Author.Tests.{ltb-false, not-false, eqb-true}
+use borrow.Author.Tests.{ltb-false, not-false, eqb-true, eqb-false}
 use Rattle.clocks.specs.declared.Event.{Event}
 use Rattle.rules.specs.Table.{goodTable}
 use Rattle.clocks.specs.Bounded.{anyOf}
 use Rattle.rules.specs.TableBytes.{linesOf}
+use Rattle.window.specs.Bytes.{frontierLength}
 use Rattle.watch.specs.ListSteps.{rest-next, rest-end}
 use Rattle.watch.specs.Record.{processCount, lineTotal, pendingCount, keptCount, tableLines, pendingAt, pendingEvents, tablePlace, recordLength}
-use Rattle.watch.specs.Refusals.{badProcesses, badState, conflicts, conflicting, badRecordLength}
+use Rattle.watch.specs.Refusals.{badProcesses, badState, conflicts, conflicting, badRecordLength, badWindowLength}
 
 or-false-e : (a b : Bool) → (a || b) ≡ false → (a ≡ false) × (b ≡ false)
 or-false-e true b h = absurd (true≢false h)
@@ -82,3 +84,14 @@ pub state-within : (w room : ℕ) (s : List ℕ) → badState w room s ≡ false
     → (processCount s ≤ 8) × (pendingCount s ≤ 32) × (lineTotal s ≤ 64) × (keptCount s ≤ 1024) × (keptCount s ≤ room)
 state-within w room s h =
     numbers-within (processCount s) (pendingCount s) (lineTotal s) (keptCount s) room (or-false-e _ _ (sym (state-parts w room s) ∙ h) .0)
+
+pub processes-within : (k : ℕ) → badProcesses k ≡ false → (1 ≤ k) × (k ≤ 8)
+unfolding badProcesses
+processes-within k h =
+    let p = or-false-e (eqb k 0) (ltb 8 k) h in
+    let some : k ≡ 0 → ⊥ = eqb-false k 0 (p .0) in
+    (omega arith, ltb-false 8 k (p .1))
+
+pub window-holds : (w n : ℕ) → badWindowLength w n ≡ false → frontierLength w ≤ n
+unfolding badWindowLength
+window-holds w n h = ltb-false n (frontierLength w) (or-false-e _ _ h .0)

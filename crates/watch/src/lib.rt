@@ -14,5 +14,9 @@ pub mod offer;
 pub mod words;
 // Find: the first kept frontier at which a line holds.
 pub mod find;
+// The reply words.
+pub mod reply;
+// Open: a rule's text read, record and window written.
+pub mod open;
 // The functions that C calls.
 pub mod exports;

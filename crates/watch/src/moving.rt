@@ -40,3 +40,16 @@ pub fn clear(s: &mut [u8], from: usize, n: usize)
         i = i + 1;
     }
 }
+
+// Copies the first n bytes of a slice to a place of another.
+pub fn copy_in(s: &mut [u8], place: usize, from: &[u8], n: usize)
+    requires { ⌜ place + n ≤ length (now s) ⌝ }
+    requires { ⌜ n ≤ length (now from) ⌝ }
+    ensures { λ r. ⌜ now (s .exit) ≡ sets (now (s .entry)) place (take n (now (from .entry))) ⌝ }
+{
+    let mut i = 0;
+    while i < n {
+        s[place + i] = from[i];
+        i = i + 1;
+    }
+}

@@ -86,7 +86,7 @@ fn bad_numbers(k: u32, pending: usize, lines: u32, kept: usize, room: usize) -> 
 }
 
 // The place of the table.
-fn table_place(w: usize) -> usize
+pub fn table_place(w: usize) -> usize
     requires { ⌜ Width w ⌝ }
     ensures { λ r. ⌜ (r ≡ tablePlace w) × (r ≤ 296) ⌝ }
 {
