@@ -46,7 +46,7 @@ use Rattle.window.specs.Seek.{seek, standsAt}
 use Rattle.window.specs.FoundLaid.{found-e, found-i}
 use Rattle.window.specs.OrderCuts.{before-pointwise}
 use Rattle.window.specs.StoredCuts.{listOf-injective, first-process}
-use Rattle.window.specs.GatherLaws.{Gathers, gathers-same, gathers-added}
+use Rattle.window.specs.GatheredBits.{Gathers, gathers-same, gathers-added}
 
 module _ (W : World) (valid : List Event → Event → Type 0) (ts : List Event) (e : Event) (P : Proper W valid ts) (tk : Takeable (W .processes) valid ts e)
     (opens : (p : ℕ) → involved e p ≡ true → T (openIn W p)) (S₀ : Cut) (c₀ : Consistent ts S₀) (r₀ : Ready e S₀) where

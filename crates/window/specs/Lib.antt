@@ -25,7 +25,7 @@ pub mod MergeLaws
 pub mod FrontierLaws
 pub mod FoundLaid
 pub mod StoredCuts
-pub mod GatherLaws
+pub mod GatheredBits
 pub mod JudgingNew
 pub mod StepTheorem
 pub mod StartTheorem
