@@ -28,4 +28,6 @@ pub mod JudgingNew
 pub mod StepTheorem
 pub mod StartTheorem
 pub mod Unique
+pub mod StepCode
+pub mod StepCodeLaws
 pub mod Verdict

@@ -1,6 +1,7 @@
 // Frontiers in bytes: a window of the kept cuts.
 
 pub mod counts;
+pub mod kept;
 pub mod lookup;
 pub mod order;
 pub mod place;
