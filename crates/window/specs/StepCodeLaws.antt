@@ -6,13 +6,15 @@ use mathlib.Core.Path.{_≡_, refl, sym, ap, subst, _∙_}
 use mathlib.Core.Bool.{Bool, true, false, cond, _||_}
 use mathlib.Core.List.{List, [], _∷_, _++_}
 use lib.Dec.{eqb, T, eqb→eq}
-use lib.ListN.{length, length-append}
+use lib.ListN.{length, length-append, getD, replicate, getD-replicate}
 use lib.Seq.{ext-getD}
 use borrow.Author.Tests.{eq-eqb}
 use Rattle.clocks.specs.declared.Event.{Event}
-use Rattle.clocks.specs.Event.{one}
+use Rattle.codec.specs.Bit.{bit}
+use Rattle.clocks.specs.Event.{one, apply, involved}
 use Rattle.clocks.specs.EventLaws.{true-T}
-use Rattle.clocks.specs.Counts.{at}
+use Rattle.clocks.specs.Counts.{at, listOf}
+use Rattle.clocks.specs.CountsLaws.{listOf-same}
 use Rattle.clocks.specs.Bounded.{allBelow}
 use Rattle.clocks.specs.BoundedLaws.{same-test, all-i, all-e}
 use Rattle.window.specs.declared.Frontier.{Frontier}
@@ -20,7 +22,7 @@ use Rattle.window.specs.Order.{same}
 use Rattle.window.specs.OrderLaws.{same-e, same-i}
 use Rattle.window.specs.Bytes.{frontiers, frontierAt}
 use Rattle.window.specs.WindowLaws.{frontiers-more}
-use Rattle.window.specs.Step.{Setting, stays, enabledAt, filtered, keptAfter}
+use Rattle.window.specs.Step.{Setting, stays, enabledAt, advanced, filtered, keptAfter}
 use Rattle.window.specs.StepCode.{settingOf, staysWith, keptOf}
 
 -- ---- Counts that are the same, test by test
@@ -64,3 +66,15 @@ keptAfter-more k closed table lines e reached w bytes i =
     let a : length (filtered (stays s) (fs ++ (f ∷ []))) ≡ length (filtered (stays s) fs) + one (stays s f) = length-filtered-more (stays s) fs f in
     let b : length (filtered (enabledAt s) (fs ++ (f ∷ []))) ≡ length (filtered (enabledAt s) fs) + one (enabledAt s f) = length-filtered-more (enabledAt s) fs f in
     rw (add-one, frontiers-more w bytes i, a, b) (omega arith)
+
+-- ---- The frontier that an event leads to, by its parts
+pub advanced-parts : (s : Setting) (e : Event) (f : Frontier) (counts labels masks : List ℕ) → s .stored ≡ 8 → s .event ≡ e
+    → counts ≡ listOf 8 (apply e (at (f .counts)))
+    → labels ≡ listOf 8 (λ p. cond (bit (e .mask) p) (getD (e .labels) p 0) (getD (f .labels) p 0))
+    → masks ≡ listOf 8 (λ p. cond (bit (e .mask) p) (getD (replicate 8 (e .mask)) p 0) (getD (f .masks) p 0))
+    → record { counts = counts; labels = labels; masks = masks; values = f .values } ≡ advanced s f
+unfolding advanced involved
+advanced-parts s e f counts labels masks h v c l m =
+    let m′ : masks ≡ listOf 8 (λ p. cond (bit (e .mask) p) (e .mask) (getD (f .masks) p 0)) =
+    m ∙ listOf-same 8 _ _ (λ p i. ap (λ (x : ℕ). cond (bit (e .mask) p) x (getD (f .masks) p 0)) (getD-replicate 8 p (e .mask) 0 i)) in
+    rw (h, v, c, l, m′)

@@ -1,5 +1,6 @@
 // Frontiers in bytes: a window of the kept cuts.
 
+pub mod advance;
 pub mod counts;
 pub mod kept;
 pub mod lookup;
