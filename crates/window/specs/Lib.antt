@@ -30,4 +30,5 @@ pub mod StartTheorem
 pub mod Unique
 pub mod StepCode
 pub mod StepCodeLaws
+pub mod GatherLaws
 pub mod Verdict

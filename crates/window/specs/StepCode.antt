@@ -2,6 +2,7 @@
 use Prim.Native.Nat.{ℕ, _+_, _^_, _<_}
 use mathlib.Core.Bool.{Bool, not, _&&_, _||_}
 use mathlib.Core.List.{List}
+use lib.Count.{trailingZeros}
 use lib.Dec.{eqb}
 use lib.ListN.{getD}
 use Rattle.codec.specs.Bit.{bit}
@@ -12,7 +13,8 @@ use Rattle.clocks.specs.Counts.{at}
 use Rattle.clocks.specs.Bounded.{allBelow, anyBelow}
 use Rattle.clocks.specs.Tested.{ready}
 use Rattle.rules.specs.TableBytes.{linesOf}
-use Rattle.window.specs.Step.{Setting}
+use Rattle.window.specs.declared.Found.{Found}
+use Rattle.window.specs.Step.{Setting, Gathered}
 
 -- The setting of a step: eight processes are stored, k there are; the table by its bytes, the taken counts as a list.
 abbrev pub settingOf : ℕ → ℕ → List ℕ → ℕ → Event → List ℕ → Setting
@@ -46,3 +48,11 @@ pub record Fitting (w : ℕ) (e : Event) : Type 0 where
   pub mask-fits : e .mask < 256
   pub clock-fits : (p : ℕ) → at (e .clock) p < 256 ^ w
   pub labels-fit : Bytes (e .labels)
+
+-- Process p is not in the event's mask, and is the lowest one in the mask of its last event.
+abbrev pub soughtWith : ℕ → ℕ → ℕ → Bool
+soughtWith mask last p = not (bit mask p) && (not (eqb last 0) && eqb (trailingZeros 8 last) p)
+
+-- What the code gathers, in the words of the definition.
+abbrev pub gatheredOf : Found → Gathered
+gatheredOf r = record { ors = r .ors; ands = r .ands; hints = r .hints }

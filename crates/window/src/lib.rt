@@ -2,6 +2,7 @@
 
 pub mod advance;
 pub mod counts;
+pub mod gather;
 pub mod kept;
 pub mod lookup;
 pub mod order;
@@ -14,4 +15,11 @@ pub struct Frontier {
     pub labels: [u8; 8],
     pub masks: [u8; 8],
     pub values: u64,
+}
+
+// What is gathered from the cuts that precede a new frontier: the OR and the AND of their values, and where each process's look-up ended.
+pub struct Found {
+    pub ors: u64,
+    pub ands: u64,
+    pub hints: [usize; 8],
 }
