@@ -16,8 +16,10 @@ use Rattle.window.specs.Seek.{seek, standsAt}
 use Rattle.window.specs.Bytes.{frontiers, frontierAt}
 use Rattle.window.specs.WindowLaws.{length-frontiers, getD-frontiers}
 use Rattle.window.specs.LookupLaws.{standsAt-beyond}
-use Rattle.window.specs.Step.{Setting, Gathered, sought, withoutLast, consider, gathered, keysOf, valuesAt}
-use Rattle.window.specs.StepCode.{soughtWith}
+use Rattle.rules.specs.Judge.{judge}
+use Rattle.window.specs.declared.Found.{Found}
+use Rattle.window.specs.Step.{Setting, Gathered, sought, withoutLast, consider, gathered, keysOf, valuesAt, advanced, judgedBy}
+use Rattle.window.specs.StepCode.{soughtWith, gatheredOf, gatheredFrom, hintsFrom, freshFrom}
 
 module _ (s : Setting) (mask : ℕ) (h : s .stored ≡ 8) (v : s .event .mask ≡ mask) (laid : List Frontier) (g : Frontier) (p : ℕ) (k : Gathered) where
   sought-with : sought s g p ≡ soughtWith mask (getD (g .masks) p 0) p
@@ -74,3 +76,16 @@ values-at w bytes n i l =
   where
     none : Frontier
     none = record { counts = []; labels = []; masks = []; values = 0 }
+
+-- ---- A new frontier by the parts of the code: what it came from, what was gathered, how it was judged
+module _ (s : Setting) (laid : List Frontier) (hints : List ℕ) (f g : Frontier) (r : Found) (h : s .stored ≡ 8) (a : g ≡ advanced s f) (e : gatheredOf r ≡ gathered s laid hints g 8) where
+  gathered-is : gatheredOf r ≡ gatheredFrom s laid hints f
+  gathered-is = e ∙ ap (λ (x : Frontier). gathered s laid hints x 8) a ∙ ap (gathered s laid hints (advanced s f)) (sym h)
+
+  pub hints-are : r .hints ≡ hintsFrom s laid hints f
+  hints-are = ap (λ (k : Gathered). k .hints) gathered-is
+
+  pub fresh-is : (v : ℕ) → v ≡ judge (g .labels) (r .ors) (r .ands) true (s .table)
+      → record { counts = g .counts; labels = g .labels; masks = g .masks; values = v } ≡ freshFrom s laid hints f
+  unfolding judgedBy
+  fresh-is v q = rw q (ap (λ (x : Frontier). judgedBy s x (gatheredOf r)) a ∙ ap (judgedBy s (advanced s f)) gathered-is)

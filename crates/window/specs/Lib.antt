@@ -31,4 +31,5 @@ pub mod Unique
 pub mod StepCode
 pub mod StepCodeLaws
 pub mod GatherLaws
+pub mod ShapeLaws
 pub mod Verdict

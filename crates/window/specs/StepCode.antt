@@ -14,7 +14,8 @@ use Rattle.clocks.specs.Bounded.{allBelow, anyBelow}
 use Rattle.clocks.specs.Tested.{ready}
 use Rattle.rules.specs.TableBytes.{linesOf}
 use Rattle.window.specs.declared.Found.{Found}
-use Rattle.window.specs.Step.{Setting, Gathered}
+use Rattle.window.specs.declared.Frontier.{Frontier}
+use Rattle.window.specs.Step.{Setting, Gathered, advanced, gathered, judgedBy}
 
 -- The setting of a step: eight processes are stored, k there are; the table by its bytes, the taken counts as a list.
 abbrev pub settingOf : ℕ → ℕ → List ℕ → ℕ → Event → List ℕ → Setting
@@ -56,3 +57,15 @@ soughtWith mask last p = not (bit mask p) && (not (eqb last 0) && eqb (trailingZ
 -- What the code gathers, in the words of the definition.
 abbrev pub gatheredOf : Found → Gathered
 gatheredOf r = record { ors = r .ors; ands = r .ands; hints = r .hints }
+
+-- What is gathered for the frontier that the event leads to from f, once the frontiers of a list are laid down.
+abbrev pub gatheredFrom : Setting → List Frontier → List ℕ → Frontier → Gathered
+gatheredFrom s laid hints f = gathered s laid hints (advanced s f) (s .stored)
+
+-- Where its look-ups ended.
+abbrev pub hintsFrom : Setting → List Frontier → List ℕ → Frontier → List ℕ
+hintsFrom s laid hints f = gatheredFrom s laid hints f .hints
+
+-- That frontier, judged.
+abbrev pub freshFrom : Setting → List Frontier → List ℕ → Frontier → Frontier
+freshFrom s laid hints f = judgedBy s (advanced s f) (gatheredFrom s laid hints f)

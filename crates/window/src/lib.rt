@@ -4,6 +4,7 @@ pub mod advance;
 pub mod counts;
 pub mod gather;
 pub mod kept;
+pub mod lay;
 pub mod lookup;
 pub mod order;
 pub mod place;
