@@ -32,4 +32,6 @@ pub mod StepCode
 pub mod StepCodeLaws
 pub mod GatherLaws
 pub mod ShapeLaws
+pub mod Laying
+pub mod LayingLaws
 pub mod Verdict

@@ -6,6 +6,7 @@ pub mod gather;
 pub mod kept;
 pub mod lay;
 pub mod lookup;
+pub mod merge;
 pub mod order;
 pub mod place;
 pub mod stored;
