@@ -9,6 +9,7 @@ pub mod lookup;
 pub mod merge;
 pub mod order;
 pub mod place;
+pub mod step;
 pub mod stored;
 
 // A kept cut: its counts, each process's labels and the mask of its last event there, and the truth of each line.
