@@ -13,6 +13,10 @@ use Rattle.window.proofs.step.step.Lts as lts
 use Rattle.window.proofs.merge.lay_all.Reads as lay-all-reads
 use Rattle.window.proofs.step.copy_back.Reads as copy-back-reads
 use denote.Ref.{now}
+use mathlib.Core.List.{List}
+use Rattle.window.specs.Bytes.{windowBytes}
+use Rattle.window.specs.declared.Frontier.{Frontier}
+use lib.ListN.{replicate}
 
 -- src/step.rt:80:5
 lay-all-requires : tie.Need-lay-all-requires
@@ -24,8 +28,7 @@ lay-all-requires c κs =
 copy-back-requires : tie.Need-copy-back-requires
 copy-back-requires c κs =
     let p = c .before .before .before .before .before .before .before .before .before .before .pre in
-    let k = c .before .before .slice-known3 .given in
-    (p .0, (λ i. ?, (p .1 .1 .1 .1 .0 .0, (p .1 .1 .1 .1 .1 .0, search needs))))
+    (p .0, (λ i. c .before .before .slice-known3 .given i .fits, (p .1 .1 .1 .1 .0 .0, (p .1 .1 .1 .1 .1 .0, search needs))))
 
 -- src/step.rt:55:1
 same-length : tie.Need-same-length
@@ -37,7 +40,10 @@ same-length-2 c = search needs
 
 -- src/step.rt:55:1
 returns : tie.Need-returns
-returns c = ?
+returns c =
+    let a = c .before .before .before .before .before .before .before .before .before .before .before .before .before .before .before .args in
+    let long : length (c .before .before .before .before .before .before .before .before .before .lay-all .last .1 .0) ≡ length (now (a .scratch)) = search needs in
+    (c .before .before .before .before .copy-back .ensures .0 ∙ ap (windowBytes (a .w) (length (now (a .window)))) (c .before .before .before .before .before .before .before .before .before .lay-all .ensures), c .before .before .before .before .copy-back .ensures .1 ∙ ap (λ (n : ℕ). replicate n 0) long)
 
 pub step-spec : {M : Type 1} → statement M
 step-spec =
