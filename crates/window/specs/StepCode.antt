@@ -18,8 +18,8 @@ use Rattle.window.specs.declared.Frontier.{Frontier}
 use Rattle.window.specs.Step.{Setting, Gathered, advanced, gathered, judgedBy}
 
 -- The setting of a step: eight processes are stored, k there are; the table by its bytes, the taken counts as a list.
-abbrev pub settingOf : ℕ → ℕ → List ℕ → ℕ → Event → List ℕ → Setting
-settingOf k closed table lines e reached = record {
+abbrev pub settingWith : ℕ → ℕ → List ℕ → ℕ → Event → List ℕ → Setting
+settingWith k closed table lines e reached = record {
   stored = 8;
   processes = k;
   closed = closed;

@@ -23,7 +23,7 @@ use Rattle.window.specs.OrderLaws.{same-e, same-i}
 use Rattle.window.specs.Bytes.{frontiers, frontierAt}
 use Rattle.window.specs.WindowLaws.{frontiers-more}
 use Rattle.window.specs.Step.{Setting, stays, enabledAt, advanced, filtered, keptAfter}
-use Rattle.window.specs.StepCode.{settingOf, staysWith, keptOf}
+use Rattle.window.specs.StepCode.{settingWith, staysWith, keptOf}
 
 -- ---- Counts that are the same, test by test
 pub same-all : (xs ys : List ℕ) (n : ℕ) → length xs ≡ n → length ys ≡ n → same xs ys ≡ allBelow n (λ p. eqb (at xs p) (at ys p))
@@ -56,11 +56,11 @@ unfolding keptAfter filtered frontiers Rattle.clocks.specs.Counts.listOf
 keptAfter-none s w bytes = refl
 
 pub keptAfter-more : (k closed : ℕ) (table : List ℕ) (lines : ℕ) (e : Event) (reached : List ℕ) (w : ℕ) (bytes : List ℕ) (i : ℕ)
-    → keptAfter (settingOf k closed table lines e reached) (frontiers w bytes (i + 1))
-    ≡ keptAfter (settingOf k closed table lines e reached) (frontiers w bytes i) + keptOf k closed e reached (frontierAt w bytes i .counts)
+    → keptAfter (settingWith k closed table lines e reached) (frontiers w bytes (i + 1))
+    ≡ keptAfter (settingWith k closed table lines e reached) (frontiers w bytes i) + keptOf k closed e reached (frontierAt w bytes i .counts)
 unfolding keptAfter stays enabledAt
 keptAfter-more k closed table lines e reached w bytes i =
-    let s = settingOf k closed table lines e reached in
+    let s = settingWith k closed table lines e reached in
     let fs = frontiers w bytes i in
     let f = frontierAt w bytes i in
     let a : length (filtered (stays s) (fs ++ (f ∷ []))) ≡ length (filtered (stays s) fs) + one (stays s f) = length-filtered-more (stays s) fs f in

@@ -11,7 +11,7 @@ ghost use Rattle.clocks.specs.Event.{one};
 ghost use Rattle.window.specs.Width.{Width};
 ghost use Rattle.window.specs.Bytes.{frontierLength, frontierAt, frontiers};
 ghost use Rattle.window.specs.Step.{keptAfter};
-ghost use Rattle.window.specs.StepCode.{settingOf, complete, staysWith, keptOf};
+ghost use Rattle.window.specs.StepCode.{settingWith, complete, staysWith, keptOf};
 
 // Whether an open process has all its taken events.
 fn complete_at(closed: bool, count: u32, taken: u32) -> bool
@@ -89,7 +89,7 @@ pub fn count_after(
     requires { ⌜ n ≤ 1024 ⌝ }
     requires { ⌜ n * frontierLength w ≤ length (now window) ⌝ }
     requires { ⌜ k ≤ 8 ⌝ }
-    ensures { λ r. ⌜ ((table : List ℕ) (lines : ℕ) → r ≡ keptAfter (settingOf k closed table lines e reached) (frontiers w (now (window .entry)) n)) ⌝ }
+    ensures { λ r. ⌜ ((table : List ℕ) (lines : ℕ) → r ≡ keptAfter (settingWith k closed table lines e reached) (frontiers w (now (window .entry)) n)) ⌝ }
     ensures { λ r. ⌜ r ≤ 2048 ⌝ }
 {
     let mut total = 0;

@@ -7,12 +7,11 @@ ghost use mathlib.Core.Path.{_≡_};
 ghost use mathlib.Core.List.{List, [], _∷_, _++_};
 ghost use lib.Dec.{T};
 ghost use lib.ListN.{length};
-ghost use Rattle.codec.specs.Little.{Bytes};
 ghost use Rattle.clocks.specs.Counts.{at};
 ghost use Rattle.clocks.specs.Tested.{ready};
 ghost use Rattle.window.specs.Width.{Width};
 ghost use Rattle.window.specs.Bytes.{frontierLength, frontierAt, frontiers};
-ghost use Rattle.window.specs.StepCode.{Fitting, settingOf, freshFrom, hintsFrom};
+ghost use Rattle.window.specs.StepCode.{Fitting, settingWith, freshFrom, hintsFrom};
 
 // Frontier number i.
 pub fn frontier_at(window: &[u8], w: usize, i: usize) -> Frontier
@@ -28,7 +27,6 @@ pub fn frontier_at(window: &[u8], w: usize, i: usize) -> Frontier
 // Frontier i of the window stays: it is laid down as number m.
 pub fn lay_staying(window: &[u8], scratch: &mut [u8], w: usize, i: usize, m: usize)
     requires { ⌜ Width w ⌝ }
-    requires { ⌜ Bytes (now window) ⌝ }
     requires { ⌜ (i ≤ 1024) × (i * frontierLength w + frontierLength w ≤ length (now window)) ⌝ }
     requires { ⌜ (m ≤ 1024) × (m * frontierLength w + frontierLength w ≤ length (now scratch)) ⌝ }
     ensures { λ r. ⌜ frontiers w (now (scratch .exit)) (m + 1) ≡ frontiers w (now (scratch .entry)) m ++ (frontierAt w (now (window .entry)) i ∷ []) ⌝ }
@@ -50,14 +48,13 @@ pub fn lay_fresh(
     hints: [usize; 8],
 ) -> [usize; 8]
     requires { ⌜ Width w ⌝ }
-    requires { ⌜ Bytes (now window) ⌝ }
     requires { ⌜ Fitting w e ⌝ }
     requires { ⌜ (j ≤ 1024) × (j * frontierLength w + frontierLength w ≤ length (now window)) ⌝ }
     requires { ⌜ (m ≤ 1024) × (m * frontierLength w + frontierLength w ≤ length (now scratch)) ⌝ }
     requires { ⌜ (lines ≤ 64) × (3 * lines ≤ length (now table)) ⌝ }
     requires { ⌜ T (ready 8 e (at (frontierAt w (now window) j .counts))) ⌝ }
-    ensures { λ r. ⌜ ((k closed : ℕ) (reached : List ℕ) → r ≡ hintsFrom (settingOf k closed (now (table .entry)) lines e reached) (frontiers w (now (scratch .entry)) m) hints (frontierAt w (now (window .entry)) j)) ⌝ }
-    ensures { λ r. ⌜ ((k closed : ℕ) (reached : List ℕ) → frontiers w (now (scratch .exit)) (m + 1) ≡ frontiers w (now (scratch .entry)) m ++ (freshFrom (settingOf k closed (now (table .entry)) lines e reached) (frontiers w (now (scratch .entry)) m) hints (frontierAt w (now (window .entry)) j) ∷ [])) ⌝ }
+    ensures { λ r. ⌜ ((k closed : ℕ) (reached : List ℕ) → r ≡ hintsFrom (settingWith k closed (now (table .entry)) lines e reached) (frontiers w (now (scratch .entry)) m) hints (frontierAt w (now (window .entry)) j)) ⌝ }
+    ensures { λ r. ⌜ ((k closed : ℕ) (reached : List ℕ) → frontiers w (now (scratch .exit)) (m + 1) ≡ frontiers w (now (scratch .entry)) m ++ (freshFrom (settingWith k closed (now (table .entry)) lines e reached) (frontiers w (now (scratch .entry)) m) hints (frontierAt w (now (window .entry)) j) ∷ [])) ⌝ }
 {
     let f = frontier_at(window, w, j);
     let g = crate::advance::advanced(e, f);

@@ -5,11 +5,10 @@ ghost use Prim.Native.Nat.{ℕ, _+_, _*_, _≤_, _<_};
 ghost use mathlib.Core.Path.{_≡_};
 ghost use mathlib.Core.Bool.{true};
 ghost use lib.ListN.{length};
-ghost use Rattle.codec.specs.Little.{Bytes};
 ghost use Rattle.window.specs.Width.{Width};
 ghost use Rattle.window.specs.Bytes.{frontierLength, frontierAt, frontiers};
 ghost use Rattle.window.specs.Step.{keptAfter, stepped};
-ghost use Rattle.window.specs.StepCode.{Fitting, settingOf};
+ghost use Rattle.window.specs.StepCode.{Fitting, settingWith};
 ghost use Rattle.window.specs.Laying.{keeps, takes, restOf, freshAt};
 
 // The first frontier from number i on that stays; n for none.
@@ -94,14 +93,13 @@ pub fn lay_all(
     lines: u32,
 )
     requires { ⌜ Width w ⌝ }
-    requires { ⌜ Bytes (now window) ⌝ }
     requires { ⌜ Fitting w e ⌝ }
     requires { ⌜ (n ≤ 1024) × (n * frontierLength w ≤ length (now window)) ⌝ }
     requires { ⌜ (kept ≤ 1024) × (kept * frontierLength w ≤ length (now scratch)) ⌝ }
     requires { ⌜ (lines ≤ 64) × (3 * lines ≤ length (now table)) ⌝ }
     requires { ⌜ k ≤ 8 ⌝ }
-    requires { ⌜ kept ≡ keptAfter (settingOf k closed (now table) lines e reached) (frontiers w (now window) n) ⌝ }
-    ensures { λ r. ⌜ frontiers w (now (scratch .exit)) kept ≡ stepped (settingOf k closed (now (table .entry)) lines e reached) (frontiers w (now (window .entry)) n) ⌝ }
+    requires { ⌜ kept ≡ keptAfter (settingWith k closed (now table) lines e reached) (frontiers w (now window) n) ⌝ }
+    ensures { λ r. ⌜ frontiers w (now (scratch .exit)) kept ≡ stepped (settingWith k closed (now (table .entry)) lines e reached) (frontiers w (now (window .entry)) n) ⌝ }
 {
     let mut hints = [0usize; 8];
     let mut i = next_staying(window, w, n, 0, k, closed, reached);

@@ -6,11 +6,10 @@ ghost use mathlib.Core.Path.{_≡_};
 ghost use mathlib.Core.List.{_++_};
 ghost use lib.ListN.{length, take, drop, replicate};
 ghost use lib.Seq.{sets};
-ghost use Rattle.codec.specs.Little.{Bytes};
 ghost use Rattle.window.specs.Width.{Width};
 ghost use Rattle.window.specs.Bytes.{frontierLength, frontiers, windowBytes};
 ghost use Rattle.window.specs.Step.{keptAfter, stepped};
-ghost use Rattle.window.specs.StepCode.{Fitting, settingOf};
+ghost use Rattle.window.specs.StepCode.{Fitting, settingWith};
 
 // Copies the first bytes of one slice over those of another.
 fn copy_bytes(to: &mut [u8], from: &[u8], count: usize)
@@ -38,7 +37,6 @@ fn clear(s: &mut [u8])
 // The first m frontiers of the scratch become the window; the rest of the window and the scratch are cleared.
 pub fn copy_back(window: &mut [u8], scratch: &mut [u8], w: usize, m: usize)
     requires { ⌜ Width w ⌝ }
-    requires { ⌜ Bytes (now scratch) ⌝ }
     requires { ⌜ m ≤ 1024 ⌝ }
     requires { ⌜ m * frontierLength w ≤ length (now window) ⌝ }
     requires { ⌜ m * frontierLength w ≤ length (now scratch) ⌝ }
@@ -66,15 +64,14 @@ pub fn step(
     lines: u32,
 )
     requires { ⌜ Width w ⌝ }
-    requires { ⌜ Bytes (now window) ⌝ }
     requires { ⌜ Fitting w e ⌝ }
     requires { ⌜ (n ≤ 1024) × (n * frontierLength w ≤ length (now window)) ⌝ }
     requires { ⌜ (kept ≤ 1024) × (kept * frontierLength w ≤ length (now scratch)) ⌝ }
     requires { ⌜ kept * frontierLength w ≤ length (now window) ⌝ }
     requires { ⌜ (lines ≤ 64) × (3 * lines ≤ length (now table)) ⌝ }
     requires { ⌜ k ≤ 8 ⌝ }
-    requires { ⌜ kept ≡ keptAfter (settingOf k closed (now table) lines e reached) (frontiers w (now window) n) ⌝ }
-    ensures { λ r. ⌜ now (window .exit) ≡ windowBytes w (length (now (window .entry))) (stepped (settingOf k closed (now (table .entry)) lines e reached) (frontiers w (now (window .entry)) n)) ⌝ }
+    requires { ⌜ kept ≡ keptAfter (settingWith k closed (now table) lines e reached) (frontiers w (now window) n) ⌝ }
+    ensures { λ r. ⌜ now (window .exit) ≡ windowBytes w (length (now (window .entry))) (stepped (settingWith k closed (now (table .entry)) lines e reached) (frontiers w (now (window .entry)) n)) ⌝ }
     ensures { λ r. ⌜ now (scratch .exit) ≡ replicate (length (now (scratch .entry))) 0 ⌝ }
 {
     crate::merge::lay_all(

@@ -16,11 +16,11 @@ use denote.Ref.{now}
 use Rattle.window.specs.WindowLaws.{place-within}
 use Rattle.window.specs.Bytes.{frontiers, frontierAt}
 use Rattle.window.specs.Step.{keptAfter}
-use Rattle.window.specs.StepCode.{settingOf, keptOf}
+use Rattle.window.specs.StepCode.{settingWith, keptOf}
 use Rattle.window.specs.StepCodeLaws.{keptAfter-none, keptAfter-more}
 
 abbrev Inv-loop : tie.InvT-loop
-Inv-loop window w n k closed e reached total₀ i₀ total i = (i ≤ n) × (total ≤ 2 * i) × ((table : List ℕ) (lines : ℕ) → total ≡ keptAfter (settingOf k closed table lines e reached) (frontiers w window i))
+Inv-loop window w n k closed e reached total₀ i₀ total i = (i ≤ n) × (total ≤ 2 * i) × ((table : List ℕ) (lines : ℕ) → total ≡ keptAfter (settingWith k closed table lines e reached) (frontiers w window i))
 
 abbrev μ-loop : tie.MeasureT-loop
 μ-loop window w n k closed e reached total₀ i₀ total i = n - i
@@ -29,7 +29,7 @@ abbrev μ-loop : tie.MeasureT-loop
 loop-holds : tie.Need-loop-holds Inv-loop μ-loop
 loop-holds c =
     let a = c .before .args in
-    (search needs, search needs, λ table lines. sym (keptAfter-none (settingOf (a .k) (a .closed) table lines (a .e) (a .reached)) (a .w) (now (a .window))))
+    (search needs, search needs, λ table lines. sym (keptAfter-none (settingWith (a .k) (a .closed) table lines (a .e) (a .reached)) (a .w) (now (a .window))))
 
 -- src/kept.rt:98:13
 counts-at-requires : tie.Need-counts-at-requires Inv-loop μ-loop

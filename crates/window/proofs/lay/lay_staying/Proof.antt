@@ -28,7 +28,7 @@ frontier-at-requires c κs = search needs
 proper : (c : tie.After-frontier-at) → Shaped (c .before .before .before .args .w) (c .frontier-at .result)
 proper c =
     let a = c .before .before .before .args in
-    rw (c .frontier-at .ensures) (shaped-at (a .w) (now (a .window)) (a .i) (c .before .before .before .pre .1 .0) (search needs))
+    rw (c .frontier-at .ensures) (shaped-at (a .w) (now (a .window)) (a .i) (λ i. c .before .before .shared-slice-known .given i .fits) (search needs))
 
 -- src/lay.rt:37:5
 lay-frontier-requires : tie.Need-lay-frontier-requires

@@ -19,7 +19,7 @@ use denote.Ref.{now}
 use mathlib.Core.Bool.{true, false}
 use Rattle.window.specs.Bytes.{frontierAt, frontiers}
 use Rattle.window.specs.WindowLaws.{place-within}
-use Rattle.window.specs.StepCode.{settingOf}
+use Rattle.window.specs.StepCode.{settingWith}
 use Rattle.window.specs.Step.{Setting, stays, enabledAt}
 use Rattle.window.specs.Laying.{Laying, keeps, takes, restOf, freshAt}
 use Rattle.window.specs.LayingLaws.{laying-start, staying-left, leading-left, laid-staying, laid-fresh, laid-all}
@@ -30,7 +30,7 @@ use Rattle.clocks.specs.Counts.{listOf}
 abbrev Inv-loop : tie.InvT-loop
 Inv-loop window scratch₀ w n kept k closed e reached table lines hints₀ i₀ j₀ m₀ scratch hints i j m =
     (m ≤ kept) × (length scratch ≡ length scratch₀) × (i ≤ n) × (j ≤ n)
-    × Laying (settingOf k closed table lines e reached) w window n kept (frontiers w scratch m) hints i j m
+    × Laying (settingWith k closed table lines e reached) w window n kept (frontiers w scratch m) hints i j m
 
 abbrev μ-loop : tie.MeasureT-loop
 μ-loop window scratch₀ w n kept k closed e reached table lines hints₀ i₀ j₀ m₀ scratch hints i j m =
@@ -50,7 +50,7 @@ unfolding stays enabledAt frontiers listOf
 loop-holds c =
     let a = c .before .before .before .before .before .args in
     (search needs, refl, c .before .next-staying .ensures .0, c .next-enabled .ensures .0
-    , laying-start (settingOf (a .k) (a .closed) (now (a .table)) (a .lines) (a .e) (a .reached)) refl (a .w) (now (a .window)) (a .n) (a .kept) (c .before .before .before .before .before .pre .1 .1 .1 .1 .1 .1 .1)
+    , laying-start (settingWith (a .k) (a .closed) (now (a .table)) (a .lines) (a .e) (a .reached)) refl (a .w) (now (a .window)) (a .n) (a .kept) (c .before .before .before .before .before .pre .1 .1 .1 .1 .1 .1)
     (c .before .next-staying .result) (c .before .next-staying .ensures .0) (c .before .next-staying .ensures .1 .0) (c .before .next-staying .ensures .1 .1)
     (c .next-enabled .result) (c .next-enabled .ensures .0) (c .next-enabled .ensures .1 .0) (c .next-enabled .ensures .1 .1))
 
@@ -64,7 +64,7 @@ leading : (c : tie.After-lay-fresh-arg Inv-loop μ-loop) → c .before .before .
 leading c =
     let a = c .before .before .before .before .before .before .before .before .before .before .args in
     let l = c .before .before .before .before .loop in
-    leading-left (settingOf (a .k) (a .closed) (now (a .table)) (a .lines) (a .e) (a .reached)) (a .e) refl refl (a .w) (now (a .window)) (a .n) (a .kept) (frontiers (a .w) (l .scratch) (l .m)) (l .hints) (l .i) (l .j) (l .m) (l .inv .4) (search needs) (sym (c .before .before .fresh-first .ensures) ∙ c .before .if1 .taken)
+    leading-left (settingWith (a .k) (a .closed) (now (a .table)) (a .lines) (a .e) (a .reached)) (a .e) refl refl (a .w) (now (a .window)) (a .n) (a .kept) (frontiers (a .w) (l .scratch) (l .m)) (l .hints) (l .i) (l .j) (l .m) (l .inv .4) (search needs) (sym (c .before .before .fresh-first .ensures) ∙ c .before .if1 .taken)
 
 -- src/merge.rt:112:17
 lay-fresh-requires : tie.Need-lay-fresh-requires Inv-loop μ-loop
@@ -75,7 +75,7 @@ lay-fresh-requires c κs =
     let l = c .before .before .before .before .loop in
     let here : l .j < a .n = leading c in
     let room = place-within (l .m) (a .kept) (a .w) (search needs) in
-    (p .0, (p .1 .0, (p .1 .1 .0, ((omega arith, omega (arith, place-within (l .j) (a .n) (a .w) here)), ((omega arith, omega (arith, room)), (p .1 .1 .1 .1 .1 .0, true-T (l .inv .4 .leading-here here)))))))
+    (p .0, (p .1 .0, ((omega arith, omega (arith, place-within (l .j) (a .n) (a .w) here)), ((omega arith, omega (arith, room)), (p .1 .1 .1 .1 .0, true-T (l .inv .4 .leading-here here))))))
 
 -- src/merge.rt:114:44
 add-next-enabled : tie.Need-add-next-enabled Inv-loop μ-loop
@@ -100,7 +100,7 @@ loop-again c =
     let a = c .before .before .before .before .before .before .before .before .before .before .before .before .before .before .args in
     let l = c .before .before .before .before .before .before .before .before .loop in
     (search needs, search needs, search needs, c .next-enabled2 .ensures .0
-    , laid-fresh (settingOf (a .k) (a .closed) (now (a .table)) (a .lines) (a .e) (a .reached)) (a .e) refl refl (a .w) (now (a .window)) (a .n) (a .kept) (frontiers (a .w) (l .scratch) (l .m)) (l .hints) (l .i) (l .j) (l .m) (l .inv .4) (search needs) (sym (c .before .before .before .before .before .before .fresh-first .ensures) ∙ c .before .before .before .before .before .if1 .taken)
+    , laid-fresh (settingWith (a .k) (a .closed) (now (a .table)) (a .lines) (a .e) (a .reached)) (a .e) refl refl (a .w) (now (a .window)) (a .n) (a .kept) (frontiers (a .w) (l .scratch) (l .m)) (l .hints) (l .i) (l .j) (l .m) (l .inv .4) (search needs) (sym (c .before .before .before .before .before .before .fresh-first .ensures) ∙ c .before .before .before .before .before .if1 .taken)
     (frontiers (a .w) (c .before .before .before .lay-fresh .last .1 .0) (l .m + 1)) (c .before .before .before .lay-fresh .ensures .1 (a .k) (a .closed) (a .reached))
     (c .before .before .before .lay-fresh .result) (c .before .before .before .lay-fresh .ensures .0 (a .k) (a .closed) (a .reached))
     (c .next-enabled2 .result) (c .next-enabled2 .ensures .0) (c .next-enabled2 .ensures .1 .0) (c .next-enabled2 .ensures .1 .1))
@@ -110,7 +110,7 @@ remains : (c : tie.After-lay-staying-arg Inv-loop μ-loop) → c .before .before
 remains c =
     let a = c .before .before .before .before .before .before .before .before .before .before .args in
     let l = c .before .before .before .before .loop in
-    staying-left (settingOf (a .k) (a .closed) (now (a .table)) (a .lines) (a .e) (a .reached)) (a .e) refl refl (a .w) (now (a .window)) (a .n) (a .kept) (frontiers (a .w) (l .scratch) (l .m)) (l .hints) (l .i) (l .j) (l .m) (l .inv .4) (search needs) (sym (c .before .before .fresh-first .ensures) ∙ c .before .if1 .left)
+    staying-left (settingWith (a .k) (a .closed) (now (a .table)) (a .lines) (a .e) (a .reached)) (a .e) refl refl (a .w) (now (a .window)) (a .n) (a .kept) (frontiers (a .w) (l .scratch) (l .m)) (l .hints) (l .i) (l .j) (l .m) (l .inv .4) (search needs) (sym (c .before .before .fresh-first .ensures) ∙ c .before .if1 .left)
 
 -- src/merge.rt:117:13
 lay-staying-requires : tie.Need-lay-staying-requires Inv-loop μ-loop
@@ -120,7 +120,7 @@ lay-staying-requires c κs =
     let l = c .before .before .before .before .loop in
     let here : l .i < a .n = remains c in
     let room = place-within (l .m) (a .kept) (a .w) (search needs) in
-    (p .0, (p .1 .0, ((omega arith, omega (arith, place-within (l .i) (a .n) (a .w) here)), (omega arith, omega (arith, room)))))
+    (p .0, ((omega arith, omega (arith, place-within (l .i) (a .n) (a .w) here)), (omega arith, omega (arith, room))))
 
 -- src/merge.rt:118:44
 add-next-staying : tie.Need-add-next-staying Inv-loop μ-loop
@@ -145,7 +145,7 @@ loop-again-2 c =
     let a = c .before .before .before .before .before .before .before .before .before .before .before .before .before .before .args in
     let l = c .before .before .before .before .before .before .before .before .loop in
     (search needs, search needs, c .next-staying2 .ensures .0, search needs
-    , laid-staying (settingOf (a .k) (a .closed) (now (a .table)) (a .lines) (a .e) (a .reached)) (a .e) refl refl (a .w) (now (a .window)) (a .n) (a .kept) (frontiers (a .w) (l .scratch) (l .m)) (l .hints) (l .i) (l .j) (l .m) (l .inv .4) (search needs) (sym (c .before .before .before .before .before .before .fresh-first .ensures) ∙ c .before .before .before .before .before .if1 .left)
+    , laid-staying (settingWith (a .k) (a .closed) (now (a .table)) (a .lines) (a .e) (a .reached)) (a .e) refl refl (a .w) (now (a .window)) (a .n) (a .kept) (frontiers (a .w) (l .scratch) (l .m)) (l .hints) (l .i) (l .j) (l .m) (l .inv .4) (search needs) (sym (c .before .before .before .before .before .before .fresh-first .ensures) ∙ c .before .before .before .before .before .if1 .left)
     (frontiers (a .w) (c .before .before .before .lay-staying .last .1 .0) (l .m + 1)) (c .before .before .before .lay-staying .ensures)
     (c .next-staying2 .result) (c .next-staying2 .ensures .0) (c .next-staying2 .ensures .1 .0) (c .next-staying2 .ensures .1 .1))
 
@@ -159,7 +159,7 @@ returns c =
     let a = c .before .before .before .before .before .before .before .args in
     let l = c .before .loop in
     let all : l .m ≡ a .kept = omega arith in
-    ap (frontiers (a .w) (l .scratch)) (sym all) ∙ laid-all (settingOf (a .k) (a .closed) (now (a .table)) (a .lines) (a .e) (a .reached)) (a .e) refl refl (a .w) (now (a .window)) (a .n) (a .kept) (frontiers (a .w) (l .scratch) (l .m)) (l .hints) (l .i) (l .j) (l .m) (l .inv .4) (omega arith)
+    ap (frontiers (a .w) (l .scratch)) (sym all) ∙ laid-all (settingWith (a .k) (a .closed) (now (a .table)) (a .lines) (a .e) (a .reached)) (a .e) refl refl (a .w) (now (a .window)) (a .n) (a .kept) (frontiers (a .w) (l .scratch) (l .m)) (l .hints) (l .i) (l .j) (l .m) (l .inv .4) (omega arith)
 
 pub lay-all-spec : {M : Type 1} → statement M
 lay-all-spec =

@@ -66,7 +66,7 @@ returns c =
     (ap (putMid n (length x - n) x) (c .before .before .before .before .before .before .clear .ensures)
     ∙ ap (λ (y : List ℕ). putMid n (length y - n) y (replicate (length (take (length y - n) (drop n y))) 0)) (c .before .before .before .before .before .before .before .before .before .before .copy-bytes .ensures)
     ∙ copied-cleared (now (a .window)) (now (a .scratch)) n (omega arith) (omega arith)
-    ∙ windowBytes-frontiers (a .w) (now (a .scratch)) (a .m) (length (now (a .window))) n (c .before .before .before .before .before .before .before .before .before .before .before .before .before .before .before .before .pre .1 .0) (search needs) e, search needs)
+    ∙ windowBytes-frontiers (a .w) (now (a .scratch)) (a .m) (length (now (a .window))) n (λ i. c .before .before .before .before .before .before .before .before .before .before .before .before .before .before .slice-known2 .given i .fits) (search needs) e, search needs)
 
 pub copy-back-spec : {M : Type 1} → statement M
 copy-back-spec =

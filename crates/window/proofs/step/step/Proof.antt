@@ -22,13 +22,13 @@ use lib.ListN.{replicate}
 lay-all-requires : tie.Need-lay-all-requires
 lay-all-requires c κs =
     let p = c .before .before .before .before .before .pre in
-    (p .0, (p .1 .0, (p .1 .1 .0, (p .1 .1 .1 .0, (p .1 .1 .1 .1 .0, (p .1 .1 .1 .1 .1 .1 .0, (p .1 .1 .1 .1 .1 .1 .1 .0, p .1 .1 .1 .1 .1 .1 .1 .1)))))))
+    (p .0, (p .1 .0, (p .1 .1 .0, (p .1 .1 .1 .0, (p .1 .1 .1 .1 .1 .0, (p .1 .1 .1 .1 .1 .1 .0, p .1 .1 .1 .1 .1 .1 .1))))))
 
 -- src/step.rt:83:5
 copy-back-requires : tie.Need-copy-back-requires
 copy-back-requires c κs =
     let p = c .before .before .before .before .before .before .before .before .before .before .pre in
-    (p .0, (λ i. c .before .before .slice-known3 .given i .fits, (p .1 .1 .1 .1 .0 .0, (p .1 .1 .1 .1 .1 .0, search needs))))
+    (p .0, (p .1 .1 .1 .0 .0, (p .1 .1 .1 .1 .0, search needs)))
 
 -- src/step.rt:55:1
 same-length : tie.Need-same-length
