@@ -168,3 +168,9 @@ pub windowBytes-frontiers : (w : ℕ) (s : List ℕ) (n total far : ℕ) → Byt
     → take far s ++ replicate (total - far) 0 ≡ windowBytes w total (frontiers w s n)
 unfolding windowBytes
 windowBytes-frontiers w s n total far b h e = rw (framed-frontiers w s n b h, length-frontiers w s n, e)
+
+-- What was copied over a window is read back from it.
+pub read-back : (w : ℕ) (s : List ℕ) (n total : ℕ) → Bytes s → n * frontierLength w ≤ length s → frontiers w (windowBytes w total (frontiers w s n)) n ≡ frontiers w s n
+read-back w s n total b l =
+    ap (frontiers w (windowBytes w total (frontiers w s n))) (sym (length-frontiers w s n))
+    ∙ frontiers-windowBytes w total (frontiers w s n) (shaped-frontiers w s n b l)

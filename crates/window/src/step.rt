@@ -24,7 +24,7 @@ fn copy_bytes(to: &mut [u8], from: &[u8], count: usize)
 }
 
 // Makes every byte 0.
-fn clear(s: &mut [u8])
+pub fn clear(s: &mut [u8])
     ensures { λ r. ⌜ now (s .exit) ≡ replicate (length (now (s .entry))) 0 ⌝ }
 {
     let mut i = 0;
@@ -42,6 +42,7 @@ pub fn copy_back(window: &mut [u8], scratch: &mut [u8], w: usize, m: usize)
     requires { ⌜ m * frontierLength w ≤ length (now scratch) ⌝ }
     ensures { λ r. ⌜ now (window .exit) ≡ windowBytes w (length (now (window .entry))) (frontiers w (now (scratch .entry)) m) ⌝ }
     ensures { λ r. ⌜ now (scratch .exit) ≡ replicate (length (now (scratch .entry))) 0 ⌝ }
+    ensures { λ r. ⌜ frontiers w (now (window .exit)) m ≡ frontiers w (now (scratch .entry)) m ⌝ }
 {
     let count = crate::place::frontier_place(w, m);
     copy_bytes(window, scratch, count);
@@ -73,6 +74,7 @@ pub fn step(
     requires { ⌜ kept ≡ keptAfter (settingWith k closed (now table) lines e reached) (frontiers w (now window) n) ⌝ }
     ensures { λ r. ⌜ now (window .exit) ≡ windowBytes w (length (now (window .entry))) (stepped (settingWith k closed (now (table .entry)) lines e reached) (frontiers w (now (window .entry)) n)) ⌝ }
     ensures { λ r. ⌜ now (scratch .exit) ≡ replicate (length (now (scratch .entry))) 0 ⌝ }
+    ensures { λ r. ⌜ frontiers w (now (window .exit)) kept ≡ stepped (settingWith k closed (now (table .entry)) lines e reached) (frontiers w (now (window .entry)) n) ⌝ }
 {
     crate::merge::lay_all(
         window, scratch, w, n, kept, k, closed, e, reached, table, lines,

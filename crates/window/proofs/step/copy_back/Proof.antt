@@ -18,7 +18,7 @@ use Rattle.window.specs.StoreLaws.{copied-cleared}
 use Rattle.window.specs.Bytes.{frontiers, frontierLength, windowBytes}
 use lib.ListN.{replicate}
 use borrow.Rule.Slice.PartMut.{putMid}
-use Rattle.window.specs.WindowLaws.{windowBytes-frontiers}
+use Rattle.window.specs.WindowLaws.{windowBytes-frontiers, read-back}
 
 -- src/step.rt:48:9
 frontier-place-requires : tie.Need-frontier-place-requires
@@ -63,10 +63,13 @@ returns c =
     let n = c .before .before .before .before .before .before .before .before .before .before .before .before .before .frontier-place .result in
     let e : n ≡ a .m * frontierLength (a .w) = c .before .before .before .before .before .before .before .before .before .before .before .before .before .frontier-place .ensures .0 in
     let x = c .before .before .before .before .before .before .before .before .before .before .copy-bytes .last .0 in
-    (ap (putMid n (length x - n) x) (c .before .before .before .before .before .before .clear .ensures)
-    ∙ ap (λ (y : List ℕ). putMid n (length y - n) y (replicate (length (take (length y - n) (drop n y))) 0)) (c .before .before .before .before .before .before .before .before .before .before .copy-bytes .ensures)
-    ∙ copied-cleared (now (a .window)) (now (a .scratch)) n (omega arith) (omega arith)
-    ∙ windowBytes-frontiers (a .w) (now (a .scratch)) (a .m) (length (now (a .window))) n (λ i. c .before .before .before .before .before .before .before .before .before .before .before .before .before .before .slice-known2 .given i .fits) (search needs) e, search needs)
+    let bytes : (i : ℕ) → getD (now (a .scratch)) i 0 < 256 = λ i. c .before .before .before .before .before .before .before .before .before .before .before .before .before .before .slice-known2 .given i .fits in
+    let window =
+        ap (putMid n (length x - n) x) (c .before .before .before .before .before .before .clear .ensures)
+        ∙ ap (λ (y : List ℕ). putMid n (length y - n) y (replicate (length (take (length y - n) (drop n y))) 0)) (c .before .before .before .before .before .before .before .before .before .before .copy-bytes .ensures)
+        ∙ copied-cleared (now (a .window)) (now (a .scratch)) n (omega arith) (omega arith)
+        ∙ windowBytes-frontiers (a .w) (now (a .scratch)) (a .m) (length (now (a .window))) n bytes (search needs) e in
+    (window, (search needs, ap (λ (y : List ℕ). frontiers (a .w) y (a .m)) window ∙ read-back (a .w) (now (a .scratch)) (a .m) (length (now (a .window))) bytes (search needs)))
 
 pub copy-back-spec : {M : Type 1} → statement M
 copy-back-spec =

@@ -43,7 +43,7 @@ returns : tie.Need-returns
 returns c =
     let a = c .before .before .before .before .before .before .before .before .before .before .before .before .before .before .before .args in
     let long : length (c .before .before .before .before .before .before .before .before .before .lay-all .last .1 .0) ≡ length (now (a .scratch)) = search needs in
-    (c .before .before .before .before .copy-back .ensures .0 ∙ ap (windowBytes (a .w) (length (now (a .window)))) (c .before .before .before .before .before .before .before .before .before .lay-all .ensures), c .before .before .before .before .copy-back .ensures .1 ∙ ap (λ (n : ℕ). replicate n 0) long)
+    (c .before .before .before .before .copy-back .ensures .0 ∙ ap (windowBytes (a .w) (length (now (a .window)))) (c .before .before .before .before .before .before .before .before .before .lay-all .ensures), (c .before .before .before .before .copy-back .ensures .1 .0 ∙ ap (λ (n : ℕ). replicate n 0) long, c .before .before .before .before .copy-back .ensures .1 .1 ∙ c .before .before .before .before .before .before .before .before .before .lay-all .ensures))
 
 pub step-spec : {M : Type 1} → statement M
 step-spec =
