@@ -7,6 +7,7 @@ pub mod Refusals
 pub mod Offer
 pub mod Take
 pub mod Find
+pub mod Words
 pub mod Open
 pub mod Status
 pub mod Ledger
@@ -40,3 +41,13 @@ pub mod SoundRun
 pub mod Demand2
 pub mod Demand3
 pub mod Examples
+-- What the code's proofs cite: one turn, one test at a time
+pub mod ListSteps
+pub mod MovingSteps
+pub mod RecordSteps
+pub mod UpdateSteps
+pub mod RefusalSteps
+pub mod OfferSteps
+pub mod FindSteps
+pub mod OpenSteps
+pub mod WordsLaws

@@ -30,4 +30,10 @@ pub mod JudgingNew
 pub mod StepTheorem
 pub mod StartTheorem
 pub mod Unique
+pub mod StepCode
+pub mod StepCodeLaws
+pub mod GatherLaws
+pub mod ShapeLaws
+pub mod Laying
+pub mod LayingLaws
 pub mod Verdict

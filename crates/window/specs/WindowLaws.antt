@@ -1,11 +1,11 @@
 -- Windows and their frontiers go back and forth: laws of `frontiers`, `framed` and `windowBytes`, over the width.
-use Prim.Native.Nat.{ℕ, zero, suc, _+_, _*_, _≤_, _<_}
+use Prim.Native.Nat.{ℕ, zero, suc, _+_, _-_, _*_, _≤_, _<_}
 use native.Mathlib.Omega.{arith}
 use native.Mathlib.Numerals.{add-one}
 use native.Mathlib.Nat.{zero-mul, suc-mul, le-of-suc-le-suc, le-refl}
 use mathlib.Core.Path.{_≡_, refl, sym, _∙_, ap}
 use mathlib.Core.List.{List, [], _∷_, _++_, List·Memᴰ·head, List·Memᴰ·tail, append-assoc, append-nil}
-use lib.ListN.{length, getD, take, length-append, length-replicate, drop, length-map, List·getD-map}
+use lib.ListN.{length, getD, take, replicate, length-append, length-replicate, drop, length-map, List·getD-map}
 use lib.Seq.{sets, drop-at, length-take-le, take-add, sets-eq}
 use Rattle.codec.specs.Little.{Bytes, number}
 use Rattle.clocks.specs.Counts.{listOf, at}
@@ -162,3 +162,15 @@ module _ (w : ℕ) (s : List ℕ) (n : ℕ) (f : Frontier) (h : Shaped w f) (roo
   pub frontiers-stored : frontiers w (sets s (n * frontierLength w) (frontierBytes w f)) (n + 1) ≡ frontiers w s n ++ (f ∷ [])
   frontiers-stored =
       rw (add-one, frontiers-more w _ n, frontierAt-stored, frontiers-alike w (sets s (n * frontierLength w) (frontierBytes w f)) s n (take-sets (n * frontierLength w) s (n * frontierLength w) (frontierBytes w f) (le-refl _)))
+
+-- The bytes of the first n frontiers, then zeros, are their window.
+pub windowBytes-frontiers : (w : ℕ) (s : List ℕ) (n total far : ℕ) → Bytes s → n * frontierLength w ≤ length s → far ≡ n * frontierLength w
+    → take far s ++ replicate (total - far) 0 ≡ windowBytes w total (frontiers w s n)
+unfolding windowBytes
+windowBytes-frontiers w s n total far b h e = rw (framed-frontiers w s n b h, length-frontiers w s n, e)
+
+-- What was copied over a window is read back from it.
+pub read-back : (w : ℕ) (s : List ℕ) (n total : ℕ) → Bytes s → n * frontierLength w ≤ length s → frontiers w (windowBytes w total (frontiers w s n)) n ≡ frontiers w s n
+read-back w s n total b l =
+    ap (frontiers w (windowBytes w total (frontiers w s n))) (sym (length-frontiers w s n))
+    ∙ frontiers-windowBytes w total (frontiers w s n) (shaped-frontiers w s n b l)

@@ -1,0 +1,27 @@
+// The functions that C calls, on numbers and byte slices, for counts of two bytes.
+
+ghost use mathlib.Core.Path.{_≡_};
+ghost use Rattle.watch.specs.Words.{unpackCounts, unpackLabels};
+ghost use Rattle.watch.specs.Offer.{offerCall};
+ghost use Rattle.watch.specs.Find.{findCall};
+ghost use Rattle.watch.specs.Answer.{replyWord};
+
+// Offers an event. Its clock is in two words, process p's count at bits 16p of the first or 16(p - 4) of the second; its labels are the
+// bytes of a word.
+#[no_mangle]
+pub extern "C" fn watch_offer(mask: u64, low: u64, high: u64, labels: u64, state: &mut [u8]) -> u64
+    ensures reply { λ r. ⌜ r ≡ replyWord (offerCall 2 mask (unpackCounts low high) (unpackLabels labels) (now (state .entry)) .answer) ⌝ }
+    ensures bytes { λ r. ⌜ now (state .exit) ≡ offerCall 2 mask (unpackCounts low high) (unpackLabels labels) (now (state .entry)) .bytes ⌝ }
+{
+    let clock = crate::words::unpack_counts(low, high);
+    let bytes = crate::words::unpack_labels(labels);
+    crate::offer::offer(2, mask, clock, bytes, state)
+}
+
+// Finds the place of the first kept frontier at which a line holds.
+#[no_mangle]
+pub extern "C" fn watch_find(line: u64, state: &[u8], window: &[u8]) -> u64
+    ensures { λ r. ⌜ r ≡ replyWord (findCall 2 line (now (state .entry)) (now (window .entry))) ⌝ }
+{
+    crate::find::find(2, line, state, window)
+}

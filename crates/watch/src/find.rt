@@ -1,0 +1,55 @@
+// Find (01, The calls): the first kept frontier at which a line of the table holds, or none.
+
+use crate::record::kept_count;
+use crate::record::line_total;
+use crate::refusal::bad_record_length;
+use crate::refusal::bad_state;
+use crate::refusal::bad_window_length;
+use crate::refusal::room_of;
+ghost use Prim.Native.Nat.{_≤_, _<_, _*_};
+ghost use mathlib.Core.Path.{_≡_};
+ghost use lib.ListN.{length};
+ghost use Rattle.window.specs.Width.{Width};
+ghost use Rattle.window.specs.Bytes.{frontierLength, frontiers};
+ghost use Rattle.watch.specs.Find.{findFrom, findCall};
+ghost use Rattle.watch.specs.Answer.{replyWord};
+
+// The reply for the first of so many frontiers at which a line holds.
+pub fn find_first(w: usize, line: u32, window: &[u8], kept: usize) -> u64
+    requires { ⌜ Width w ⌝ }
+    requires { ⌜ line < 64 ⌝ }
+    requires { ⌜ kept ≤ 1024 ⌝ }
+    requires { ⌜ kept * frontierLength w ≤ length (now window) ⌝ }
+    ensures { λ r. ⌜ r ≡ replyWord (findFrom line 0 (frontiers w (now (window .entry)) kept)) ⌝ }
+{
+    let mut i = 0;
+    while i < kept {
+        let place = window::place::frontier_place(w, i);
+        let values = window::stored::read_values(window, place, w);
+        if codec::has_bit(values, line) {
+            return 256 + 65536 * (i as u64);
+        }
+        i += 1;
+    }
+    0
+}
+
+// Finds the first kept frontier at which a line holds: the reply.
+pub fn find(w: usize, line: u64, s: &[u8], window: &[u8]) -> u64
+    requires { ⌜ Width w ⌝ }
+    ensures { λ r. ⌜ r ≡ replyWord (findCall w line (now (s .entry)) (now (window .entry))) ⌝ }
+{
+    if bad_record_length(w, s.len()) {
+        return 6;
+    }
+    if bad_window_length(w, window.len()) {
+        return 6;
+    }
+    if bad_state(s, w, room_of(w, window.len())) {
+        return 34;
+    }
+    if line_total(s) as u64 <= line {
+        return 11;
+    }
+    find_first(w, line as u32, window, kept_count(s) as usize)
+}

@@ -1,0 +1,135 @@
+-- Each way adds what the definition has: the laws `consider-passed`, `consider-missing` and `consider-found`.
+use native.Mathlib.Omega.{arith}
+use mathlib.Core.Path.{_≡_, refl, sym, ap, _∙_}
+use Prim.Native.Nat.{ℕ, _≤_, _<_, _-_, _+_, _*_}
+use mathlib.Core.List.{List, _++_}
+use lib.ListN.{length, getD, take, drop, set, length-set}
+use mathlib.Core.Logic.{⊎-elim}
+use borrow.Author.Needs.{needs}
+use Rattle.window.proofs.gather.consider.Statement.{statement}
+use Rattle.window.proofs.gather.consider.Tie as tie
+use Rattle.window.proofs.gather.consider.Reads as reads
+use Rattle.window.proofs.gather.consider.Lts as lts
+use Rattle.clocks.proofs.step.minus.Reads as minus-reads
+use Rattle.codec.proofs.and_words.Reads as and-words-reads
+use Rattle.codec.proofs.or_words.Reads as or-words-reads
+use Rattle.window.proofs.gather.is_sought.Reads as is-sought-reads
+use Rattle.window.proofs.gather.values_at.Reads as values-at-reads
+use Rattle.window.proofs.lookup.seek.Reads as seek-reads
+use Rattle.window.proofs.lookup.stands_at.Reads as stands-at-reads
+use denote.Ref.{now}
+use mathlib.Core.Bool.{true, false}
+use borrow.Author.Tests.{not-true, not-false}
+use Rattle.window.specs.declared.Frontier.{Frontier}
+use Rattle.window.specs.Bytes.{frontiers}
+use Rattle.window.specs.Step.{Setting, valuesAt}
+use Rattle.window.specs.StepCode.{gatheredOf}
+use Rattle.window.specs.WindowLaws.{place-within}
+use Rattle.window.specs.GatherLaws.{consider-passed, consider-missing, consider-found, stands-within, values-at}
+use Rattle.window.specs.StepCode.{soughtWith}
+use lib.Bits.{bitOr, bitAnd}
+
+-- src/gather.rt:56:16
+element-copy-out-last : tie.Need-element-copy-out-last
+element-copy-out-last c = search needs
+
+-- src/gather.rt:57:9
+is-sought-requires : tie.Need-is-sought-requires
+is-sought-requires c κs = search needs
+
+-- src/gather.rt:58:9
+returns : tie.Need-returns
+returns c = λ s h v. let a = c .before .before .before .before .args in
+    sym (consider-passed s (a .mask) h v (frontiers (a .w) (now (a .scratch)) (a .m)) (a .t5) (a .p) (gatheredOf (a .prior)) (sym (c .before .is-sought .ensures) ∙ not-true _ (c .if1 .taken)))
+
+-- src/gather.rt:61:9
+minus-requires : tie.Need-minus-requires
+minus-requires c κs = search needs
+
+-- src/gather.rt:63:57
+mul-seek : tie.Need-mul-seek
+mul-seek c = search needs
+
+-- src/gather.rt:63:57
+array-read-seek : tie.Need-array-read-seek
+array-read-seek c = search needs
+
+-- src/gather.rt:63:9
+seek-requires : tie.Need-seek-requires
+seek-requires c κs = search needs
+
+-- src/gather.rt:64:5
+mul-hints : tie.Need-mul-hints
+mul-hints c = search needs
+
+-- src/gather.rt:64:5
+array-write-hints : tie.Need-array-write-hints
+array-write-hints c = search needs
+
+-- src/gather.rt:67:9
+stands-at-requires : tie.Need-stands-at-requires
+stands-at-requires c κs = search needs
+
+-- What is known where the look-up has ended: process p is sought.
+sought-here : (c : tie.After-stands-at) → soughtWith (c .before .before .before .before .before .before .before .before .before .args .mask) (getD (c .before .before .before .before .before .before .before .before .before .args .t5 .masks) (c .before .before .before .before .before .before .before .before .before .args .p) 0) (c .before .before .before .before .before .before .before .before .before .args .p) ≡ true
+sought-here c = let d = c .before .before .before .before .before in sym (d .before .is-sought .ensures) ∙ not-false _ (d .if1 .left)
+
+-- src/gather.rt:68:9
+returns-2 : tie.Need-returns-2
+returns-2 c = λ s h v. let d = c .before .before .before .before in
+    let a = d .before .before .before .before .before .before .args in
+    sym (consider-missing s (a .mask) h v (frontiers (a .w) (now (a .scratch)) (a .m)) (a .t5) (a .p) (gatheredOf (a .prior))
+    (sought-here (c .before))
+    (d .minus .result) (d .minus .ensures) (c .before .before .seek .result) (c .before .before .seek .ensures) (sym (c .before .stands-at .ensures) ∙ not-true _ (c .if2 .taken)))
+
+-- src/gather.rt:70:9
+values-at-requires : tie.Need-values-at-requires
+values-at-requires c κs =
+    let d = c .before .before .before .before in
+    let a = d .before .before .before .before .before .before .args in
+    let i = c .before .before .seek .result in
+    let within : i < a .m = stands-within (a .w) (now (a .scratch)) (a .m) (d .minus .result) i (sym (c .before .stands-at .ensures) ∙ not-false _ (c .if2 .left)) in
+    (search needs, (omega arith, omega (arith, place-within i (a .m) (a .w) within)))
+
+-- src/gather.rt:72:14
+or-words-requires : tie.Need-or-words-requires
+or-words-requires c κs = search needs
+
+-- src/gather.rt:73:15
+and-words-requires : tie.Need-and-words-requires
+and-words-requires c κs = search needs
+
+-- src/gather.rt:40:1
+returns-3 : tie.Need-returns-3
+returns-3 c = λ s h v. let b = c .before .before .before in
+    let d = b .before .before .before .before in
+    let a = d .before .before .before .before .before .before .args in
+    let i = b .before .before .seek .result in
+    let stands = sym (b .before .stands-at .ensures) ∙ not-false _ (b .if2 .left) in
+    let within : i < a .m = stands-within (a .w) (now (a .scratch)) (a .m) (d .minus .result) i stands in
+    let laid = frontiers (a .w) (now (a .scratch)) (a .m) in
+    let e : valuesAt laid i ≡ c .before .before .values-at .result = values-at (a .w) (now (a .scratch)) (a .m) i within ∙ sym (c .before .before .values-at .ensures) in
+    let o : c .before .or-words .result ≡ bitOr (a .prior .ors) (valuesAt laid i) = c .before .or-words .ensures ∙ ap (bitOr (a .prior .ors)) (sym e) in
+    let n : c .and-words .result ≡ bitAnd (a .prior .ands) (valuesAt laid i) = c .and-words .ensures ∙ ap (bitAnd (a .prior .ands)) (sym e) in
+    rw (o, n) (sym (consider-found s (a .mask) h v laid (a .t5) (a .p) (gatheredOf (a .prior)) (sought-here (b .before))
+    (d .minus .result) (d .minus .ensures) i (b .before .before .seek .ensures) stands))
+
+pub consider-spec : {M : Type 1} → statement M
+consider-spec =
+    tie.close
+    (tie.spec
+    element-copy-out-last
+    is-sought-requires
+    returns
+    minus-requires
+    mul-seek
+    array-read-seek
+    seek-requires
+    mul-hints
+    array-write-hints
+    stands-at-requires
+    returns-2
+    values-at-requires
+    or-words-requires
+    and-words-requires
+    returns-3)

@@ -1,0 +1,77 @@
+// Frontiers laid down in the scratch: one that stays, and a new one that is judged.
+
+use crate::Frontier;
+use clocks::Event;
+ghost use Prim.Native.Nat.{ℕ, _+_, _*_, _≤_};
+ghost use mathlib.Core.Path.{_≡_};
+ghost use mathlib.Core.List.{List, [], _∷_, _++_};
+ghost use lib.Dec.{T};
+ghost use lib.ListN.{length};
+ghost use Rattle.clocks.specs.Counts.{at};
+ghost use Rattle.clocks.specs.Tested.{ready};
+ghost use Rattle.window.specs.Width.{Width};
+ghost use Rattle.window.specs.Bytes.{frontierLength, frontierAt, frontiers};
+ghost use Rattle.window.specs.StepCode.{Fitting, settingWith, freshFrom, hintsFrom};
+
+// Frontier number i.
+pub fn frontier_at(window: &[u8], w: usize, i: usize) -> Frontier
+    requires { ⌜ Width w ⌝ }
+    requires { ⌜ i ≤ 1024 ⌝ }
+    requires { ⌜ i * frontierLength w + frontierLength w ≤ length (now window) ⌝ }
+    ensures { λ r. ⌜ r ≡ frontierAt w (now (window .entry)) i ⌝ }
+{
+    let place = crate::place::frontier_place(w, i);
+    crate::stored::read_frontier(window, place, w)
+}
+
+// Frontier i of the window stays: it is laid down as number m.
+pub fn lay_staying(window: &[u8], scratch: &mut [u8], w: usize, i: usize, m: usize)
+    requires { ⌜ Width w ⌝ }
+    requires { ⌜ (i ≤ 1024) × (i * frontierLength w + frontierLength w ≤ length (now window)) ⌝ }
+    requires { ⌜ (m ≤ 1024) × (m * frontierLength w + frontierLength w ≤ length (now scratch)) ⌝ }
+    ensures { λ r. ⌜ frontiers w (now (scratch .exit)) (m + 1) ≡ frontiers w (now (scratch .entry)) m ++ (frontierAt w (now (window .entry)) i ∷ []) ⌝ }
+{
+    let f = frontier_at(window, w, i);
+    crate::stored::lay_frontier(scratch, w, m, f);
+}
+
+// The event leads on from frontier j of the window: the new frontier is judged and laid down as number m. Gives where the look-ups ended.
+pub fn lay_fresh(
+    window: &[u8],
+    scratch: &mut [u8],
+    w: usize,
+    j: usize,
+    m: usize,
+    e: Event,
+    table: &[u8],
+    lines: u32,
+    hints: [usize; 8],
+) -> [usize; 8]
+    requires { ⌜ Width w ⌝ }
+    requires { ⌜ Fitting w e ⌝ }
+    requires { ⌜ (j ≤ 1024) × (j * frontierLength w + frontierLength w ≤ length (now window)) ⌝ }
+    requires { ⌜ (m ≤ 1024) × (m * frontierLength w + frontierLength w ≤ length (now scratch)) ⌝ }
+    requires { ⌜ (lines ≤ 64) × (3 * lines ≤ length (now table)) ⌝ }
+    requires { ⌜ T (ready 8 e (at (frontierAt w (now window) j .counts))) ⌝ }
+    ensures { λ r. ⌜ ((k closed : ℕ) (reached : List ℕ) → r ≡ hintsFrom (settingWith k closed (now (table .entry)) lines e reached) (frontiers w (now (scratch .entry)) m) hints (frontierAt w (now (window .entry)) j)) ⌝ }
+    ensures { λ r. ⌜ ((k closed : ℕ) (reached : List ℕ) → frontiers w (now (scratch .exit)) (m + 1) ≡ frontiers w (now (scratch .entry)) m ++ (freshFrom (settingWith k closed (now (table .entry)) lines e reached) (frontiers w (now (scratch .entry)) m) hints (frontierAt w (now (window .entry)) j) ∷ [])) ⌝ }
+{
+    let f = frontier_at(window, w, j);
+    let g = crate::advance::advanced(e, f);
+    let mask = e.mask;
+    let found = crate::gather::gather(scratch, w, m, mask, g, hints);
+    let ors = found.ors;
+    let ands = found.ands;
+    let counts = g.counts;
+    let labels = g.labels;
+    let masks = g.masks;
+    let values = rules::judge(table, lines, labels, ors, ands, true);
+    let judged = Frontier {
+        counts,
+        labels,
+        masks,
+        values,
+    };
+    crate::stored::lay_frontier(scratch, w, m, judged);
+    found.hints
+}
