@@ -19,4 +19,5 @@ pub mod RefusalSteps
 pub mod OfferSteps
 pub mod FindSteps
 pub mod OpenSteps
+pub mod OpenCallSteps
 pub mod WordsLaws
