@@ -15,6 +15,7 @@ pub mod ListSteps
 pub mod MovingSteps
 pub mod RecordSteps
 pub mod UpdateSteps
+pub mod TurnSteps
 pub mod RefusalSteps
 pub mod OfferSteps
 pub mod FindSteps

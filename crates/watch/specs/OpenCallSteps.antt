@@ -2,7 +2,7 @@
 use Prim.Native.Nat.{ℕ, _+_, _*_, _≤_, _<_}
 use native.Mathlib.Omega.{arith}
 use mathlib.Core.Path.{_≡_, refl, sym, ap, _∙_, ap₂}
-use mathlib.Core.Bool.{Bool, true, false, cond, _||_}
+use mathlib.Core.Bool.{cond, _||_}
 use mathlib.Core.List.{List}
 use lib.Dec.{eqb, lit<}
 use lib.ListN.{length}
@@ -27,19 +27,7 @@ use Rattle.watch.specs.Refusals.{badRecordLength, badWindowLength, badPr
 use Rattle.watch.specs.Open.{Opened, openTable, openRead, openCall}
 use Rattle.watch.specs.Answer.{replyWord, turnedBack}
 use Rattle.watch.specs.OpenSteps.{openFault}
-
--- ---- The refusals before the text
-
--- The first condition that holds decides; x where none does.
-abbrev chosen : {A : Type 0} → Bool → Bool → Bool → (ℕ → A) → A → A
-chosen b6 b5 b9 f x = cond b6 (f 6) (cond b5 (f 5) (cond b9 (f 9) x))
-
-chosen-by : {A : Type 0} (b6 b5 b9 : Bool) (f : ℕ → A) (x : A)
-    → chosen b6 b5 b9 f x ≡ cond (eqb (chosen b6 b5 b9 (λ n. n) 0) 0) x (f (chosen b6 b5 b9 (λ n. n) 0))
-chosen-by true b5 b9 f x = refl
-chosen-by false true b9 f x = refl
-chosen-by false false true f x = refl
-chosen-by false false false f x = refl
+use Rattle.watch.specs.TurnSteps.{chosen-by, passed, end, turn}
 
 -- ---- What a text's answer says of it
 
@@ -72,6 +60,8 @@ module _ (text : List ℕ) (k : ℕ) (lent : List ℕ) (long : length lent ≡ 1
           record { place = j; form = f; read = q; count = cc; short = omega (arith, x .short); bytes = u }
       go (refused m j) q h u = let z : _≡_ {A = ℕ} 0 1 = cc in absurd (omega arith)
 
+-- ---- The refusals before the text
+
 -- What an open that is turned back answers and leaves.
 turned : List ℕ → List ℕ → ℕ → Opened
 turned s window n = record { answer = turnedBack n 0; bytes = s; window = window }
@@ -83,7 +73,8 @@ module _ (w : ℕ) (text : List ℕ) (k : ℕ) (labels s window : List ℕ) wher
   open-by : openCall w text k labels s window ≡ cond (eqb fault 0) (openRead w k labels s window (readRule text k)) (turned s window fault)
   unfolding openCall openFault turned
   open-by =
-      chosen-by (badRecordLength w (length s) || badWindowLength w (length window)) (badProcesses k) (badStart k labels) (turned s window) (openRead w k labels s window (readRule text k))
+      chosen-by (turn (badRecordLength w (length s) || badWindowLength w (length window)) 6 (turn (badProcesses k) 5 (turn (badStart k labels) 9 end)))
+      (turned s window) (openRead w k labels s window (readRule text k)) (lit< tt, (lit< tt, (lit< tt, tt)))
 
   pub open-turned : (n : ℕ) → n ≡ fault → (n ≡ 0 → ⊥)
       → (n ≡ replyWord (openCall w text k labels s window .answer))
@@ -95,10 +86,6 @@ module _ (w : ℕ) (text : List ℕ) (k : ℕ) (labels s window : List ℕ) wher
 
   open-reads : fault ≡ 0 → openCall w text k labels s window ≡ openRead w k labels s window (readRule text k)
   open-reads h = open-by ∙ rw (eq-eqb fault 0 h)
-
-  passed : (b : Bool) (n x : ℕ) → 0 < n → cond b n x ≡ 0 → (b ≡ false) × (x ≡ 0)
-  passed true n x l h = absurd (omega arith)
-  passed false n x l h = (refl, h)
 
   pub open-passed : fault ≡ 0 → (length s ≡ recordLength w) × (frontierLength w ≤ length window) × (k ≤ 8)
   unfolding openFault
