@@ -8,7 +8,6 @@ use mathlib.Core.List.{List}
 use lib.ListN.{drop}
 use Rattle.codec.specs.Bit.{bit}
 use Rattle.window.specs.Bytes.{frontierAt, frontiers, frontierLength}
-use Rattle.rules.specs.Line.{line}
 use Rattle.watch.specs.ListSteps.{rest-next, rest-end}
 use Rattle.watch.specs.Find.{findFrom}
 use Rattle.watch.specs.Answer.{replyWord}

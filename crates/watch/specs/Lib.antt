@@ -46,8 +46,10 @@ pub mod ListSteps
 pub mod MovingSteps
 pub mod RecordSteps
 pub mod UpdateSteps
+pub mod TurnSteps
 pub mod RefusalSteps
 pub mod OfferSteps
 pub mod FindSteps
 pub mod OpenSteps
+pub mod OpenCallSteps
 pub mod WordsLaws

@@ -18,26 +18,9 @@ use Rattle.watch.specs.Refusals.{badRecordLength, badState, alreadyTaken
 use Rattle.watch.specs.Answer.{turnedBack, held, replyWord}
 use Rattle.watch.specs.Offer.{Offered, placeAmong, offeredEvent, offerCall}
 use Rattle.watch.specs.RefusalSteps.{right-length}
+use Rattle.watch.specs.TurnSteps.{Turns, chosen-by, passed, end, turn}
 
 -- ---- The refusals in their order
-
--- The first condition that holds decides; x where none does.
-abbrev chosen : {A : Type 0} → Bool → Bool → Bool → Bool → Bool → Bool → Bool → Bool → (ℕ → A) → A → A
-chosen b6 b34 b7 b8 b9 b31 b32 b33 f x =
-    cond b6 (f 6) (cond b34 (f 34) (cond b7 (f 7) (cond b8 (f 8) (cond b9 (f 9) (cond b31 (f 31) (cond b32 (f 32) (cond b33 (f 33) x)))))))
-
--- It is decided by the number that the conditions choose.
-chosen-by : {A : Type 0} (b6 b34 b7 b8 b9 b31 b32 b33 : Bool) (f : ℕ → A) (x : A)
-    → chosen b6 b34 b7 b8 b9 b31 b32 b33 f x ≡ cond (eqb (chosen b6 b34 b7 b8 b9 b31 b32 b33 (λ n. n) 0) 0) x (f (chosen b6 b34 b7 b8 b9 b31 b32 b33 (λ n. n) 0))
-chosen-by true b34 b7 b8 b9 b31 b32 b33 f x = refl
-chosen-by false true b7 b8 b9 b31 b32 b33 f x = refl
-chosen-by false false true b8 b9 b31 b32 b33 f x = refl
-chosen-by false false false true b9 b31 b32 b33 f x = refl
-chosen-by false false false false true b31 b32 b33 f x = refl
-chosen-by false false false false false true b32 b33 f x = refl
-chosen-by false false false false false false true b33 f x = refl
-chosen-by false false false false false false false true f x = refl
-chosen-by false false false false false false false false f x = refl
 
 -- The number that an offer is turned back with; 0 for none.
 unfoldable pub offerFault : ℕ → ℕ → List ℕ → List ℕ → List ℕ → ℕ
@@ -65,6 +48,20 @@ turned s n = record { answer = turnedBack n 0; bytes = s }
 pub accepted : ℕ → Event → List ℕ → Offered
 accepted w e s = record { answer = held (pendingCount s + 1); bytes = inserted w s (placeAmong e (pendingEvents w s)) e }
 
+-- The conditions of an offer, in their order.
+abbrev turns : ℕ → ℕ → List ℕ → List ℕ → List ℕ → Turns
+turns w mask clock labels s =
+    let e = offeredEvent mask clock labels in
+    let k = processCount s in
+    turn (badRecordLength w (length s)) 6
+    (turn (badState w 1024 s) 34
+    (turn (badMask k mask) 7
+    (turn (badClock k mask clock) 8
+    (turn (badLabels mask labels) 9
+    (turn (alreadyTaken e (at (takenCounts w s))) 31
+    (turn (conflicting e (pendingEvents w s)) 32
+    (turn (leb 32 (pendingCount s)) 33 end)))))))
+
 pub offer-by : (w mask : ℕ) (clock labels s : List ℕ)
     → offerCall w mask clock labels s
     ≡ cond (eqb (offerFault w mask clock labels s) 0) (accepted w (offeredEvent mask clock labels) s) (turned s (offerFault w mask clock labels s))
@@ -73,7 +70,7 @@ offer-by w mask clock labels s =
     let e = offeredEvent mask clock labels in
     let k = processCount s in
     rw (← event-first (badMask k mask) (badClock k mask clock) (badLabels mask labels) (cond (alreadyTaken e (at (takenCounts w s))) 31 (cond (conflicting e (pendingEvents w s)) 32 (cond (leb 32 (pendingCount s)) 33 0))))
-    (chosen-by (badRecordLength w (length s)) (badState w 1024 s) (badMask k mask) (badClock k mask clock) (badLabels mask labels) (alreadyTaken e (at (takenCounts w s))) (conflicting e (pendingEvents w s)) (leb 32 (pendingCount s)) (turned s) (accepted w e s))
+    (chosen-by (turns w mask clock labels s) (turned s) (accepted w e s) (lit< tt, (lit< tt, (lit< tt, (lit< tt, (lit< tt, (lit< tt, (lit< tt, (lit< tt, tt)))))))))
 
 -- ---- Among the pending events
 
@@ -95,10 +92,6 @@ module _ (w : ℕ) (s : List ℕ) (e : Event) (i : ℕ) where
   place-last l = rw (rest-end (pendingCount s) (pendingAt w s) i l, add-zero)
 
 -- ---- What is known where an offer is accepted
-
-passed : (b : Bool) (n x : ℕ) → 0 < n → cond b n x ≡ 0 → (b ≡ false) × (x ≡ 0)
-passed true n x l h = absurd (omega arith)
-passed false n x l h = (refl, h)
 
 passed-event : (f x : ℕ) → cond (eqb f 0) x f ≡ 0 → x ≡ 0
 passed-event f x = go (eqb f 0) refl

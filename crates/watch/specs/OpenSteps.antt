@@ -7,8 +7,6 @@ use mathlib.Core.List.{List, _∷_, _++_, append-assoc, append-nil, []}
 use mathlib.Core.Bool.{cond, _||_, false}
 use lib.ListN.{length, getD, take, drop, replicate, length-append, length-replicate, drop-of-length-le, replicate-append-replicate, set}
 use lib.Seq.{sets-eq, take-append-seam, drop-append-seam, drop-append-add, drop-cons, sets, length-take-le}
-use Rattle.window.specs.Step.{fits}
-use Rattle.rules.specs.ReaderFrom.{place}
 use Rattle.rules.specs.TableBytes.{lineAt, linesFrom, linesOf}
 use Rattle.rules.specs.Table.{tableBytes}
 use Rattle.window.specs.declared.Frontier.{Frontier}
@@ -16,18 +14,15 @@ use Rattle.codec.specs.Little.{bytesOf, put}
 use Rattle.window.specs.BytesLaws.{length-eights}
 use Rattle.window.specs.Bytes.{frontierLength, frontierBytes, framed, windowBytes}
 use Rattle.rules.specs.TableBytesLaws.{length-linesFrom}
-use Rattle.clocks.specs.Event.{count, one}
 use Rattle.clocks.specs.Refusal.{badStart}
 use Rattle.codec.specs.LittleLaws.{length-bytesOf, pow-256-pos}
 use Rattle.clocks.specs.Counts.{at}
 use Rattle.codec.specs.Bit.{bit}
 use Rattle.window.specs.Start.{startFrontier}
 use Rattle.rules.specs.Judge.{judge}
-use Rattle.watch.specs.Words.{part}
 use Rattle.watch.specs.Record.{tablePlace, eventLength, recordLength}
 use Rattle.watch.specs.Refusals.{badRecordLength, badWindowLength, badProcesses}
 use Rattle.watch.specs.Open.{firstRecord, openTable}
-use Rattle.watch.specs.Status.{recordBytes}
 use Rattle.watch.specs.Take.{stateOf}
 use Rattle.watch.specs.Answer.{flag, replyWord}
 

@@ -10,7 +10,6 @@ use Rattle.codec.specs.Little.{number}
 use Rattle.clocks.specs.Counts.{listOf, at}
 use Rattle.clocks.specs.declared.Event.{Event}
 use Rattle.window.specs.BytesLaws.{count-within}
-use Rattle.rules.specs.ReaderFrom.{place}
 use Rattle.clocks.specs.CountsLaws.{at-listOf}
 use Rattle.watch.specs.Record.{clocksPlace, eventLength, pendingPlace, recordLength, pendingAt, takenCounts}
 

@@ -18,7 +18,7 @@ use Rattle.watch.specs.ListSteps.{rest-next, rest-end}
 use Rattle.watch.specs.Record.{processCount, lineTotal, pendingCount, keptCount, tableLines, pendingAt, pendingEvents, tablePlace, recordLength}
 use Rattle.watch.specs.Refusals.{badProcesses, badState, conflicts, conflicting, badRecordLength, badWindowLength}
 
-or-false-e : (a b : Bool) → (a || b) ≡ false → (a ≡ false) × (b ≡ false)
+pub or-false-e : (a b : Bool) → (a || b) ≡ false → (a ≡ false) × (b ≡ false)
 or-false-e true b h = absurd (true≢false h)
 or-false-e false b h = (refl, h)
 

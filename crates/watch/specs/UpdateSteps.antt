@@ -15,7 +15,6 @@ use Rattle.window.specs.Bytes.{countBytes}
 use Rattle.clocks.specs.Event.{involved, count, one, apply}
 use Rattle.codec.specs.SetsLaws.{sets-append, sets-comm}
 use Rattle.window.specs.BytesLaws.{length-countBytes}
-use Rattle.rules.specs.ReaderFrom.{place}
 use Rattle.codec.specs.PutLaws.{number-lt}
 use Rattle.codec.specs.Little.{Bytes}
 use Rattle.codec.specs.LittleLaws.{pow-256-pos}

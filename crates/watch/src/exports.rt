@@ -2,9 +2,27 @@
 
 ghost use mathlib.Core.Path.{_≡_};
 ghost use Rattle.watch.specs.Words.{unpackCounts, unpackLabels};
+ghost use Rattle.watch.specs.Open.{openCall};
 ghost use Rattle.watch.specs.Offer.{offerCall};
 ghost use Rattle.watch.specs.Find.{findCall};
 ghost use Rattle.watch.specs.Answer.{replyWord};
+
+// Opens a watch with a rule's text, so many processes, and start labels that are the bytes of a word.
+#[no_mangle]
+pub extern "C" fn watch_open(
+    rule: &[u8],
+    k: u64,
+    labels: u64,
+    state: &mut [u8],
+    window: &mut [u8],
+) -> u64
+    ensures reply { λ r. ⌜ r ≡ replyWord (openCall 2 (now (rule .entry)) k (unpackLabels labels) (now (state .entry)) (now (window .entry)) .answer) ⌝ }
+    ensures bytes { λ r. ⌜ now (state .exit) ≡ openCall 2 (now (rule .entry)) k (unpackLabels labels) (now (state .entry)) (now (window .entry)) .bytes ⌝ }
+    ensures window { λ r. ⌜ now (window .exit) ≡ openCall 2 (now (rule .entry)) k (unpackLabels labels) (now (state .entry)) (now (window .entry)) .window ⌝ }
+{
+    let bytes = crate::words::unpack_labels(labels);
+    crate::open::open(2, rule, k, bytes, state, window)
+}
 
 // Offers an event. Its clock is in two words, process p's count at bits 16p of the first or 16(p - 4) of the second; its labels are the
 // bytes of a word.

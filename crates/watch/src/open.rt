@@ -106,3 +106,22 @@ pub fn open_fault(w: usize, k: u64, labels: [u8; 8], n: usize, m: usize) -> u64
     }
     0
 }
+
+// Opens a watch with a rule's text: the reply, and the bytes of record and window after it.
+pub fn open(w: usize, rule: &[u8], k: u64, labels: [u8; 8], s: &mut [u8], window: &mut [u8]) -> u64
+    requires { ⌜ Width w ⌝ }
+    ensures reply { λ r. ⌜ r ≡ replyWord (openCall w (now (rule .entry)) k labels (now (s .entry)) (now (window .entry)) .answer) ⌝ }
+    ensures bytes { λ r. ⌜ now (s .exit) ≡ openCall w (now (rule .entry)) k labels (now (s .entry)) (now (window .entry)) .bytes ⌝ }
+    ensures window { λ r. ⌜ now (window .exit) ≡ openCall w (now (rule .entry)) k labels (now (s .entry)) (now (window .entry)) .window ⌝ }
+{
+    let fault = open_fault(w, k, labels, s.len(), window.len());
+    if fault != 0 {
+        return fault;
+    }
+    let mut table = [0u8; 192];
+    let read = rules::read_rule(rule, k as u32, &mut table);
+    match read {
+        RuleRead::Refused { number, place } => turned_word(number, place),
+        RuleRead::Accepted { lines } => open_table(w, k as u32, labels, &table, lines, s, window),
+    }
+}

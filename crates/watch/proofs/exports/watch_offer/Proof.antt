@@ -5,7 +5,6 @@ use mathlib.Core.Path.{_≡_, ap, ap₂, _∙_}
 use mathlib.Core.List.{List}
 use borrow.Author.Needs.{needs}
 use denote.Ref.{now}
-use Rattle.window.specs.Order.{same}
 use Rattle.watch.proofs.exports.watch_offer.Statement.{statement}
 use Rattle.watch.specs.WordsLaws.{counts-fit}
 use Rattle.watch.specs.Answer.{replyWord}

@@ -4,7 +4,6 @@ use Prim.Native.Nat.{_-_, _≤_}
 use native.Mathlib.Omega.{arith}
 use mathlib.Core.Path.{_≡_, refl, sym, _∙_}
 use borrow.Author.Needs.{needs}
-use Rattle.rules.specs.Line.{line}
 use denote.Ref.{now}
 use Rattle.codec.specs.Bit.{bit}
 use Rattle.window.specs.BytesLaws.{count-within}

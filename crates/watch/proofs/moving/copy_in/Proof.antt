@@ -6,7 +6,6 @@ use mathlib.Core.Path.{_≡_}
 use lib.ListN.{length, take}
 use lib.Seq.{sets}
 use borrow.Author.Needs.{needs}
-use Rattle.rules.specs.ReaderFrom.{place}
 use denote.Ref.{now}
 use Rattle.window.specs.StoreLaws.{sets-more}
 use Rattle.watch.proofs.moving.copy_in.Statement.{statement}

@@ -7,7 +7,6 @@ use mathlib.Core.Path.{_≡_, sym, _∙_}
 use borrow.Author.Needs.{needs}
 use borrow.Author.Tests.{not-true, not-false}
 use denote.Ref.{now}
-use Rattle.rules.specs.ReaderFrom.{place}
 use Rattle.clocks.specs.Key.{keyOf, keyBefore}
 use Rattle.watch.proofs.offer.place_among.Statement.{statement}
 use Rattle.watch.specs.Record.{pendingCount, pendingAt, pendingEvents}

@@ -6,9 +6,7 @@ use mathlib.Core.Path.{_≡_, ap, _∙_}
 use mathlib.Core.List.{[]}
 use lib.ListN.{length, getD}
 use borrow.Author.Needs.{needs}
-use Rattle.rules.specs.ReaderFrom.{place}
 use denote.Ref.{now}
-use Rattle.window.specs.Step.{fits}
 use Rattle.clocks.specs.CountsLaws.{filled, fill-next}
 use Rattle.codec.specs.Little.{number}
 use Rattle.clocks.specs.Counts.{listOf}

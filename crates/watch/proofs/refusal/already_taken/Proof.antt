@@ -9,7 +9,6 @@ use lib.Dec.{leb}
 use borrow.Author.Needs.{needs}
 use Rattle.clocks.specs.declared.Event.{Event}
 use Rattle.clocks.specs.Event.{count, involved}
-use Rattle.clocks.specs.History.{taken}
 use Rattle.clocks.specs.Bounded.{anyBelow}
 use Rattle.clocks.specs.BoundedSteps.{any-none, any-next, any-stop}
 use Rattle.clocks.specs.Counts.{at}

@@ -5,7 +5,6 @@ use native.Mathlib.Omega.{arith}
 use borrow.Author.Needs.{needs}
 use borrow.Author.Tests.{lt-ltb, le-ltb}
 use Rattle.window.specs.Bytes.{frontierLength}
-use Rattle.rules.specs.Truth.{size}
 use Rattle.watch.proofs.refusal.bad_window_length.Statement.{statement}
 use Rattle.watch.specs.Refusals.{badWindowLength}
 

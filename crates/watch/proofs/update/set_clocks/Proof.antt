@@ -6,9 +6,7 @@ use mathlib.Core.Path.{_≡_, ap, _∙_, sym}
 use mathlib.Core.Logic.{⊎-elim}
 use lib.ListN.{length}
 use borrow.Author.Needs.{needs}
-use Rattle.rules.specs.ReaderFrom.{place}
 use denote.Ref.{now}
-use Rattle.window.specs.Step.{fits}
 use Rattle.watch.proofs.update.set_clocks.Statement.{statement}
 use Rattle.watch.specs.UpdateSteps.{bare, clocksSet-bare, clocks-none, clocks-next, clocks-skip}
 use Rattle.watch.specs.Record.{clocksPlace, clocksSet}
