@@ -19,10 +19,10 @@ pub record Gathers (q : Property) (From : Cut → Type 0) (i ors ands : ℕ) : T
 module _ (q : Property) (From From′ : Cut → Type 0) (i ors ands ors′ ands′ : ℕ) where
   -- no cut more
   pub gathers-same : ors′ ≡ ors → ands′ ≡ ands → ((S : Cut) → From S → From′ S) → ((S : Cut) → From′ S → From S) → Gathers q From i ors ands → Gathers q From′ i ors′ ands′
-  gathers-same o a f g r = rw (o, a) (record
-    { some-has = ((λ t. let w = r .some-has .0 t in (w .0, f (w .0) (w .1), w .2)), λ w. r .some-has .1 (w .0, g (w .0) (w .1), w .2))
-    ; all-have = ((λ t S w. r .all-have .0 t S (g S w)), λ h. r .all-have .1 (λ S w. h S (f S w)))
-    })
+  gathers-same o a f g r = rw (o, a) (record {
+    some-has = ((λ t. let w = r .some-has .0 t in (w .0, f (w .0) (w .1), w .2)), λ w. r .some-has .1 (w .0, g (w .0) (w .1), w .2));
+    all-have = ((λ t S w. r .all-have .0 t S (g S w)), λ h. r .all-have .1 (λ S w. h S (f S w)));
+  })
 
   -- the cut R more, with the word v
   pub gathers-added : (R : Cut) (v : ℕ) → ors′ ≡ bitOr ors v → ands′ ≡ bitAnd ands v → ((S : Cut) → From S → From′ S) → bit v i ≡ q R → From′ R → ((S : Cut) → From′ S → From S ⊎ (S ≡ R))

@@ -127,9 +127,9 @@ module _ (s : Setting) (e : Event) (h : s .stored ≡ 8) (v : s .event ≡ e) (w
           leading-here = L .leading-here;
           counted = omega (arith, L .counted);
           going = ap (λ (ls : List Frontier). lay s ls hints (slotsOf s (restOf (stays s) w window n i′) (restOf (enabledAt s) w window n j))) d
-          ∙ sym (lay-one-staying s laid hints (frontierAt w window i) (restOf (stays s) w window n i′) (restOf (enabledAt s) w window n j) f)
-          ∙ ap (λ (fs : List Frontier). lay s laid hints (slotsOf s fs (restOf (enabledAt s) w window n j))) (sym x)
-          ∙ L .going;
+              ∙ sym (lay-one-staying s laid hints (frontierAt w window i) (restOf (stays s) w window n i′) (restOf (enabledAt s) w window n j) f)
+              ∙ ap (λ (fs : List Frontier). lay s laid hints (slotsOf s fs (restOf (enabledAt s) w window n j))) (sym x)
+              ∙ L .going;
         }
 
     -- What the event leads to from frontier j was laid down; j′ is the next that it leads on from.
@@ -151,10 +151,10 @@ module _ (s : Setting) (e : Event) (h : s .stored ≡ 8) (v : s .event ≡ e) (w
           leading-here = t;
           counted = omega (arith, L .counted);
           going = ap (λ (ls : List Frontier). lay s ls hints′ (slotsOf s (restOf (stays s) w window n i) (restOf (enabledAt s) w window n j′))) d
-          ∙ ap (λ (hs : List ℕ). lay s (laid ++ (freshFrom s laid hints (frontierAt w window j) ∷ [])) hs (slotsOf s (restOf (stays s) w window n i) (restOf (enabledAt s) w window n j′))) z
-          ∙ sym (lay-one-fresh s laid hints (frontierAt w window j) (restOf (stays s) w window n i) (restOf (enabledAt s) w window n j′) f)
-          ∙ ap (λ (fs : List Frontier). lay s laid hints (slotsOf s (restOf (stays s) w window n i) fs)) (sym x)
-          ∙ L .going;
+              ∙ ap (λ (hs : List ℕ). lay s (laid ++ (freshFrom s laid hints (frontierAt w window j) ∷ [])) hs (slotsOf s (restOf (stays s) w window n i) (restOf (enabledAt s) w window n j′))) z
+              ∙ sym (lay-one-fresh s laid hints (frontierAt w window j) (restOf (stays s) w window n i) (restOf (enabledAt s) w window n j′) f)
+              ∙ ap (λ (fs : List Frontier). lay s laid hints (slotsOf s (restOf (stays s) w window n i) fs)) (sym x)
+              ∙ L .going;
         }
 
   -- All are laid down.

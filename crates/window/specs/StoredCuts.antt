@@ -36,4 +36,3 @@ first-process n k f l w =
     let h : f .mask < 2 ^ n = lt-of-bits n (f .mask) (λ p k′. w .below p (omega arith)) in
     let t : trailingZeros n (f .mask) < n = trailing-lt n (f .mask) (omega arith) h in
     (t, bit-trailing n (f .mask) t, z)
-

@@ -77,7 +77,17 @@ pub fn step(
     ensures { λ r. ⌜ frontiers w (now (window .exit)) kept ≡ stepped (settingWith k closed (now (table .entry)) lines e reached) (frontiers w (now (window .entry)) n) ⌝ }
 {
     crate::merge::lay_all(
-        window, scratch, w, n, kept, k, closed, e, reached, table, lines,
+        window,
+        scratch,
+        w,
+        n,
+        kept,
+        k,
+        closed,
+        e,
+        reached,
+        table,
+        lines,
     );
     copy_back(window, scratch, w, kept);
 }

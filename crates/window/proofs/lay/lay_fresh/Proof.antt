@@ -83,11 +83,12 @@ returns c =
     let f = frontierAt (a .w) (now (a .window)) (a .j) in
     let g = d .before .before .advanced .result in
     let r = d .gather .result in
-    let on : (k closed : ℕ) (reached : List ℕ) → Setting = λ k closed reached. settingWith k closed (now (a .table)) (a .lines) (a .e) reached in
-    (λ k closed reached. hints-are (on k closed reached) laid (a .hints) f g r refl (leads (d .before .before) (on k closed reached) refl refl) (d .gather .ensures (on k closed reached) refl refl)
-    , λ k closed reached. ap (λ (bs : List ℕ). frontiers (a .w) bs (a .m + 1)) (c .before .before .before .lay-frontier .ensures)
-    ∙ frontiers-stored (a .w) (now (a .scratch)) (a .m) _ (proper b) (p .1 .1 .1 .0 .1)
-    ∙ ap (λ (x : Frontier). laid ++ (x ∷ [])) (fresh-is (on k closed reached) laid (a .hints) f g r refl (leads (d .before .before) (on k closed reached) refl refl) (d .gather .ensures (on k closed reached) refl refl) (b .judge .result) (b .judge .ensures)))
+    let on : (k closed : ℕ) (reached : List ℕ) → Setting = λ k closed reached. settingWith k closed (now (a .table)) (a .lines) (a .e) reached in (
+      λ k closed reached. hints-are (on k closed reached) laid (a .hints) f g r refl (leads (d .before .before) (on k closed reached) refl refl) (d .gather .ensures (on k closed reached) refl refl),
+      λ k closed reached. ap (λ (bs : List ℕ). frontiers (a .w) bs (a .m + 1)) (c .before .before .before .lay-frontier .ensures)
+          ∙ frontiers-stored (a .w) (now (a .scratch)) (a .m) _ (proper b) (p .1 .1 .1 .0 .1)
+          ∙ ap (λ (x : Frontier). laid ++ (x ∷ [])) (fresh-is (on k closed reached) laid (a .hints) f g r refl (leads (d .before .before) (on k closed reached) refl refl) (d .gather .ensures (on k closed reached) refl refl) (b .judge .result) (b .judge .ensures)),
+    )
 
 pub lay-fresh-spec : {M : Type 1} → statement M
 lay-fresh-spec =

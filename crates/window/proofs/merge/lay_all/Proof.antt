@@ -48,11 +48,15 @@ next-enabled-requires c κs = search needs
 loop-holds : tie.Need-loop-holds Inv-loop μ-loop
 unfolding stays enabledAt frontiers listOf
 loop-holds c =
-    let a = c .before .before .before .before .before .args in
-    (search needs, refl, c .before .next-staying .ensures .0, c .next-enabled .ensures .0
-    , laying-start (settingWith (a .k) (a .closed) (now (a .table)) (a .lines) (a .e) (a .reached)) refl (a .w) (now (a .window)) (a .n) (a .kept) (c .before .before .before .before .before .pre .1 .1 .1 .1 .1 .1)
-    (c .before .next-staying .result) (c .before .next-staying .ensures .0) (c .before .next-staying .ensures .1 .0) (c .before .next-staying .ensures .1 .1)
-    (c .next-enabled .result) (c .next-enabled .ensures .0) (c .next-enabled .ensures .1 .0) (c .next-enabled .ensures .1 .1))
+    let a = c .before .before .before .before .before .args in (
+      search needs,
+      refl,
+      c .before .next-staying .ensures .0,
+      c .next-enabled .ensures .0,
+      laying-start (settingWith (a .k) (a .closed) (now (a .table)) (a .lines) (a .e) (a .reached)) refl (a .w) (now (a .window)) (a .n) (a .kept) (c .before .before .before .before .before .pre .1 .1 .1 .1 .1 .1)
+          (c .before .next-staying .result) (c .before .next-staying .ensures .0) (c .before .next-staying .ensures .1 .0) (c .before .next-staying .ensures .1 .1)
+          (c .next-enabled .result) (c .next-enabled .ensures .0) (c .next-enabled .ensures .1 .0) (c .next-enabled .ensures .1 .1),
+    )
 
 -- src/merge.rt:111:12
 fresh-first-requires : tie.Need-fresh-first-requires Inv-loop μ-loop
@@ -98,12 +102,16 @@ loop-again : tie.Need-loop-again Inv-loop μ-loop
 unfolding stays enabledAt
 loop-again c =
     let a = c .before .before .before .before .before .before .before .before .before .before .before .before .before .before .args in
-    let l = c .before .before .before .before .before .before .before .before .loop in
-    (search needs, search needs, search needs, c .next-enabled2 .ensures .0
-    , laid-fresh (settingWith (a .k) (a .closed) (now (a .table)) (a .lines) (a .e) (a .reached)) (a .e) refl refl (a .w) (now (a .window)) (a .n) (a .kept) (frontiers (a .w) (l .scratch) (l .m)) (l .hints) (l .i) (l .j) (l .m) (l .inv .4) (search needs) (sym (c .before .before .before .before .before .before .fresh-first .ensures) ∙ c .before .before .before .before .before .if1 .taken)
-    (frontiers (a .w) (c .before .before .before .lay-fresh .last .1 .0) (l .m + 1)) (c .before .before .before .lay-fresh .ensures .1 (a .k) (a .closed) (a .reached))
-    (c .before .before .before .lay-fresh .result) (c .before .before .before .lay-fresh .ensures .0 (a .k) (a .closed) (a .reached))
-    (c .next-enabled2 .result) (c .next-enabled2 .ensures .0) (c .next-enabled2 .ensures .1 .0) (c .next-enabled2 .ensures .1 .1))
+    let l = c .before .before .before .before .before .before .before .before .loop in (
+      search needs,
+      search needs,
+      search needs,
+      c .next-enabled2 .ensures .0,
+      laid-fresh (settingWith (a .k) (a .closed) (now (a .table)) (a .lines) (a .e) (a .reached)) (a .e) refl refl (a .w) (now (a .window)) (a .n) (a .kept) (frontiers (a .w) (l .scratch) (l .m)) (l .hints) (l .i) (l .j) (l .m) (l .inv .4) (search needs) (sym (c .before .before .before .before .before .before .fresh-first .ensures) ∙ c .before .before .before .before .before .if1 .taken)
+          (frontiers (a .w) (c .before .before .before .lay-fresh .last .1 .0) (l .m + 1)) (c .before .before .before .lay-fresh .ensures .1 (a .k) (a .closed) (a .reached))
+          (c .before .before .before .lay-fresh .result) (c .before .before .before .lay-fresh .ensures .0 (a .k) (a .closed) (a .reached))
+          (c .next-enabled2 .result) (c .next-enabled2 .ensures .0) (c .next-enabled2 .ensures .1 .0) (c .next-enabled2 .ensures .1 .1),
+    )
 
 -- Where none comes first, there is one that stays.
 remains : (c : tie.After-lay-staying-arg Inv-loop μ-loop) → c .before .before .before .before .loop .i < c .before .before .before .before .before .before .before .before .before .before .args .n
@@ -143,11 +151,15 @@ loop-again-2 : tie.Need-loop-again-2 Inv-loop μ-loop
 unfolding stays enabledAt
 loop-again-2 c =
     let a = c .before .before .before .before .before .before .before .before .before .before .before .before .before .before .args in
-    let l = c .before .before .before .before .before .before .before .before .loop in
-    (search needs, search needs, c .next-staying2 .ensures .0, search needs
-    , laid-staying (settingWith (a .k) (a .closed) (now (a .table)) (a .lines) (a .e) (a .reached)) (a .e) refl refl (a .w) (now (a .window)) (a .n) (a .kept) (frontiers (a .w) (l .scratch) (l .m)) (l .hints) (l .i) (l .j) (l .m) (l .inv .4) (search needs) (sym (c .before .before .before .before .before .before .fresh-first .ensures) ∙ c .before .before .before .before .before .if1 .left)
-    (frontiers (a .w) (c .before .before .before .lay-staying .last .1 .0) (l .m + 1)) (c .before .before .before .lay-staying .ensures)
-    (c .next-staying2 .result) (c .next-staying2 .ensures .0) (c .next-staying2 .ensures .1 .0) (c .next-staying2 .ensures .1 .1))
+    let l = c .before .before .before .before .before .before .before .before .loop in (
+      search needs,
+      search needs,
+      c .next-staying2 .ensures .0,
+      search needs,
+      laid-staying (settingWith (a .k) (a .closed) (now (a .table)) (a .lines) (a .e) (a .reached)) (a .e) refl refl (a .w) (now (a .window)) (a .n) (a .kept) (frontiers (a .w) (l .scratch) (l .m)) (l .hints) (l .i) (l .j) (l .m) (l .inv .4) (search needs) (sym (c .before .before .before .before .before .before .fresh-first .ensures) ∙ c .before .before .before .before .before .if1 .left)
+          (frontiers (a .w) (c .before .before .before .lay-staying .last .1 .0) (l .m + 1)) (c .before .before .before .lay-staying .ensures)
+          (c .next-staying2 .result) (c .next-staying2 .ensures .0) (c .next-staying2 .ensures .1 .0) (c .next-staying2 .ensures .1 .1),
+    )
 
 -- src/merge.rt:83:1
 same-length : tie.Need-same-length Inv-loop μ-loop

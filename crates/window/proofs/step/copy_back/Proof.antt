@@ -65,10 +65,10 @@ returns c =
     let x = c .before .before .before .before .before .before .before .before .before .before .copy-bytes .last .0 in
     let bytes : (i : ℕ) → getD (now (a .scratch)) i 0 < 256 = λ i. c .before .before .before .before .before .before .before .before .before .before .before .before .before .before .slice-known2 .given i .fits in
     let window =
-        ap (putMid n (length x - n) x) (c .before .before .before .before .before .before .clear .ensures)
-        ∙ ap (λ (y : List ℕ). putMid n (length y - n) y (replicate (length (take (length y - n) (drop n y))) 0)) (c .before .before .before .before .before .before .before .before .before .before .copy-bytes .ensures)
-        ∙ copied-cleared (now (a .window)) (now (a .scratch)) n (omega arith) (omega arith)
-        ∙ windowBytes-frontiers (a .w) (now (a .scratch)) (a .m) (length (now (a .window))) n bytes (search needs) e in
+    ap (putMid n (length x - n) x) (c .before .before .before .before .before .before .clear .ensures)
+    ∙ ap (λ (y : List ℕ). putMid n (length y - n) y (replicate (length (take (length y - n) (drop n y))) 0)) (c .before .before .before .before .before .before .before .before .before .before .copy-bytes .ensures)
+    ∙ copied-cleared (now (a .window)) (now (a .scratch)) n (omega arith) (omega arith)
+    ∙ windowBytes-frontiers (a .w) (now (a .scratch)) (a .m) (length (now (a .window))) n bytes (search needs) e in
     (window, (search needs, ap (λ (y : List ℕ). frontiers (a .w) y (a .m)) window ∙ read-back (a .w) (now (a .scratch)) (a .m) (length (now (a .window))) bytes (search needs)))
 
 pub copy-back-spec : {M : Type 1} → statement M
