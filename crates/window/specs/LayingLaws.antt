@@ -1,23 +1,20 @@
 -- The merge of a step, turn by turn: laws of `restOf`, `lay` and `Laying`.
-use Prim.Native.Nat.{ℕ, zero, suc, _+_, _≤_, _<_}
+use Prim.Native.Nat.{ℕ, suc, _+_, _≤_, _<_}
 use native.Mathlib.Omega.{arith}
 use native.Mathlib.Decide.{decLt}
 use native.Mathlib.Numerals.{add-one}
-use mathlib.Core.Path.{_≡_, refl, sym, ap, subst, _∙_}
+use mathlib.Core.Path.{_≡_, refl, sym, ap, _∙_}
 use mathlib.Core.Bool.{Bool, true, false, cond, true≢false}
-use mathlib.Core.List.{List, [], _∷_, _++_, map}
-use lib.Dec.{ltb}
-use lib.ListN.{length, drop, getD, replicate, drop-of-length-le}
+use mathlib.Core.List.{List, [], _∷_, _++_}
+use lib.ListN.{length, drop, replicate, drop-of-length-le}
 use lib.Seq.{drop-cons}
 use borrow.Author.Tests.{lt-ltb, le-ltb}
 use Rattle.clocks.specs.declared.Event.{Event}
-use Rattle.clocks.specs.Event.{apply}
-use Rattle.clocks.specs.Counts.{at, listOf}
+use Rattle.clocks.specs.Counts.{at}
 use Rattle.window.specs.declared.Frontier.{Frontier}
-use Rattle.window.specs.Order.{before}
 use Rattle.window.specs.Bytes.{frontierAt, frontiers}
 use Rattle.window.specs.WindowLaws.{length-frontiers, getD-frontiers}
-use Rattle.window.specs.Step.{Setting, Slot, staying, fresh, slotCounts, merge, mergeInto, slots, advanced, stays, enabledAt, filtered, gathered, judgedBy, lay, stepped, keptAfter}
+use Rattle.window.specs.Step.{Setting, slotCounts, merge, mergeInto, slots, advanced, stays, enabledAt, filtered, lay, stepped, keptAfter}
 use Rattle.window.specs.StepCode.{hintsFrom, freshFrom}
 use Rattle.window.specs.Laying.{restOf, slotsOf, freshFirst, freshAt, Laying}
 
@@ -127,9 +124,9 @@ module _ (s : Setting) (e : Event) (h : s .stored ≡ 8) (v : s .event ≡ e) (w
           leading-here = L .leading-here;
           counted = omega (arith, L .counted);
           going = ap (λ (ls : List Frontier). lay s ls hints (slotsOf s (restOf (stays s) w window n i′) (restOf (enabledAt s) w window n j))) d
-          ∙ sym (lay-one-staying s laid hints (frontierAt w window i) (restOf (stays s) w window n i′) (restOf (enabledAt s) w window n j) f)
-          ∙ ap (λ (fs : List Frontier). lay s laid hints (slotsOf s fs (restOf (enabledAt s) w window n j))) (sym x)
-          ∙ L .going;
+              ∙ sym (lay-one-staying s laid hints (frontierAt w window i) (restOf (stays s) w window n i′) (restOf (enabledAt s) w window n j) f)
+              ∙ ap (λ (fs : List Frontier). lay s laid hints (slotsOf s fs (restOf (enabledAt s) w window n j))) (sym x)
+              ∙ L .going;
         }
 
     -- What the event leads to from frontier j was laid down; j′ is the next that it leads on from.
@@ -151,10 +148,10 @@ module _ (s : Setting) (e : Event) (h : s .stored ≡ 8) (v : s .event ≡ e) (w
           leading-here = t;
           counted = omega (arith, L .counted);
           going = ap (λ (ls : List Frontier). lay s ls hints′ (slotsOf s (restOf (stays s) w window n i) (restOf (enabledAt s) w window n j′))) d
-          ∙ ap (λ (hs : List ℕ). lay s (laid ++ (freshFrom s laid hints (frontierAt w window j) ∷ [])) hs (slotsOf s (restOf (stays s) w window n i) (restOf (enabledAt s) w window n j′))) z
-          ∙ sym (lay-one-fresh s laid hints (frontierAt w window j) (restOf (stays s) w window n i) (restOf (enabledAt s) w window n j′) f)
-          ∙ ap (λ (fs : List Frontier). lay s laid hints (slotsOf s (restOf (stays s) w window n i) fs)) (sym x)
-          ∙ L .going;
+              ∙ ap (λ (hs : List ℕ). lay s (laid ++ (freshFrom s laid hints (frontierAt w window j) ∷ [])) hs (slotsOf s (restOf (stays s) w window n i) (restOf (enabledAt s) w window n j′))) z
+              ∙ sym (lay-one-fresh s laid hints (frontierAt w window j) (restOf (stays s) w window n i) (restOf (enabledAt s) w window n j′) f)
+              ∙ ap (λ (fs : List Frontier). lay s laid hints (slotsOf s (restOf (stays s) w window n i) fs)) (sym x)
+              ∙ L .going;
         }
 
   -- All are laid down.

@@ -76,14 +76,7 @@ fn consider(
 }
 
 // All eight processes are considered; the frontier that g came from precedes it always.
-pub fn gather(
-    scratch: &[u8],
-    w: usize,
-    m: usize,
-    mask: u8,
-    g: Frontier,
-    hints: [usize; 8],
-) -> Found
+pub fn gather(scratch: &[u8], w: usize, m: usize, mask: u8, g: Frontier, hints: [usize; 8]) -> Found
     requires { ⌜ Width w ⌝ }
     requires { ⌜ m ≤ 1024 ⌝ }
     requires { ⌜ m * frontierLength w ≤ length (now scratch) ⌝ }

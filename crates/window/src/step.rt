@@ -3,8 +3,7 @@
 use clocks::Event;
 ghost use Prim.Native.Nat.{_*_, _≤_};
 ghost use mathlib.Core.Path.{_≡_};
-ghost use mathlib.Core.List.{_++_};
-ghost use lib.ListN.{length, take, drop, replicate};
+ghost use lib.ListN.{length, take, replicate};
 ghost use lib.Seq.{sets};
 ghost use Rattle.window.specs.Width.{Width};
 ghost use Rattle.window.specs.Bytes.{frontierLength, frontiers, windowBytes};
@@ -75,7 +74,17 @@ pub fn step(
     ensures { λ r. ⌜ now (scratch .exit) ≡ replicate (length (now (scratch .entry))) 0 ⌝ }
 {
     crate::merge::lay_all(
-        window, scratch, w, n, kept, k, closed, e, reached, table, lines,
+        window,
+        scratch,
+        w,
+        n,
+        kept,
+        k,
+        closed,
+        e,
+        reached,
+        table,
+        lines,
     );
     copy_back(window, scratch, w, kept);
 }

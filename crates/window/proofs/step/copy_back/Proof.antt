@@ -1,72 +1,57 @@
 -- The bytes of the frontiers, then zeros: the laws `copied-cleared` and `framed-frontiers`.
 use native.Mathlib.Omega.{arith}
-use mathlib.Core.Path.{_≡_, refl, sym, ap, _∙_}
-use Prim.Native.Nat.{ℕ, _≤_, _<_, _-_, _+_, _*_}
-use mathlib.Core.List.{List, _++_}
-use lib.ListN.{length, getD, take, drop, set, length-set}
-use mathlib.Core.Logic.{⊎-elim}
+use mathlib.Core.Path.{_≡_, ap, _∙_}
+use Prim.Native.Nat.{ℕ, _-_, _*_}
+use mathlib.Core.List.{List}
+use lib.ListN.{length, take, drop, replicate}
 use borrow.Author.Needs.{needs}
 use Rattle.window.proofs.step.copy_back.Statement.{statement}
 use Rattle.window.proofs.step.copy_back.Tie as tie
-use Rattle.window.proofs.step.copy_back.Reads as reads
-use Rattle.window.proofs.step.copy_back.Lts as lts
-use Rattle.window.proofs.place.frontier_place.Reads as frontier-place-reads
-use Rattle.window.proofs.step.clear.Reads as clear-reads
-use Rattle.window.proofs.step.copy_bytes.Reads as copy-bytes-reads
 use denote.Ref.{now}
 use Rattle.window.specs.StoreLaws.{copied-cleared}
-use Rattle.window.specs.Bytes.{frontiers, frontierLength, windowBytes}
-use lib.ListN.{replicate}
+use Rattle.window.specs.Bytes.{frontiers, frontierLength}
 use borrow.Rule.Slice.PartMut.{putMid}
 use Rattle.window.specs.WindowLaws.{windowBytes-frontiers}
 
--- src/step.rt:48:9
 frontier-place-requires : tie.Need-frontier-place-requires
 frontier-place-requires c κs = search needs
 
--- src/step.rt:49:5
 copy-bytes-requires : tie.Need-copy-bytes-requires
 copy-bytes-requires c κs = search needs
 
--- src/step.rt:50:11
 sub-clear : tie.Need-sub-clear
 sub-clear c = search needs
 
--- src/step.rt:50:11
 part-clear-start : tie.Need-part-clear-start
 part-clear-start c = search needs
 
--- src/step.rt:50:11
 part-clear-end : tie.Need-part-clear-end
 part-clear-end c = search needs
 
--- src/step.rt:50:5
 clear-requires : tie.Need-clear-requires
 clear-requires c κs = search needs
 
--- src/step.rt:51:5
 clear-requires-2 : tie.Need-clear-requires-2
 clear-requires-2 c κs = search needs
 
--- src/step.rt:39:1
 same-length : tie.Need-same-length
 same-length c = search needs
 
--- src/step.rt:39:1
 same-length-2 : tie.Need-same-length-2
 same-length-2 c = search needs
 
--- src/step.rt:39:1
 returns : tie.Need-returns
 returns c =
     let a = c .before .before .before .before .before .before .before .before .before .before .before .before .before .before .before .before .args in
     let n = c .before .before .before .before .before .before .before .before .before .before .before .before .before .frontier-place .result in
     let e : n ≡ a .m * frontierLength (a .w) = c .before .before .before .before .before .before .before .before .before .before .before .before .before .frontier-place .ensures .0 in
-    let x = c .before .before .before .before .before .before .before .before .before .before .copy-bytes .last .0 in
-    (ap (putMid n (length x - n) x) (c .before .before .before .before .before .before .clear .ensures)
-    ∙ ap (λ (y : List ℕ). putMid n (length y - n) y (replicate (length (take (length y - n) (drop n y))) 0)) (c .before .before .before .before .before .before .before .before .before .before .copy-bytes .ensures)
-    ∙ copied-cleared (now (a .window)) (now (a .scratch)) n (omega arith) (omega arith)
-    ∙ windowBytes-frontiers (a .w) (now (a .scratch)) (a .m) (length (now (a .window))) n (λ i. c .before .before .before .before .before .before .before .before .before .before .before .before .before .before .slice-known2 .given i .fits) (search needs) e, search needs)
+    let x = c .before .before .before .before .before .before .before .before .before .before .copy-bytes .last .0 in (
+      ap (putMid n (length x - n) x) (c .before .before .before .before .before .before .clear .ensures)
+          ∙ ap (λ (y : List ℕ). putMid n (length y - n) y (replicate (length (take (length y - n) (drop n y))) 0)) (c .before .before .before .before .before .before .before .before .before .before .copy-bytes .ensures)
+          ∙ copied-cleared (now (a .window)) (now (a .scratch)) n (omega arith) (omega arith)
+          ∙ windowBytes-frontiers (a .w) (now (a .scratch)) (a .m) (length (now (a .window))) n (λ i. c .before .before .before .before .before .before .before .before .before .before .before .before .before .before .slice-known2 .given i .fits) (search needs) e,
+      search needs,
+    )
 
 pub copy-back-spec : {M : Type 1} → statement M
 copy-back-spec =
