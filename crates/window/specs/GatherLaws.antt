@@ -1,13 +1,13 @@
 -- What one process adds to what is gathered, turn by turn, in the shape of the code.
-use Prim.Native.Nat.{ℕ, suc, _+_, _<_}
+use Prim.Native.Nat.{ℕ, _+_, _<_}
 use native.Mathlib.Omega.{arith}
 use native.Mathlib.Decide.{decLt}
 use native.Mathlib.Numerals.{add-one}
 use mathlib.Core.Path.{_≡_, refl, sym, ap, _∙_}
-use mathlib.Core.Bool.{Bool, true, false, true≢false}
+use mathlib.Core.Bool.{true, false, true≢false}
 use mathlib.Core.List.{List, []}
 use lib.Bits.{bitOr, bitAnd}
-use lib.ListN.{length, getD, set}
+use lib.ListN.{getD, set}
 use Rattle.clocks.specs.Event.{involved, minus}
 use Rattle.clocks.specs.Counts.{at, listOf}
 use Rattle.window.specs.declared.Frontier.{Frontier}

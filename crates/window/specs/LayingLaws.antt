@@ -1,23 +1,20 @@
 -- The merge of a step, turn by turn: laws of `restOf`, `lay` and `Laying`.
-use Prim.Native.Nat.{ℕ, zero, suc, _+_, _≤_, _<_}
+use Prim.Native.Nat.{ℕ, suc, _+_, _≤_, _<_}
 use native.Mathlib.Omega.{arith}
 use native.Mathlib.Decide.{decLt}
 use native.Mathlib.Numerals.{add-one}
-use mathlib.Core.Path.{_≡_, refl, sym, ap, subst, _∙_}
+use mathlib.Core.Path.{_≡_, refl, sym, ap, _∙_}
 use mathlib.Core.Bool.{Bool, true, false, cond, true≢false}
-use mathlib.Core.List.{List, [], _∷_, _++_, map}
-use lib.Dec.{ltb}
-use lib.ListN.{length, drop, getD, replicate, drop-of-length-le}
+use mathlib.Core.List.{List, [], _∷_, _++_}
+use lib.ListN.{length, drop, replicate, drop-of-length-le}
 use lib.Seq.{drop-cons}
 use borrow.Author.Tests.{lt-ltb, le-ltb}
 use Rattle.clocks.specs.declared.Event.{Event}
-use Rattle.clocks.specs.Event.{apply}
-use Rattle.clocks.specs.Counts.{at, listOf}
+use Rattle.clocks.specs.Counts.{at}
 use Rattle.window.specs.declared.Frontier.{Frontier}
-use Rattle.window.specs.Order.{before}
 use Rattle.window.specs.Bytes.{frontierAt, frontiers}
 use Rattle.window.specs.WindowLaws.{length-frontiers, getD-frontiers}
-use Rattle.window.specs.Step.{Setting, Slot, staying, fresh, slotCounts, merge, mergeInto, slots, advanced, stays, enabledAt, filtered, gathered, judgedBy, lay, stepped, keptAfter}
+use Rattle.window.specs.Step.{Setting, slotCounts, merge, mergeInto, slots, advanced, stays, enabledAt, filtered, lay, stepped, keptAfter}
 use Rattle.window.specs.StepCode.{hintsFrom, freshFrom}
 use Rattle.window.specs.Laying.{restOf, slotsOf, freshFirst, freshAt, Laying}
 

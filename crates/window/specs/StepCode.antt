@@ -4,11 +4,10 @@ use mathlib.Core.Bool.{Bool, not, _&&_, _||_}
 use mathlib.Core.List.{List}
 use lib.Count.{trailingZeros}
 use lib.Dec.{eqb}
-use lib.ListN.{getD}
 use Rattle.codec.specs.Bit.{bit}
 use Rattle.codec.specs.Little.{Bytes}
 use Rattle.clocks.specs.declared.Event.{Event}
-use Rattle.clocks.specs.Event.{Cut, one}
+use Rattle.clocks.specs.Event.{one}
 use Rattle.clocks.specs.Counts.{at}
 use Rattle.clocks.specs.Bounded.{allBelow, anyBelow}
 use Rattle.clocks.specs.Tested.{ready}

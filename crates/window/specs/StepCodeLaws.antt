@@ -1,11 +1,11 @@
 -- The tests of a step by counts alone are those of the definition, and what one more frontier adds to the number kept.
-use Prim.Native.Nat.{ℕ, zero, suc, _+_, _<_}
+use Prim.Native.Nat.{ℕ, _+_, _<_}
 use native.Mathlib.Omega.{arith}
 use native.Mathlib.Numerals.{add-one}
 use mathlib.Core.Path.{_≡_, refl, sym, ap, subst, _∙_}
-use mathlib.Core.Bool.{Bool, true, false, cond, _||_}
+use mathlib.Core.Bool.{Bool, true, false, cond}
 use mathlib.Core.List.{List, [], _∷_, _++_}
-use lib.Dec.{eqb, T, eqb→eq}
+use lib.Dec.{eqb, eqb→eq}
 use lib.ListN.{length, length-append, getD, replicate, getD-replicate}
 use lib.Seq.{ext-getD}
 use borrow.Author.Tests.{eq-eqb}
@@ -23,7 +23,7 @@ use Rattle.window.specs.OrderLaws.{same-e, same-i}
 use Rattle.window.specs.Bytes.{frontiers, frontierAt}
 use Rattle.window.specs.WindowLaws.{frontiers-more}
 use Rattle.window.specs.Step.{Setting, stays, enabledAt, advanced, filtered, keptAfter}
-use Rattle.window.specs.StepCode.{settingWith, staysWith, keptOf}
+use Rattle.window.specs.StepCode.{settingWith, keptOf}
 
 -- ---- Counts that are the same, test by test
 pub same-all : (xs ys : List ℕ) (n : ℕ) → length xs ≡ n → length ys ≡ n → same xs ys ≡ allBelow n (λ p. eqb (at xs p) (at ys p))

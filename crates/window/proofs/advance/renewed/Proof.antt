@@ -1,17 +1,10 @@
 -- Below p the bytes are the chosen ones.
-use native.Mathlib.Omega.{arith}
-use mathlib.Core.Path.{_≡_, refl, sym, ap, _∙_}
-use Prim.Native.Nat.{ℕ, _≤_, _<_, _-_, _+_, _*_}
-use mathlib.Core.List.{List, _++_}
-use lib.ListN.{length, getD, take, drop, set, length-set}
-use mathlib.Core.Logic.{⊎-elim}
+use mathlib.Core.Path.{_≡_, ap, _∙_}
+use Prim.Native.Nat.{ℕ, _≤_, _<_, _-_}
+use lib.ListN.{length, getD}
 use borrow.Author.Needs.{needs}
 use Rattle.window.proofs.advance.renewed.Statement.{statement}
 use Rattle.window.proofs.advance.renewed.Tie as tie
-use Rattle.window.proofs.advance.renewed.Reads as reads
-use Rattle.window.proofs.advance.renewed.Lts as lts
-use Rattle.codec.proofs.has_bit.Reads as has-bit-reads
-use Rattle.window.proofs.advance.chosen.Reads as chosen-reads
 use mathlib.Core.Bool.{Bool, cond}
 use Rattle.codec.specs.Bit.{bit}
 use Rattle.clocks.specs.CountsLaws.{filled, fill-next}
@@ -22,43 +15,33 @@ Inv-loop mask news olds word out₀ p₀ out p = (p ≤ 8) × (length out ≡ 8)
 abbrev μ-loop : tie.MeasureT-loop
 μ-loop mask news olds word out₀ p₀ out p = 8 - p
 
--- src/advance.rt:31:5
 loop-holds : tie.Need-loop-holds Inv-loop μ-loop
 loop-holds c = search needs
 
--- src/advance.rt:32:17
 cast-i : tie.Need-cast-i Inv-loop μ-loop
 cast-i c = search needs
 
--- src/advance.rt:33:25
 has-bit-requires : tie.Need-has-bit-requires Inv-loop μ-loop
 has-bit-requires c κs = search needs
 
--- src/advance.rt:33:50
 array-read-chosen : tie.Need-array-read-chosen Inv-loop μ-loop
 array-read-chosen c = search needs
 
--- src/advance.rt:33:59
 array-read-chosen-2 : tie.Need-array-read-chosen-2 Inv-loop μ-loop
 array-read-chosen-2 c = search needs
 
--- src/advance.rt:33:18
 chosen-requires : tie.Need-chosen-requires Inv-loop μ-loop
 chosen-requires c κs = search needs
 
--- src/advance.rt:33:9
 array-write-out : tie.Need-array-write-out Inv-loop μ-loop
 array-write-out c = search needs
 
--- src/advance.rt:34:13
 add-p : tie.Need-add-p Inv-loop μ-loop
 add-p c = search needs
 
--- src/advance.rt:31:5
 loop-less : tie.Need-loop-less Inv-loop μ-loop
 loop-less c = search needs
 
--- src/advance.rt:31:5
 loop-again : tie.Need-loop-again Inv-loop μ-loop
 loop-again c =
     let a = c .before .before .before .before .args in
@@ -67,7 +50,6 @@ loop-again c =
     c .chosen .ensures ∙ ap (λ (b : Bool). cond b (getD (a .t2) (l .p) 0) (getD (a .t3) (l .p) 0)) (c .before .has-bit .ensures) in
     (search needs, search needs, fill-next _ 0 (l .out) (l .p) (c .chosen .result) (search needs) stored (l .inv .2))
 
--- src/advance.rt:25:1
 returns : tie.Need-returns Inv-loop μ-loop
 returns c = filled 8 _ 0 (c .before .loop .out) (search needs) (λ q l. c .before .loop .inv .2 q (search needs))
 

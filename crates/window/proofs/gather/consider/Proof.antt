@@ -1,72 +1,49 @@
 -- Each way adds what the definition has: the laws `consider-passed`, `consider-missing` and `consider-found`.
 use native.Mathlib.Omega.{arith}
-use mathlib.Core.Path.{_≡_, refl, sym, ap, _∙_}
-use Prim.Native.Nat.{ℕ, _≤_, _<_, _-_, _+_, _*_}
-use mathlib.Core.List.{List, _++_}
-use lib.ListN.{length, getD, take, drop, set, length-set}
-use mathlib.Core.Logic.{⊎-elim}
+use mathlib.Core.Path.{_≡_, sym, ap, _∙_}
+use Prim.Native.Nat.{_<_}
+use lib.ListN.{getD}
 use borrow.Author.Needs.{needs}
 use Rattle.window.proofs.gather.consider.Statement.{statement}
 use Rattle.window.proofs.gather.consider.Tie as tie
-use Rattle.window.proofs.gather.consider.Reads as reads
-use Rattle.window.proofs.gather.consider.Lts as lts
-use Rattle.clocks.proofs.step.minus.Reads as minus-reads
-use Rattle.codec.proofs.and_words.Reads as and-words-reads
-use Rattle.codec.proofs.or_words.Reads as or-words-reads
-use Rattle.window.proofs.gather.is_sought.Reads as is-sought-reads
-use Rattle.window.proofs.gather.values_at.Reads as values-at-reads
-use Rattle.window.proofs.lookup.seek.Reads as seek-reads
-use Rattle.window.proofs.lookup.stands_at.Reads as stands-at-reads
 use denote.Ref.{now}
-use mathlib.Core.Bool.{true, false}
+use mathlib.Core.Bool.{true}
 use borrow.Author.Tests.{not-true, not-false}
-use Rattle.window.specs.declared.Frontier.{Frontier}
 use Rattle.window.specs.Bytes.{frontiers}
-use Rattle.window.specs.Step.{Setting, valuesAt}
-use Rattle.window.specs.StepCode.{gatheredOf}
+use Rattle.window.specs.Step.{valuesAt}
+use Rattle.window.specs.StepCode.{gatheredOf, soughtWith}
 use Rattle.window.specs.WindowLaws.{place-within}
 use Rattle.window.specs.GatherLaws.{consider-passed, consider-missing, consider-found, stands-within, values-at}
-use Rattle.window.specs.StepCode.{soughtWith}
 use lib.Bits.{bitOr, bitAnd}
 
--- src/gather.rt:56:16
 element-copy-out-last : tie.Need-element-copy-out-last
 element-copy-out-last c = search needs
 
--- src/gather.rt:57:9
 is-sought-requires : tie.Need-is-sought-requires
 is-sought-requires c κs = search needs
 
--- src/gather.rt:58:9
 returns : tie.Need-returns
 returns c = λ s h v. let a = c .before .before .before .before .args in
     sym (consider-passed s (a .mask) h v (frontiers (a .w) (now (a .scratch)) (a .m)) (a .t5) (a .p) (gatheredOf (a .prior)) (sym (c .before .is-sought .ensures) ∙ not-true _ (c .if1 .taken)))
 
--- src/gather.rt:61:9
 minus-requires : tie.Need-minus-requires
 minus-requires c κs = search needs
 
--- src/gather.rt:63:57
 mul-seek : tie.Need-mul-seek
 mul-seek c = search needs
 
--- src/gather.rt:63:57
 array-read-seek : tie.Need-array-read-seek
 array-read-seek c = search needs
 
--- src/gather.rt:63:9
 seek-requires : tie.Need-seek-requires
 seek-requires c κs = search needs
 
--- src/gather.rt:64:5
 mul-hints : tie.Need-mul-hints
 mul-hints c = search needs
 
--- src/gather.rt:64:5
 array-write-hints : tie.Need-array-write-hints
 array-write-hints c = search needs
 
--- src/gather.rt:67:9
 stands-at-requires : tie.Need-stands-at-requires
 stands-at-requires c κs = search needs
 
@@ -74,7 +51,6 @@ stands-at-requires c κs = search needs
 sought-here : (c : tie.After-stands-at) → soughtWith (c .before .before .before .before .before .before .before .before .before .args .mask) (getD (c .before .before .before .before .before .before .before .before .before .args .t5 .masks) (c .before .before .before .before .before .before .before .before .before .args .p) 0) (c .before .before .before .before .before .before .before .before .before .args .p) ≡ true
 sought-here c = let d = c .before .before .before .before .before in sym (d .before .is-sought .ensures) ∙ not-false _ (d .if1 .left)
 
--- src/gather.rt:68:9
 returns-2 : tie.Need-returns-2
 returns-2 c = λ s h v. let d = c .before .before .before .before in
     let a = d .before .before .before .before .before .before .args in
@@ -82,7 +58,6 @@ returns-2 c = λ s h v. let d = c .before .before .before .before in
     (sought-here (c .before))
     (d .minus .result) (d .minus .ensures) (c .before .before .seek .result) (c .before .before .seek .ensures) (sym (c .before .stands-at .ensures) ∙ not-true _ (c .if2 .taken)))
 
--- src/gather.rt:70:9
 values-at-requires : tie.Need-values-at-requires
 values-at-requires c κs =
     let d = c .before .before .before .before in
@@ -91,15 +66,12 @@ values-at-requires c κs =
     let within : i < a .m = stands-within (a .w) (now (a .scratch)) (a .m) (d .minus .result) i (sym (c .before .stands-at .ensures) ∙ not-false _ (c .if2 .left)) in
     (search needs, (omega arith, omega (arith, place-within i (a .m) (a .w) within)))
 
--- src/gather.rt:72:14
 or-words-requires : tie.Need-or-words-requires
 or-words-requires c κs = search needs
 
--- src/gather.rt:73:15
 and-words-requires : tie.Need-and-words-requires
 and-words-requires c κs = search needs
 
--- src/gather.rt:40:1
 returns-3 : tie.Need-returns-3
 returns-3 c = λ s h v. let b = c .before .before .before in
     let d = b .before .before .before .before in

@@ -1,16 +1,10 @@
 -- Each turn considers one more process: the law `gathered-more`.
 use native.Mathlib.Omega.{arith}
-use mathlib.Core.Path.{_≡_, refl, sym, ap, _∙_}
-use Prim.Native.Nat.{ℕ, _≤_, _<_, _-_, _+_, _*_}
-use mathlib.Core.List.{List, _++_}
-use lib.ListN.{length, getD, take, drop, set, length-set}
-use mathlib.Core.Logic.{⊎-elim}
+use mathlib.Core.Path.{_≡_, sym, ap, _∙_}
+use Prim.Native.Nat.{_≤_, _-_}
 use borrow.Author.Needs.{needs}
 use Rattle.window.proofs.gather.gather.Statement.{statement}
 use Rattle.window.proofs.gather.gather.Tie as tie
-use Rattle.window.proofs.gather.gather.Reads as reads
-use Rattle.window.proofs.gather.gather.Lts as lts
-use Rattle.window.proofs.gather.consider.Reads as consider-reads
 use Rattle.window.specs.Bytes.{frontiers}
 use Rattle.window.specs.Step.{Setting, gathered, consider}
 use Rattle.window.specs.StepCode.{gatheredOf}
@@ -23,25 +17,20 @@ Inv-loop scratch w m mask g found₀ p₀ found p = (p ≤ 8) × ((s : Setting) 
 abbrev μ-loop : tie.MeasureT-loop
 μ-loop scratch w m mask g found₀ p₀ found p = 8 - p
 
--- src/gather.rt:98:5
 loop-holds : tie.Need-loop-holds Inv-loop μ-loop
 loop-holds c =
     let a = c .before .args in
     (search needs, λ s h v. sym (gathered-none s (frontiers (a .w) (now (a .scratch)) (a .m)) (a .hints) (a .g)))
 
--- src/gather.rt:99:13
 consider-requires : tie.Need-consider-requires Inv-loop μ-loop
 consider-requires c κs = search needs
 
--- src/gather.rt:101:13
 add-p : tie.Need-add-p Inv-loop μ-loop
 add-p c = search needs
 
--- src/gather.rt:98:5
 loop-less : tie.Need-loop-less Inv-loop μ-loop
 loop-less c = search needs
 
--- src/gather.rt:98:5
 loop-again : tie.Need-loop-again Inv-loop μ-loop
 loop-again c =
     let a = c .before .before .before .before .args in
@@ -49,7 +38,6 @@ loop-again c =
     let laid = frontiers (a .w) (now (a .scratch)) (a .m) in
     (search needs, λ s h v. c .consider .ensures s h v ∙ ap (consider s laid (a .g) (l .p)) (l .inv .1 s h v) ∙ sym (gathered-more s laid (a .hints) (a .g) (l .p)))
 
--- src/gather.rt:79:1
 returns : tie.Need-returns Inv-loop μ-loop
 returns c =
     let a = c .before .before .before .args in

@@ -1,45 +1,30 @@
 -- Each test decides as in the definition.
-use native.Mathlib.Omega.{arith}
-use mathlib.Core.Path.{_≡_, refl, sym, ap, _∙_}
-use Prim.Native.Nat.{ℕ, _≤_, _<_, _-_, _+_, _*_}
-use mathlib.Core.List.{List, _++_}
-use lib.ListN.{length, getD, take, drop, set, length-set}
-use mathlib.Core.Logic.{⊎-elim}
+use mathlib.Core.Path.{_≡_, sym, _∙_}
 use borrow.Author.Needs.{needs}
 use Rattle.window.proofs.gather.is_sought.Statement.{statement}
 use Rattle.window.proofs.gather.is_sought.Tie as tie
-use Rattle.window.proofs.gather.is_sought.Reads as reads
-use Rattle.window.proofs.gather.is_sought.Lts as lts
-use Rattle.codec.proofs.has_bit.Reads as has-bit-reads
-use Rattle.codec.proofs.lowest_bit.Reads as lowest-bit-reads
-use mathlib.Core.Bool.{Bool, true, false}
-use lib.Dec.{eqb}
+use mathlib.Core.Bool.{true, false}
 use borrow.Author.Tests.{eq-eqb, ne-eqb}
 use Rattle.codec.specs.Bit.{bit}
 
--- src/gather.rt:19:8
 has-bit-requires : tie.Need-has-bit-requires
 has-bit-requires c κs = search needs
 
--- src/gather.rt:20:9
 returns : tie.Need-returns
 returns c =
     let a = c .before .before .args in
     let yes : bit (a .mask) (a .p) ≡ true = sym (c .before .has-bit .ensures) ∙ c .if1 .taken in
     rw yes
 
--- src/gather.rt:23:9
 returns-2 : tie.Need-returns-2
 returns-2 c =
     let a = c .before .before .before .args in
     let no : bit (a .mask) (a .p) ≡ false = sym (c .before .before .has-bit .ensures) ∙ c .before .if1 .left in
     rw (no, eq-eqb _ _ (c .if2 .taken))
 
--- src/gather.rt:25:5
 lowest-bit-requires : tie.Need-lowest-bit-requires
 lowest-bit-requires c κs = search needs
 
--- src/gather.rt:14:1
 returns-3 : tie.Need-returns-3
 returns-3 c =
     let a = c .before .before .before .before .args in

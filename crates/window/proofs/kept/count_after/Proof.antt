@@ -1,17 +1,11 @@
 -- Each turn adds what comes of one more frontier: the law `keptAfter-more`.
 use native.Mathlib.Omega.{arith}
-use mathlib.Core.Path.{_≡_, refl, sym, ap, _∙_}
-use Prim.Native.Nat.{ℕ, _≤_, _<_, _-_, _+_, _*_}
-use mathlib.Core.List.{List, _++_}
-use lib.ListN.{length, getD, take, drop, set, length-set}
-use mathlib.Core.Logic.{⊎-elim}
+use mathlib.Core.Path.{_≡_, sym, ap, _∙_}
+use Prim.Native.Nat.{ℕ, _≤_, _-_, _*_}
+use mathlib.Core.List.{List}
 use borrow.Author.Needs.{needs}
 use Rattle.window.proofs.kept.count_after.Statement.{statement}
 use Rattle.window.proofs.kept.count_after.Tie as tie
-use Rattle.window.proofs.kept.count_after.Reads as reads
-use Rattle.window.proofs.kept.count_after.Lts as lts
-use Rattle.window.proofs.kept.counts_at.Reads as counts-at-reads
-use Rattle.window.proofs.kept.kept_of.Reads as kept-of-reads
 use denote.Ref.{now}
 use Rattle.window.specs.WindowLaws.{place-within}
 use Rattle.window.specs.Bytes.{frontiers, frontierAt}
@@ -25,35 +19,28 @@ Inv-loop window w n k closed e reached total₀ i₀ total i = (i ≤ n) × (tot
 abbrev μ-loop : tie.MeasureT-loop
 μ-loop window w n k closed e reached total₀ i₀ total i = n - i
 
--- src/kept.rt:97:5
 loop-holds : tie.Need-loop-holds Inv-loop μ-loop
 loop-holds c =
     let a = c .before .args in
     (search needs, search needs, λ table lines. sym (keptAfter-none (settingWith (a .k) (a .closed) table lines (a .e) (a .reached)) (a .w) (now (a .window))))
 
--- src/kept.rt:98:13
 counts-at-requires : tie.Need-counts-at-requires Inv-loop μ-loop
 counts-at-requires c κs =
     let a = c .before .before .before .args in
     (search needs, (search needs, omega (arith, place-within (c .before .loop .i) (a .n) (a .w) (search needs))))
 
--- src/kept.rt:99:25
 kept-of-requires : tie.Need-kept-of-requires Inv-loop μ-loop
 kept-of-requires c κs = search needs
 
--- src/kept.rt:99:17
 add-total : tie.Need-add-total Inv-loop μ-loop
 add-total c = search needs
 
--- src/kept.rt:100:13
 add-i : tie.Need-add-i Inv-loop μ-loop
 add-i c = search needs
 
--- src/kept.rt:97:5
 loop-less : tie.Need-loop-less Inv-loop μ-loop
 loop-less c = search needs
 
--- src/kept.rt:97:5
 loop-again : tie.Need-loop-again Inv-loop μ-loop
 loop-again c =
     let a = c .before .before .before .before .before .args in
@@ -62,7 +49,6 @@ loop-again c =
     c .kept-of .ensures .0 ∙ ap (keptOf (a .k) (a .closed) (a .e) (a .reached)) (c .before .counts-at .ensures) in
     (search needs, search needs, λ table lines. rw (e, l .inv .2 table lines) (sym (keptAfter-more (a .k) (a .closed) table lines (a .e) (a .reached) (a .w) (now (a .window)) (l .i))))
 
--- src/kept.rt:79:1
 returns : tie.Need-returns Inv-loop μ-loop
 returns c =
     let e : c .before .loop .i ≡ c .before .before .before .args .n = omega arith in

@@ -1,17 +1,10 @@
 -- No process passed is open and complete; the first that is decides.
 use native.Mathlib.Omega.{arith}
-use mathlib.Core.Path.{_≡_, refl, sym, ap, _∙_}
-use Prim.Native.Nat.{ℕ, _≤_, _<_, _-_, _+_, _*_}
-use mathlib.Core.List.{List, _++_}
-use lib.ListN.{length, getD, take, drop, set, length-set}
-use mathlib.Core.Logic.{⊎-elim}
+use mathlib.Core.Path.{_≡_, sym, ap, _∙_}
+use Prim.Native.Nat.{_≤_, _-_}
 use borrow.Author.Needs.{needs}
 use Rattle.window.proofs.kept.is_complete.Statement.{statement}
 use Rattle.window.proofs.kept.is_complete.Tie as tie
-use Rattle.window.proofs.kept.is_complete.Reads as reads
-use Rattle.window.proofs.kept.is_complete.Lts as lts
-use Rattle.codec.proofs.has_bit.Reads as has-bit-reads
-use Rattle.window.proofs.kept.complete_at.Reads as complete-at-reads
 use mathlib.Core.Bool.{Bool, false, not, _&&_}
 use lib.Dec.{eqb}
 use Rattle.clocks.specs.Counts.{at}
@@ -25,35 +18,27 @@ Inv-loop k closed reached counts p₀ p = (p ≤ k) × (anyBelow p (completeAt c
 abbrev μ-loop : tie.MeasureT-loop
 μ-loop k closed reached counts p₀ p = k - p
 
--- src/kept.rt:29:5
 loop-holds : tie.Need-loop-holds Inv-loop μ-loop
 loop-holds c = (search needs, any-none _)
 
--- src/kept.rt:30:17
 cast-i : tie.Need-cast-i Inv-loop μ-loop
 cast-i c = search needs
 
--- src/kept.rt:31:24
 has-bit-requires : tie.Need-has-bit-requires Inv-loop μ-loop
 has-bit-requires c κs = search needs
 
--- src/kept.rt:31:51
 mul-complete-at : tie.Need-mul-complete-at Inv-loop μ-loop
 mul-complete-at c = search needs
 
--- src/kept.rt:31:51
 array-read-complete-at : tie.Need-array-read-complete-at Inv-loop μ-loop
 array-read-complete-at c = search needs
 
--- src/kept.rt:31:62
 mul-complete-at-2 : tie.Need-mul-complete-at-2 Inv-loop μ-loop
 mul-complete-at-2 c = search needs
 
--- src/kept.rt:31:62
 array-read-complete-at-2 : tie.Need-array-read-complete-at-2 Inv-loop μ-loop
 array-read-complete-at-2 c = search needs
 
--- src/kept.rt:31:12
 complete-at-requires : tie.Need-complete-at-requires Inv-loop μ-loop
 complete-at-requires c κs = search needs
 
@@ -63,27 +48,22 @@ here c = let a = c .before .before .before .before .args in
     let p = c .before .before .before .loop .p in
     ap (λ (b : Bool). not b && eqb (at (a .t4) p) (at (a .t3) p)) (sym (c .before .has-bit .ensures)) ∙ sym (c .complete-at .ensures)
 
--- src/kept.rt:32:13
 returns : tie.Need-returns Inv-loop μ-loop
 returns c =
     let a = c .before .before .before .before .before .args in
     sym (any-stop (a .k) (c .before .before .before .before .loop .p) (completeAt (a .closed) (a .t3) (a .t4)) (search needs) (here (c .before) ∙ c .if1 .taken))
 
--- src/kept.rt:34:13
 add-p : tie.Need-add-p Inv-loop μ-loop
 add-p c = search needs
 
--- src/kept.rt:29:5
 loop-less : tie.Need-loop-less Inv-loop μ-loop
 loop-less c = search needs
 
--- src/kept.rt:29:5
 loop-again : tie.Need-loop-again Inv-loop μ-loop
 loop-again c =
     let a = c .before .before .before .before .before .args in
     (search needs, any-next (c .before .before .before .before .loop .p) (completeAt (a .closed) (a .t3) (a .t4)) (c .before .before .before .before .loop .inv .1) (here (c .before) ∙ c .if1 .left))
 
--- src/kept.rt:24:1
 returns-2 : tie.Need-returns-2 Inv-loop μ-loop
 returns-2 c = let e : c .before .loop .p ≡ c .before .before .args .k = omega arith in rw (← e) (sym (c .before .loop .inv .1))
 

@@ -1,49 +1,34 @@
 -- The new frontier is that of the definition, and stands behind those laid down.
-use native.Mathlib.Omega.{arith}
-use mathlib.Core.Path.{_≡_, refl, sym, ap, _∙_}
-use Prim.Native.Nat.{ℕ, _≤_, _<_, _-_, _+_, _*_, _^_}
+use mathlib.Core.Path.{_≡_, refl, sym, ap, _∙_, subst}
+use Prim.Native.Nat.{ℕ, _<_, _+_, _^_}
 use mathlib.Core.List.{List, [], _∷_, _++_}
-use lib.ListN.{length, getD, take, drop, set, length-set}
-use mathlib.Core.Logic.{⊎-elim}
 use borrow.Author.Needs.{needs}
 use Rattle.window.proofs.lay.lay_fresh.Statement.{statement}
 use Rattle.window.proofs.lay.lay_fresh.Tie as tie
-use Rattle.window.proofs.lay.lay_fresh.Reads as reads
-use Rattle.window.proofs.lay.lay_fresh.Lts as lts
-use Rattle.rules.proofs.judge.Reads as judge-reads
-use Rattle.window.proofs.advance.advanced.Reads as advanced-reads
-use Rattle.window.proofs.gather.gather.Reads as gather-reads
-use Rattle.window.proofs.lay.frontier_at.Reads as frontier-at-reads
-use Rattle.window.proofs.stored.lay_frontier.Reads as lay-frontier-reads
 use denote.Ref.{now}
-use Rattle.window.specs.Bytes.{frontierAt, frontiers, frontierLength, frontierBytes}
+use Rattle.window.specs.Bytes.{frontierAt, frontiers}
 use Rattle.window.specs.WindowLaws.{frontiers-stored}
 use Rattle.window.specs.Shaped.{Shaped}
 use Rattle.window.specs.ShapeLaws.{shaped-at, shaped-advanced}
 use lib.Dec.{T}
-use mathlib.Core.Path.{subst}
 use Rattle.clocks.specs.Counts.{at}
 use Rattle.clocks.specs.Tested.{ready}
 use Rattle.window.specs.declared.Frontier.{Frontier}
 use Rattle.window.specs.Step.{Setting, advanced}
-use Rattle.window.specs.StepCode.{settingWith, freshFrom}
+use Rattle.window.specs.StepCode.{settingWith}
 use Rattle.window.specs.GatherLaws.{hints-are, fresh-is}
 
--- src/lay.rt:62:9
 frontier-at-requires : tie.Need-frontier-at-requires
 frontier-at-requires c κs = search needs
 
--- src/lay.rt:63:9
 advanced-requires : tie.Need-advanced-requires
 advanced-requires c κs =
     let a = c .before .before .before .before .args in
     subst (λ (f : Frontier). T (ready 8 (a .e) (at (f .counts)))) (sym (c .frontier-at .ensures)) (c .before .before .before .before .pre .1 .1 .1 .1 .1)
 
--- src/lay.rt:65:9
 gather-requires : tie.Need-gather-requires
 gather-requires c κs = search needs
 
--- src/lay.rt:71:9
 judge-requires : tie.Need-judge-requires
 judge-requires c κs = c .before .before .before .before .before .before .before .before .before .before .pre .1 .1 .1 .1 .0
 
@@ -62,17 +47,14 @@ proper c =
     subst (λ (g : Frontier). Shaped (a .w) (record { counts = g .counts; labels = g .labels; masks = g .masks; values = c .judge .result })) (sym (leads (c .before .before .before .before .before .before) s refl refl))
     (shaped-advanced (a .w) s (a .e) f (c .judge .result) refl refl (p .1 .0) (shaped-at (a .w) (now (a .window)) (a .j) (λ i. c .before .before .before .before .before .before .before .before .before .before .shared-slice-known .given i .fits) (p .1 .1 .0 .1)) (p .1 .1 .1 .1 .1) small)
 
--- src/lay.rt:78:5
 lay-frontier-requires : tie.Need-lay-frontier-requires
 lay-frontier-requires c κs =
     let p = c .before .before .before .before .before .before .before .before .before .before .before .before .pre in
     (p .0, (p .1 .1 .1 .0 .0, (p .1 .1 .1 .0 .1, λ q. proper (c .before) .counts-fit q)))
 
--- src/lay.rt:41:1
 same-length : tie.Need-same-length
 same-length c = search needs
 
--- src/lay.rt:41:1
 returns : tie.Need-returns
 returns c =
     let b = c .before .before .before .before .before in

@@ -1,26 +1,18 @@
 -- One more frontier stands behind those laid down: the law `frontiers-stored`.
-use native.Mathlib.Omega.{arith}
-use mathlib.Core.Path.{_≡_, refl, sym, ap, _∙_}
-use Prim.Native.Nat.{ℕ, _≤_, _<_, _-_, _+_, _*_}
+use mathlib.Core.Path.{ap, _∙_}
+use Prim.Native.Nat.{ℕ, _≤_, _+_, _*_}
 use mathlib.Core.List.{List, [], _∷_, _++_}
-use lib.ListN.{length, getD, take, drop, set, length-set}
-use mathlib.Core.Logic.{⊎-elim}
+use lib.ListN.{length}
 use borrow.Author.Needs.{needs}
 use Rattle.window.proofs.lay.lay_staying.Statement.{statement}
 use Rattle.window.proofs.lay.lay_staying.Tie as tie
-use Rattle.window.proofs.lay.lay_staying.Reads as reads
-use Rattle.window.proofs.lay.lay_staying.Lts as lts
-use Rattle.window.proofs.lay.frontier_at.Reads as frontier-at-reads
-use Rattle.window.proofs.stored.lay_frontier.Reads as lay-frontier-reads
 use denote.Ref.{now}
-use Rattle.window.specs.Bytes.{frontierAt, frontiers, frontierLength, frontierBytes}
+use Rattle.window.specs.Bytes.{frontierAt, frontiers, frontierLength}
 use Rattle.window.specs.WindowLaws.{frontiers-stored}
 use Rattle.window.specs.Shaped.{Shaped}
 use Rattle.window.specs.ShapeLaws.{shaped-at}
-use lib.Seq.{sets}
 use Rattle.window.specs.declared.Frontier.{Frontier}
 
--- src/lay.rt:36:9
 frontier-at-requires : tie.Need-frontier-at-requires
 frontier-at-requires c κs = search needs
 
@@ -30,15 +22,12 @@ proper c =
     let a = c .before .before .before .args in
     rw (c .frontier-at .ensures) (shaped-at (a .w) (now (a .window)) (a .i) (λ i. c .before .before .shared-slice-known .given i .fits) (search needs))
 
--- src/lay.rt:37:5
 lay-frontier-requires : tie.Need-lay-frontier-requires
 lay-frontier-requires c κs = (search needs, (search needs, (search needs, λ p. proper (c .before) .counts-fit p)))
 
--- src/lay.rt:29:1
 same-length : tie.Need-same-length
 same-length c = search needs
 
--- src/lay.rt:29:1
 returns : tie.Need-returns
 returns c =
     let b = c .before .before .before .before in

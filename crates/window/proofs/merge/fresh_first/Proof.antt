@@ -1,24 +1,15 @@
 -- The tests lead as in `freshAt`.
 use native.Mathlib.Omega.{arith}
-use mathlib.Core.Path.{_≡_, refl, sym, ap, _∙_}
-use Prim.Native.Nat.{ℕ, _≤_, _<_, _-_, _+_, _*_}
-use mathlib.Core.List.{List, _++_}
-use lib.ListN.{length, getD, take, drop, set, length-set}
-use mathlib.Core.Logic.{⊎-elim}
+use mathlib.Core.Path.{_≡_, sym, ap, _∙_, subst}
+use Prim.Native.Nat.{ℕ}
+use mathlib.Core.List.{List}
 use borrow.Author.Needs.{needs}
 use Rattle.window.proofs.merge.fresh_first.Statement.{statement}
 use Rattle.window.proofs.merge.fresh_first.Tie as tie
-use Rattle.window.proofs.merge.fresh_first.Reads as reads
-use Rattle.window.proofs.merge.fresh_first.Lts as lts
-use Rattle.clocks.proofs.step.apply.Reads as apply-reads
-use Rattle.window.proofs.kept.counts_at.Reads as counts-at-reads
-use Rattle.window.proofs.order.counts_before.Reads as counts-before-reads
 use denote.Ref.{now}
-use mathlib.Core.Bool.{true, false}
 use borrow.Author.Tests.{lt-ltb, le-ltb}
 use Rattle.window.specs.WindowLaws.{place-within}
-use lib.Dec.{T, ltb}
-use mathlib.Core.Path.{subst}
+use lib.Dec.{T}
 use Rattle.clocks.specs.Event.{apply}
 use Rattle.clocks.specs.EventLaws.{true-T}
 use Rattle.clocks.specs.Counts.{at, listOf}
@@ -26,37 +17,30 @@ use Rattle.clocks.specs.Tested.{ready}
 use Rattle.window.specs.Bytes.{frontierAt}
 use Rattle.window.specs.Order.{before}
 
--- src/merge.rt:71:9
 returns : tie.Need-returns
 returns c = let a = c .before .before .args in rw (le-ltb (a .j) (a .n) (search needs))
 
--- src/merge.rt:74:9
 returns-2 : tie.Need-returns-2
 returns-2 c = let a = c .before .before .before .args in rw (lt-ltb (a .j) (a .n) (search needs), le-ltb (a .i) (a .n) (search needs))
 
--- src/merge.rt:76:9
 counts-at-requires : tie.Need-counts-at-requires
 counts-at-requires c κs =
     let a = c .before .before .before .args in
     (search needs, (omega arith, omega (arith, place-within (a .j) (a .n) (a .w) (search needs))))
 
--- src/merge.rt:77:9
 apply-requires : tie.Need-apply-requires
 apply-requires c κs =
     let a = c .before .before .before .before .args in
     subst (λ (counts : List ℕ). T (ready 8 (a .e) (at counts))) (sym (c .counts-at .ensures)) (true-T (c .before .before .before .before .pre .1 .1 (search needs)))
 
--- src/merge.rt:78:9
 counts-at-requires-2 : tie.Need-counts-at-requires-2
 counts-at-requires-2 c κs =
     let a = c .before .before .before .before .before .args in
     (search needs, (omega arith, omega (arith, place-within (a .i) (a .n) (a .w) (search needs))))
 
--- src/merge.rt:79:5
 counts-before-requires : tie.Need-counts-before-requires
 counts-before-requires c κs = search needs
 
--- src/merge.rt:64:1
 returns-3 : tie.Need-returns-3
 returns-3 c =
     let a = c .before .before .before .before .before .before .before .args in

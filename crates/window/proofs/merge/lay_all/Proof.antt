@@ -1,29 +1,18 @@
 -- Each turn lays down the next slot: the laws `laid-staying` and `laid-fresh`.
 use native.Mathlib.Omega.{arith}
 use mathlib.Core.Path.{_≡_, refl, sym, ap, _∙_}
-use Prim.Native.Nat.{ℕ, _≤_, _<_, _-_, _+_, _*_}
-use mathlib.Core.List.{List, _++_}
-use lib.ListN.{length, getD, take, drop, set, length-set}
-use mathlib.Core.Logic.{⊎-elim}
+use Prim.Native.Nat.{_≤_, _<_, _-_, _+_}
+use lib.ListN.{length}
 use borrow.Author.Needs.{needs}
 use Rattle.window.proofs.merge.lay_all.Statement.{statement}
 use Rattle.window.proofs.merge.lay_all.Tie as tie
-use Rattle.window.proofs.merge.lay_all.Reads as reads
-use Rattle.window.proofs.merge.lay_all.Lts as lts
-use Rattle.window.proofs.lay.lay_fresh.Reads as lay-fresh-reads
-use Rattle.window.proofs.lay.lay_staying.Reads as lay-staying-reads
-use Rattle.window.proofs.merge.fresh_first.Reads as fresh-first-reads
-use Rattle.window.proofs.merge.next_enabled.Reads as next-enabled-reads
-use Rattle.window.proofs.merge.next_staying.Reads as next-staying-reads
 use denote.Ref.{now}
-use mathlib.Core.Bool.{true, false}
-use Rattle.window.specs.Bytes.{frontierAt, frontiers}
+use Rattle.window.specs.Bytes.{frontiers}
 use Rattle.window.specs.WindowLaws.{place-within}
 use Rattle.window.specs.StepCode.{settingWith}
-use Rattle.window.specs.Step.{Setting, stays, enabledAt}
-use Rattle.window.specs.Laying.{Laying, keeps, takes, restOf, freshAt}
+use Rattle.window.specs.Step.{stays, enabledAt}
+use Rattle.window.specs.Laying.{Laying}
 use Rattle.window.specs.LayingLaws.{laying-start, staying-left, leading-left, laid-staying, laid-fresh, laid-all}
-use lib.ListN.{replicate}
 use Rattle.clocks.specs.EventLaws.{true-T}
 use Rattle.clocks.specs.Counts.{listOf}
 
@@ -36,15 +25,12 @@ abbrev μ-loop : tie.MeasureT-loop
 μ-loop window scratch₀ w n kept k closed e reached table lines hints₀ i₀ j₀ m₀ scratch hints i j m =
     kept - m
 
--- src/merge.rt:107:9
 next-staying-requires : tie.Need-next-staying-requires Inv-loop μ-loop
 next-staying-requires c κs = search needs
 
--- src/merge.rt:108:9
 next-enabled-requires : tie.Need-next-enabled-requires Inv-loop μ-loop
 next-enabled-requires c κs = search needs
 
--- src/merge.rt:110:5
 loop-holds : tie.Need-loop-holds Inv-loop μ-loop
 unfolding stays enabledAt frontiers listOf
 loop-holds c =
@@ -58,7 +44,6 @@ loop-holds c =
           (c .next-enabled .result) (c .next-enabled .ensures .0) (c .next-enabled .ensures .1 .0) (c .next-enabled .ensures .1 .1),
     )
 
--- src/merge.rt:111:12
 fresh-first-requires : tie.Need-fresh-first-requires Inv-loop μ-loop
 unfolding enabledAt
 fresh-first-requires c κs = (search needs, (search needs, c .before .loop .inv .4 .leading-here))
@@ -70,7 +55,6 @@ leading c =
     let l = c .before .before .before .before .loop in
     leading-left (settingWith (a .k) (a .closed) (now (a .table)) (a .lines) (a .e) (a .reached)) (a .e) refl refl (a .w) (now (a .window)) (a .n) (a .kept) (frontiers (a .w) (l .scratch) (l .m)) (l .hints) (l .i) (l .j) (l .m) (l .inv .4) (search needs) (sym (c .before .before .fresh-first .ensures) ∙ c .before .if1 .taken)
 
--- src/merge.rt:112:17
 lay-fresh-requires : tie.Need-lay-fresh-requires Inv-loop μ-loop
 unfolding enabledAt
 lay-fresh-requires c κs =
@@ -81,23 +65,18 @@ lay-fresh-requires c κs =
     let room = place-within (l .m) (a .kept) (a .w) (search needs) in
     (p .0, (p .1 .0, ((omega arith, omega (arith, place-within (l .j) (a .n) (a .w) here)), ((omega arith, omega (arith, room)), (p .1 .1 .1 .1 .0, true-T (l .inv .4 .leading-here here))))))
 
--- src/merge.rt:114:44
 add-next-enabled : tie.Need-add-next-enabled Inv-loop μ-loop
 add-next-enabled c = let here = leading (c .before .before .before) in search needs
 
--- src/merge.rt:114:13
 next-enabled-requires-2 : tie.Need-next-enabled-requires-2 Inv-loop μ-loop
 next-enabled-requires-2 c κs = let here = leading (c .before .before .before) in (search needs, (search needs, omega arith))
 
--- src/merge.rt:115:17
 add-m : tie.Need-add-m Inv-loop μ-loop
 add-m c = search needs
 
--- src/merge.rt:110:5
 loop-less : tie.Need-loop-less Inv-loop μ-loop
 loop-less c = search needs
 
--- src/merge.rt:110:5
 loop-again : tie.Need-loop-again Inv-loop μ-loop
 unfolding stays enabledAt
 loop-again c =
@@ -120,7 +99,6 @@ remains c =
     let l = c .before .before .before .before .loop in
     staying-left (settingWith (a .k) (a .closed) (now (a .table)) (a .lines) (a .e) (a .reached)) (a .e) refl refl (a .w) (now (a .window)) (a .n) (a .kept) (frontiers (a .w) (l .scratch) (l .m)) (l .hints) (l .i) (l .j) (l .m) (l .inv .4) (search needs) (sym (c .before .before .fresh-first .ensures) ∙ c .before .if1 .left)
 
--- src/merge.rt:117:13
 lay-staying-requires : tie.Need-lay-staying-requires Inv-loop μ-loop
 lay-staying-requires c κs =
     let a = c .before .before .before .before .before .before .before .before .before .before .args in
@@ -130,23 +108,18 @@ lay-staying-requires c κs =
     let room = place-within (l .m) (a .kept) (a .w) (search needs) in
     (p .0, ((omega arith, omega (arith, place-within (l .i) (a .n) (a .w) here)), (omega arith, omega (arith, room))))
 
--- src/merge.rt:118:44
 add-next-staying : tie.Need-add-next-staying Inv-loop μ-loop
 add-next-staying c = let here = remains (c .before .before .before) in search needs
 
--- src/merge.rt:118:13
 next-staying-requires-2 : tie.Need-next-staying-requires-2 Inv-loop μ-loop
 next-staying-requires-2 c κs = let here = remains (c .before .before .before) in (search needs, (search needs, (omega arith, search needs)))
 
--- src/merge.rt:119:17
 add-m-2 : tie.Need-add-m-2 Inv-loop μ-loop
 add-m-2 c = search needs
 
--- src/merge.rt:110:5
 loop-less-2 : tie.Need-loop-less-2 Inv-loop μ-loop
 loop-less-2 c = search needs
 
--- src/merge.rt:110:5
 loop-again-2 : tie.Need-loop-again-2 Inv-loop μ-loop
 unfolding stays enabledAt
 loop-again-2 c =
@@ -161,11 +134,9 @@ loop-again-2 c =
           (c .next-staying2 .result) (c .next-staying2 .ensures .0) (c .next-staying2 .ensures .1 .0) (c .next-staying2 .ensures .1 .1),
     )
 
--- src/merge.rt:83:1
 same-length : tie.Need-same-length Inv-loop μ-loop
 same-length c = search needs
 
--- src/merge.rt:83:1
 returns : tie.Need-returns Inv-loop μ-loop
 returns c =
     let a = c .before .before .before .before .before .before .before .args in

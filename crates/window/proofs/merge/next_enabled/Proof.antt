@@ -1,22 +1,15 @@
 -- Each frontier passed is none of those sought: the law `rest-pass`.
 use native.Mathlib.Omega.{arith}
-use mathlib.Core.Path.{_≡_, refl, sym, ap, _∙_}
-use Prim.Native.Nat.{ℕ, _≤_, _<_, _-_, _+_, _*_}
-use mathlib.Core.List.{List, _++_}
-use lib.ListN.{length, getD, take, drop, set, length-set}
-use mathlib.Core.Logic.{⊎-elim}
+use mathlib.Core.Path.{_≡_, sym, ap, _∙_}
+use Prim.Native.Nat.{ℕ, _≤_, _-_}
+use mathlib.Core.List.{List}
 use borrow.Author.Needs.{needs}
 use Rattle.window.proofs.merge.next_enabled.Statement.{statement}
 use Rattle.window.proofs.merge.next_enabled.Tie as tie
-use Rattle.window.proofs.merge.next_enabled.Reads as reads
-use Rattle.window.proofs.merge.next_enabled.Lts as lts
-use Rattle.clocks.proofs.step.ready.Reads as ready-reads
-use Rattle.window.proofs.kept.counts_at.Reads as counts-at-reads
 use denote.Ref.{now}
-use mathlib.Core.Bool.{true, false}
 use Rattle.window.specs.Bytes.{frontierAt}
 use Rattle.window.specs.WindowLaws.{place-within}
-use Rattle.window.specs.Laying.{keeps, takes, restOf}
+use Rattle.window.specs.Laying.{takes, restOf}
 use Rattle.window.specs.LayingLaws.{rest-pass}
 use native.Mathlib.Nat.{le-refl}
 use Rattle.clocks.specs.Counts.{at}
@@ -28,17 +21,14 @@ Inv-loop window w n j e next₀ next = (next ≤ n) × (restOf (takes e) w windo
 abbrev μ-loop : tie.MeasureT-loop
 μ-loop window w n j e next₀ next = n - next
 
--- src/merge.rt:53:5
 loop-holds : tie.Need-loop-holds Inv-loop μ-loop
 loop-holds c = search needs
 
--- src/merge.rt:54:13
 counts-at-requires : tie.Need-counts-at-requires Inv-loop μ-loop
 counts-at-requires c κs =
     let a = c .before .before .before .args in
     (search needs, (search needs, omega (arith, place-within (c .before .loop .next) (a .n) (a .w) (search needs))))
 
--- src/merge.rt:55:12
 ready-requires : tie.Need-ready-requires Inv-loop μ-loop
 ready-requires c κs = search needs
 
@@ -48,26 +38,21 @@ here c =
     let a = c .before .before .before .before .before .args in
     ap (λ (counts : List ℕ). ready 8 (a .e) (at counts)) (sym (c .before .counts-at .ensures)) ∙ sym (c .ready .ensures)
 
--- src/merge.rt:56:13
 returns : tie.Need-returns Inv-loop μ-loop
 returns c = (search needs, (c .before .before .before .before .loop .inv .1, λ l. here (c .before) ∙ c .if1 .taken))
 
--- src/merge.rt:58:16
 add-next : tie.Need-add-next Inv-loop μ-loop
 add-next c = search needs
 
--- src/merge.rt:53:5
 loop-less : tie.Need-loop-less Inv-loop μ-loop
 loop-less c = search needs
 
--- src/merge.rt:53:5
 loop-again : tie.Need-loop-again Inv-loop μ-loop
 loop-again c =
     let a = c .before .before .before .before .before .before .args in
     let l = c .before .before .before .before .loop in
     (search needs, l .inv .1 ∙ rest-pass (takes (a .e)) (a .w) (now (a .window)) (a .n) (l .next) (search needs) (here (c .before) ∙ c .if1 .left))
 
--- src/merge.rt:44:1
 returns-2 : tie.Need-returns-2 Inv-loop μ-loop
 returns-2 c =
     let a = c .before .before .before .args in

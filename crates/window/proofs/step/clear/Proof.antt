@@ -1,20 +1,15 @@
 -- Below i the bytes are 0: the law `fill-more`.
 use native.Mathlib.Omega.{arith}
-use mathlib.Core.Path.{_≡_, refl, sym, ap, _∙_}
-use Prim.Native.Nat.{ℕ, _≤_, _<_, _-_, _+_, _*_}
-use mathlib.Core.List.{List, _++_}
-use lib.ListN.{length, getD, take, drop, set, length-set}
-use mathlib.Core.Logic.{⊎-elim}
+use mathlib.Core.Path.{_≡_, refl, ap, _∙_}
+use Prim.Native.Nat.{ℕ, _≤_, _-_}
+use mathlib.Core.List.{List, _++_, append-nil}
+use lib.ListN.{length, drop, set, replicate}
 use borrow.Author.Needs.{needs}
 use Rattle.window.proofs.step.clear.Statement.{statement}
 use Rattle.window.proofs.step.clear.Tie as tie
-use Rattle.window.proofs.step.clear.Reads as reads
-use Rattle.window.proofs.step.clear.Lts as lts
-use lib.ListN.{replicate}
 use lib.Seq.{drop-length}
 use denote.Ref.{now}
 use borrow.Author.Fill.{fill-none, fill-more}
-use mathlib.Core.List.{append-nil}
 
 abbrev Inv-loop : tie.InvT-loop
 Inv-loop s₀ i₀ s i = (i ≤ length s₀) × (length s ≡ length s₀) × (s ≡ replicate i 0 ++ drop i s₀)
@@ -22,33 +17,26 @@ Inv-loop s₀ i₀ s i = (i ≤ length s₀) × (length s ≡ length s₀) × (s
 abbrev μ-loop : tie.MeasureT-loop
 μ-loop s₀ i₀ s i = length s₀ - i
 
--- src/step.rt:32:5
 loop-holds : tie.Need-loop-holds Inv-loop μ-loop
 loop-holds c = (search needs, refl, fill-none _ 0)
 
--- src/step.rt:33:9
 slice-write-s : tie.Need-slice-write-s Inv-loop μ-loop
 slice-write-s c = search needs
 
--- src/step.rt:34:13
 add-i : tie.Need-add-i Inv-loop μ-loop
 add-i c = search needs
 
--- src/step.rt:32:5
 loop-less : tie.Need-loop-less Inv-loop μ-loop
 loop-less c = search needs
 
--- src/step.rt:32:5
 loop-again : tie.Need-loop-again Inv-loop μ-loop
 loop-again c =
     let l = c .before .loop in
     (search needs, search needs, ap (λ (bs : List ℕ). set bs (l .i) 0) (l .inv .2) ∙ fill-more (l .i) 0 (now (c .before .before .args .s)) (omega arith))
 
--- src/step.rt:28:1
 same-length : tie.Need-same-length Inv-loop μ-loop
 same-length c = search needs
 
--- src/step.rt:28:1
 returns : tie.Need-returns Inv-loop μ-loop
 returns c =
     let l = c .before .loop in

@@ -1,62 +1,45 @@
 -- The bytes of the frontiers, then zeros: the laws `copied-cleared` and `framed-frontiers`.
 use native.Mathlib.Omega.{arith}
-use mathlib.Core.Path.{_≡_, refl, sym, ap, _∙_}
-use Prim.Native.Nat.{ℕ, _≤_, _<_, _-_, _+_, _*_}
-use mathlib.Core.List.{List, _++_}
-use lib.ListN.{length, getD, take, drop, set, length-set}
-use mathlib.Core.Logic.{⊎-elim}
+use mathlib.Core.Path.{_≡_, ap, _∙_}
+use Prim.Native.Nat.{ℕ, _-_, _*_, _<_}
+use mathlib.Core.List.{List}
+use lib.ListN.{getD, length, take, drop, replicate}
 use borrow.Author.Needs.{needs}
 use Rattle.window.proofs.step.copy_back.Statement.{statement}
 use Rattle.window.proofs.step.copy_back.Tie as tie
-use Rattle.window.proofs.step.copy_back.Reads as reads
-use Rattle.window.proofs.step.copy_back.Lts as lts
-use Rattle.window.proofs.place.frontier_place.Reads as frontier-place-reads
-use Rattle.window.proofs.step.clear.Reads as clear-reads
-use Rattle.window.proofs.step.copy_bytes.Reads as copy-bytes-reads
 use denote.Ref.{now}
 use Rattle.window.specs.StoreLaws.{copied-cleared}
-use Rattle.window.specs.Bytes.{frontiers, frontierLength, windowBytes}
-use lib.ListN.{replicate}
+use Rattle.window.specs.Bytes.{frontiers, frontierLength}
 use borrow.Rule.Slice.PartMut.{putMid}
 use Rattle.window.specs.WindowLaws.{windowBytes-frontiers, read-back}
 
--- src/step.rt:48:9
 frontier-place-requires : tie.Need-frontier-place-requires
 frontier-place-requires c κs = search needs
 
--- src/step.rt:49:5
 copy-bytes-requires : tie.Need-copy-bytes-requires
 copy-bytes-requires c κs = search needs
 
--- src/step.rt:50:11
 sub-clear : tie.Need-sub-clear
 sub-clear c = search needs
 
--- src/step.rt:50:11
 part-clear-start : tie.Need-part-clear-start
 part-clear-start c = search needs
 
--- src/step.rt:50:11
 part-clear-end : tie.Need-part-clear-end
 part-clear-end c = search needs
 
--- src/step.rt:50:5
 clear-requires : tie.Need-clear-requires
 clear-requires c κs = search needs
 
--- src/step.rt:51:5
 clear-requires-2 : tie.Need-clear-requires-2
 clear-requires-2 c κs = search needs
 
--- src/step.rt:39:1
 same-length : tie.Need-same-length
 same-length c = search needs
 
--- src/step.rt:39:1
 same-length-2 : tie.Need-same-length-2
 same-length-2 c = search needs
 
--- src/step.rt:39:1
 returns : tie.Need-returns
 returns c =
     let a = c .before .before .before .before .before .before .before .before .before .before .before .before .before .before .before .before .args in

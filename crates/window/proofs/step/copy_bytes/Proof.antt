@@ -1,15 +1,12 @@
 -- The first i bytes are copied, one more with each turn: the law `copied-more`.
 use native.Mathlib.Omega.{arith}
-use mathlib.Core.Path.{_≡_, refl, sym, ap, _∙_}
-use Prim.Native.Nat.{ℕ, _≤_, _<_, _-_, _+_, _*_}
-use mathlib.Core.List.{List, _++_}
-use lib.ListN.{length, getD, take, drop, set, length-set}
-use mathlib.Core.Logic.{⊎-elim}
+use mathlib.Core.Path.{_≡_, ap, _∙_}
+use Prim.Native.Nat.{ℕ, _≤_, _-_}
+use mathlib.Core.List.{List}
+use lib.ListN.{length, getD, take, set}
 use borrow.Author.Needs.{needs}
 use Rattle.window.proofs.step.copy_bytes.Statement.{statement}
 use Rattle.window.proofs.step.copy_bytes.Tie as tie
-use Rattle.window.proofs.step.copy_bytes.Reads as reads
-use Rattle.window.proofs.step.copy_bytes.Lts as lts
 use lib.Seq.{sets}
 use denote.Ref.{now}
 use Rattle.window.specs.StoreLaws.{copied-more}
@@ -20,38 +17,30 @@ Inv-loop to₀ from count i₀ to i = (i ≤ count) × (length to ≡ length to�
 abbrev μ-loop : tie.MeasureT-loop
 μ-loop to₀ from count i₀ to i = count - i
 
--- src/step.rt:21:5
 loop-holds : tie.Need-loop-holds Inv-loop μ-loop
 loop-holds c = search needs
 
--- src/step.rt:22:17
 shared-slice-read-to : tie.Need-shared-slice-read-to Inv-loop μ-loop
 shared-slice-read-to c = search needs
 
--- src/step.rt:22:9
 slice-write-to : tie.Need-slice-write-to Inv-loop μ-loop
 slice-write-to c = search needs
 
--- src/step.rt:23:13
 add-i : tie.Need-add-i Inv-loop μ-loop
 add-i c = search needs
 
--- src/step.rt:21:5
 loop-less : tie.Need-loop-less Inv-loop μ-loop
 loop-less c = search needs
 
--- src/step.rt:21:5
 loop-again : tie.Need-loop-again Inv-loop μ-loop
 loop-again c =
     let a = c .before .before .before .args in
     let l = c .before .before .loop in
     (search needs, search needs, ap (λ (bs : List ℕ). set bs (l .i) (getD (now (a .from)) (l .i) 0)) (l .inv .2) ∙ copied-more (now (a .to)) (now (a .from)) (l .i) (omega arith))
 
--- src/step.rt:16:1
 same-length : tie.Need-same-length Inv-loop μ-loop
 same-length c = search needs
 
--- src/step.rt:16:1
 returns : tie.Need-returns Inv-loop μ-loop
 returns c =
     let a = c .before .before .args in
