@@ -9,8 +9,8 @@ enum { PROCESSES = 8, ROOM = 1024, FRONTIER = 40, LINES = 8, BYTES = ROOM * FRON
 
 /* Rattle's step: a slice is a pointer and a length. */
 uint64_t bench_step(uint64_t n, uint64_t mask, uint64_t low, uint64_t high, uint64_t labels, uint64_t reached_low,
-                    uint64_t reached_high, const uint8_t *table, uint64_t table_length, uint8_t *frontiers,
-                    uint64_t length, uint8_t *scratch, uint64_t scratch_length);
+                    uint64_t reached_high, uint32_t lines, const uint8_t *table, uint64_t table_length,
+                    uint8_t *frontiers, uint64_t length, uint8_t *scratch, uint64_t scratch_length);
 
 /* Propositions (0, 0) and (1, 0), their conjunction, E(true S both), EY of it, A(not-first S both). */
 static const uint8_t table[3 * LINES] = {0, 0, 0, 0, 1, 0, 2, 0, 1, 1, 0, 0, 4, 3, 2, 3, 4, 0, 5, 3, 2, 2, 4, 6};
@@ -125,8 +125,8 @@ static uint64_t word(const uint16_t *counts) {
 static uint64_t proved_step(size_t n, const Event *e, const uint16_t *reached, void *fs, void *scratch) {
     uint64_t labels = 0;
     memcpy(&labels, e->labels, sizeof labels);
-    return bench_step(n, e->mask, word(e->clock), word(e->clock + 4), labels, word(reached), word(reached + 4), table,
-                      sizeof table, fs, BYTES, scratch, BYTES);
+    return bench_step(n, e->mask, word(e->clock), word(e->clock + 4), labels, word(reached), word(reached + 4), LINES,
+                      table, sizeof table, fs, BYTES, scratch, BYTES);
 }
 
 static double now(void) {

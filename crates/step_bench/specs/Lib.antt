@@ -1,0 +1,2 @@
+-- What the benchmark's step leaves.
+pub mod StepOf
