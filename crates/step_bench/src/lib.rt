@@ -1,7 +1,7 @@
 // The window's step for the benchmark in C: the arguments are tested, and a step that does not fit is not made.
 
 use clocks::Event;
-ghost use Prim.Native.Nat.{_≤_, _<_};
+ghost use Prim.Native.Nat.{_<_};
 ghost use mathlib.Core.Path.{_≡_};
 ghost use lib.ListN.{length};
 ghost use Rattle.window.specs.Bytes.{windowBytes};
@@ -9,8 +9,8 @@ ghost use Rattle.watch.specs.Words.{unpackCounts, unpackLabels};
 ghost use Rattle.step_bench.specs.StepOf.{frontiersAfter};
 
 // One step of a window of n frontiers with counts of two bytes, for eight processes; the counts reached are in the words near (processes 0 to 3)
-// and far. The answer is the number of frontiers after it; it is 0,
-// and nothing is written, where the arguments do not belong together or the frontiers do not fit.
+// and far (4 to 7). The answer is the number of frontiers after it; it is 0, and the frontiers stay, where the arguments do not belong together or
+// the frontiers after it do not fit.
 #[no_mangle]
 pub extern "C" fn bench_step(
     n: u64,
