@@ -49,6 +49,7 @@ pub mod UpdateSteps
 pub mod TurnSteps
 pub mod RefusalSteps
 pub mod OfferSteps
+pub mod TakeSteps
 pub mod FindSteps
 pub mod OpenSteps
 pub mod OpenCallSteps
