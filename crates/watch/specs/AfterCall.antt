@@ -160,7 +160,7 @@ module _ (w k : ℕ) (table : List Line) (start : Cut) (R : Rule w k table start
         let t : n / F < 1025 = div-lt-iff-lt-mul {k = F} {x = n} {y = 1025} (omega arith) .1 (omega arith) in
         omega arith
 
-    take-right : badLengths ≡ false → Watching w k table start (ledgerAfter w bytes L decision) (decided w bytes lent (X .kept) decision .bytes) (decided w bytes lent (X .kept) decision .window)
+    pub take-right : badLengths ≡ false → Watching w k table start (ledgerAfter w bytes L decision) (decided w bytes lent (X .kept) decision .bytes) (decided w bytes lent (X .kept) decision .window)
     unfolding ledgerAfter decided
     take-right h = go trial
       where

@@ -33,6 +33,7 @@ pub mod Deciding
 pub mod TakeLaws
 pub mod AfterCall
 pub mod TakeAnswers
+pub mod TakeLowers
 pub mod OpenLaws
 pub mod Balance
 pub mod Verdicts
