@@ -34,6 +34,7 @@ pub mod TakeLaws
 pub mod AfterCall
 pub mod TakeAnswers
 pub mod TakeLowers
+pub mod FindLaws
 pub mod OpenLaws
 pub mod Balance
 pub mod Verdicts
