@@ -7,6 +7,8 @@ use mathlib.Core.Bool.{Bool, true, false}
 use mathlib.Core.List.{List, [], _∷_}
 use lib.ListN.{drop, drop-of-length-le, length}
 use lib.Seq.{drop-cons}
+use Rattle.watch.specs.declared.Choice.{Choice}
+use Rattle.watch.specs.declared.Choice.the-variants.{Undecided, Falsified, Chosen}
 use Rattle.window.specs.declared.Frontier.{Frontier}
 use Rattle.clocks.specs.declared.Event.{Event}
 use Rattle.clocks.specs.History.{event}
@@ -14,12 +16,18 @@ use Rattle.clocks.specs.Event.{Cut, apply, involved}
 use Rattle.clocks.specs.Counts.{at, listOf}
 use Rattle.clocks.specs.CountsLaws.{length-listOf, getD-listOf, at-listOf-all, at-beyond}
 use Rattle.rules.specs.TableBytes.{linesOf}
-use Rattle.window.specs.Step.{fits}
+use Rattle.window.specs.Step.{fits, keptAfter}
 use Rattle.window.specs.StepCode.{settingWith}
 use Rattle.codec.specs.BitLaws.{bit-above}
 use Rattle.codec.specs.Little.{number}
 use Rattle.watch.specs.Take.{settingIn, readyIn, validIn, Decision, tried, undecided, false-clock, chosen}
 use Rattle.watch.specs.Record.{tablePlace, processCount, lineTotal, pendingCount, takenCounts, tableLines, pendingAt, pendingEvents, takenPlace}
+
+-- A decision as the code has it: with an event to take comes how many frontiers are kept then.
+unfoldable pub choiceOf : ℕ → List ℕ → List Frontier → Decision → Choice
+choiceOf w s fs (undecided seen) = Undecided seen
+choiceOf w s fs (false-clock i) = Falsified i
+choiceOf w s fs (chosen i) = Chosen i (keptAfter (settingIn w s (pendingAt w s i)) fs)
 
 -- The trial from pending event i on.
 unfoldable pub triedFrom : ℕ → List ℕ → ℕ → List Frontier → ℕ → Bool → Decision

@@ -18,5 +18,15 @@ pub mod find;
 pub mod reply;
 // Open: a rule's text read, record and window written.
 pub mod open;
+// Take: the first pending event that is decided is taken, or leaves.
+pub mod take;
 // The functions that C calls.
 pub mod exports;
+
+// What take decides on: nothing (was some event ready?), a pending event that has a false clock, or one that is taken and the frontiers that are
+// kept then.
+pub enum Choice {
+    Undecided { seen: bool },
+    Falsified { place: usize },
+    Chosen { place: usize, kept: usize },
+}
