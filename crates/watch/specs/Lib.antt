@@ -52,6 +52,7 @@ pub mod TurnSteps
 pub mod RefusalSteps
 pub mod OfferSteps
 pub mod TakeSteps
+pub mod TakenSteps
 pub mod FindSteps
 pub mod OpenSteps
 pub mod OpenCallSteps

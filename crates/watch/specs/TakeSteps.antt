@@ -1,12 +1,12 @@
 -- Take's trial one pending event at a time, as a loop goes through them, and the setting of its step by what a record's bytes give.
-use Prim.Native.Nat.{ℕ, _+_, _≤_, _<_, _*_}
+use Prim.Native.Nat.{ℕ, _+_, _-_, _≤_, _<_, _*_}
 use native.Mathlib.Omega.{arith}
 use native.Mathlib.Numerals.{add-one}
 use mathlib.Core.Path.{_≡_, sym, ap, ap₂, _∙_}
 use mathlib.Core.Bool.{Bool, true, false}
 use mathlib.Core.List.{List, [], _∷_}
-use lib.ListN.{drop, drop-of-length-le, length}
-use lib.Seq.{drop-cons}
+use lib.ListN.{take, drop, drop-of-length-le, length, length-drop}
+use lib.Seq.{drop-cons, take-all}
 use Rattle.watch.specs.declared.Choice.{Choice}
 use Rattle.watch.specs.declared.Choice.the-variants.{Undecided, Falsified, Chosen}
 use Rattle.window.specs.declared.Frontier.{Frontier}
@@ -77,3 +77,10 @@ setting-with w s e m = ap (λ (c : Cut). record { stored = 8; processes = proces
 
     silent : (p : ℕ) → 8 ≤ p → apply e (at (takenCounts w s)) p ≡ 0
     silent p l = rw (bit-above (e .mask) 8 p m l, at-beyond (takenCounts w s) p (omega (arith, length-taken)))
+
+-- ... and with the part of the record that is lent as the table.
+pub setting-lent : (w : ℕ) (s : List ℕ) (e : Event) (k place lines : ℕ) (reached : List ℕ) → e .mask < 256
+    → k ≡ processCount s → place ≡ tablePlace w → lines ≡ lineTotal s → reached ≡ listOf 8 (apply e (at (takenCounts w s)))
+    → settingIn w s e ≡ settingWith k 0 (take (length s - place) (drop place s)) lines e reached
+setting-lent w s e k place lines reached m p q l r =
+    rw (p, l, r, take-all (length s - place) (drop place s) (simp length-drop (omega arith)), q) (setting-with w s e m)

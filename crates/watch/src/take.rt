@@ -17,15 +17,19 @@ use crate::reply::state_word;
 use crate::update::count_taken;
 use crate::update::remove_event;
 use clocks::Event;
-ghost use Prim.Native.Nat.{_+_, _*_, _≤_, _<_};
+ghost use Prim.Native.Nat.{ℕ, _*_, _-_, _^_, _≤_, _<_};
 ghost use mathlib.Core.Path.{_≡_};
 ghost use mathlib.Core.Bool.{false, _&&_};
 ghost use lib.Dec.{T, ltb, leb};
-ghost use lib.ListN.{length, replicate};
+ghost use mathlib.Core.List.{map};
+ghost use lib.ListN.{length, getD, replicate};
+ghost use Rattle.codec.specs.Bit.{bit};
+ghost use Rattle.clocks.specs.Counts.{at};
 ghost use Rattle.window.specs.Width.{Width};
-ghost use Rattle.window.specs.Bytes.{frontierLength, frontiers};
-ghost use Rattle.window.specs.Step.{keptAfter};
-ghost use Rattle.watch.specs.Record.{recordLength, processCount, lineTotal, pendingCount, keptCount, pendingAt, pendingEvents};
+ghost use Rattle.window.specs.Bytes.{frontierLength, frontiers, windowBytes};
+ghost use Rattle.window.specs.Step.{keptAfter, stepped};
+ghost use Rattle.window.specs.StepCode.{Fitting};
+ghost use Rattle.watch.specs.Record.{recordLength, processCount, lineTotal, pendingCount, keptCount, pendingAt, pendingEvents, removed, counted};
 ghost use Rattle.watch.specs.Answer.{replyWord};
 ghost use Rattle.watch.specs.Refusals.{roomOf};
 ghost use Rattle.watch.specs.Take.{settingIn, readyIn, tried, chosen, decided, takeWithin, takeCall};
@@ -86,4 +90,101 @@ pub fn decide(s: &[u8], w: usize, window: &[u8], n: usize, allowed: usize) -> Ch
         i += 1;
     }
     choice
+}
+
+// The window's step for a ready event, by the record's table and counts.
+fn step_window(
+    s: &[u8],
+    w: usize,
+    window: &mut [u8],
+    scratch: &mut [u8],
+    n: usize,
+    kept: usize,
+    e: Event,
+)
+    requires { ⌜ Width w ⌝ }
+    requires { ⌜ length (now s) ≡ recordLength w ⌝ }
+    requires { ⌜ (processCount (now s) ≤ 8) × (lineTotal (now s) ≤ 64) ⌝ }
+    requires { ⌜ (n ≤ 1024) × (n * frontierLength w ≤ length (now window)) ⌝ }
+    requires { ⌜ (kept ≤ 1024) × (kept * frontierLength w ≤ length (now window)) ⌝ }
+    requires { ⌜ length (now scratch) ≡ length (now window) ⌝ }
+    requires { ⌜ Fitting w e ⌝ }
+    requires { ⌜ T (readyIn w (now s) e) ⌝ }
+    requires { ⌜ kept ≡ keptAfter (settingIn w (now s) e) (frontiers w (now window) n) ⌝ }
+    ensures window { λ r. ⌜ now (window .exit) ≡ windowBytes w (length (now (window .entry))) (stepped (settingIn w (now (s .entry)) e) (frontiers w (now (window .entry)) n)) ⌝ }
+    ensures scratch { λ r. ⌜ now (scratch .exit) ≡ replicate (length (now (scratch .entry))) 0 ⌝ }
+    ensures frontiers { λ r. ⌜ frontiers w (now (window .exit)) kept ≡ stepped (settingIn w (now (s .entry)) e) (frontiers w (now (window .entry)) n) ⌝ }
+{
+    let k = process_count(s);
+    let lines = line_total(s);
+    let reached = clocks::step::apply(e, taken_counts(s, w));
+    let place = table_place(w);
+    window::step::step(
+        window,
+        scratch,
+        w,
+        n,
+        kept,
+        k,
+        0,
+        e,
+        reached,
+        &s[place..],
+        lines,
+    );
+}
+
+// The rule's truth at the last of so many frontiers: the table's last line.
+fn verdict(window: &[u8], w: usize, kept: usize, lines: u32) -> bool
+    requires { ⌜ Width w ⌝ }
+    requires { ⌜ (1 ≤ kept) × (kept ≤ 1024) × (kept * frontierLength w ≤ length (now window)) ⌝ }
+    requires { ⌜ (1 ≤ lines) × (lines ≤ 64) ⌝ }
+    ensures { λ r. ⌜ r ≡ bit (getD (map (λ f. f .values) (frontiers w (now (window .entry)) kept)) (kept - 1) 0) (lines - 1) ⌝ }
+{
+    let place = window::place::frontier_place(w, kept - 1);
+    codec::has_bit(window::stored::read_values(window, place, w), lines - 1)
+}
+
+// Pending event number i leaves and is counted as taken.
+fn count_event(s: &mut [u8], w: usize, i: usize, e: Event, kept: u32)
+    requires { ⌜ Width w ⌝ }
+    requires { ⌜ length (now s) ≡ recordLength w ⌝ }
+    requires { ⌜ (i < pendingCount (now s)) × (pendingCount (now s) ≤ 32) ⌝ }
+    requires { ⌜ ((p : ℕ) → at (e .clock) p < 256 ^ w) ⌝ }
+    requires { ⌜ T (readyIn w (now s) e) ⌝ }
+    ensures { λ r. ⌜ now (s .exit) ≡ counted w (removed w (now (s .entry)) i) e kept ⌝ }
+{
+    remove_event(s, w, i);
+    count_taken(s, w, e, kept);
+}
+
+// Takes pending event number i, with which so many frontiers are kept: the reply, and the bytes of the three buffers after it.
+fn take_event(
+    s: &mut [u8],
+    w: usize,
+    window: &mut [u8],
+    scratch: &mut [u8],
+    n: usize,
+    i: usize,
+    kept: usize,
+) -> u64
+    requires { ⌜ Width w ⌝ }
+    requires { ⌜ length (now s) ≡ recordLength w ⌝ }
+    requires { ⌜ (processCount (now s) ≤ 8) × (1 ≤ lineTotal (now s)) × (lineTotal (now s) ≤ 64) ⌝ }
+    requires { ⌜ (n ≤ 1024) × (n * frontierLength w ≤ length (now window)) ⌝ }
+    requires { ⌜ (1 ≤ kept) × (kept ≤ 1024) × (kept * frontierLength w ≤ length (now window)) ⌝ }
+    requires { ⌜ length (now scratch) ≡ length (now window) ⌝ }
+    requires { ⌜ (i < pendingCount (now s)) × (pendingCount (now s) ≤ 32) ⌝ }
+    requires { ⌜ T (readyIn w (now s) (pendingAt w (now s) i)) ⌝ }
+    requires { ⌜ kept ≡ keptAfter (settingIn w (now s) (pendingAt w (now s) i)) (frontiers w (now window) n) ⌝ }
+    ensures reply { λ r. ⌜ r ≡ replyWord (decided w (now (s .entry)) (now (window .entry)) (frontiers w (now (window .entry)) n) (chosen i) .answer) ⌝ }
+    ensures bytes { λ r. ⌜ now (s .exit) ≡ decided w (now (s .entry)) (now (window .entry)) (frontiers w (now (window .entry)) n) (chosen i) .bytes ⌝ }
+    ensures window { λ r. ⌜ now (window .exit) ≡ decided w (now (s .entry)) (now (window .entry)) (frontiers w (now (window .entry)) n) (chosen i) .window ⌝ }
+    ensures scratch { λ r. ⌜ now (scratch .exit) ≡ replicate (length (now (window .entry))) 0 ⌝ }
+{
+    let e = pending_event(s, w, i);
+    let lines = line_total(s);
+    step_window(s, w, window, scratch, n, kept, e);
+    count_event(s, w, i, e, kept as u32);
+    state_word(verdict(window, w, kept, lines), kept as u32)
 }

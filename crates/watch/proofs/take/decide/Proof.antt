@@ -95,11 +95,13 @@ passed-full c = tried-full _ _ _ _ _ _ (omega arith)
 
 events-again : tie.Need-events-again Inv-events μ-events
 events-again c =
-    let l = c .before .before .before .before .events in
-    (search needs, ⊎-elim
-        (λ v. (true, v .6, l .inv .1 .2 ∙ passed-full (record { before = record { before = record { before = record { before = record { before = record { before = c .before; if1 = v .0 }; valid-clock = v .1 }; if2 = v .2 }; kept-with = v .3 }; fitting = v .4 }; if3 = v .5 })))
-        (λ v. (l .inv .1 .0, v .1 ∙ l .inv .1 .1, l .inv .1 .2 ∙ passed (record { before = c .before; if1 = v .0 })))
-        (c .if1 .came))
+    let l = c .before .before .before .before .events in (
+      search needs,
+      ⊎-elim
+          (λ v. (true, v .6, l .inv .1 .2 ∙ passed-full (record { before = record { before = record { before = record { before = record { before = record { before = c .before; if1 = v .0 }; valid-clock = v .1 }; if2 = v .2 }; kept-with = v .3 }; fitting = v .4 }; if3 = v .5 })))
+          (λ v. (l .inv .1 .0, v .1 ∙ l .inv .1 .1, l .inv .1 .2 ∙ passed (record { before = c .before; if1 = v .0 })))
+          (c .if1 .came),
+    )
 
 returns : tie.Need-returns Inv-events μ-events
 unfolding choiceOf
@@ -120,9 +122,9 @@ returns-3 c =
     let a = c .before .before .before .before .before .before .before .before .before .before .before .before .before .before .before .args in
     ap (Chosen (l .i)) (c .before .before .kept-with .ensures ∙ ap (λ (e : Event). keptAfter (settingIn (a .w) (now (a .s)) e) (frontiers (a .w) (now (a .window)) (a .n))) (c .before .before .before .before .before .before .before .pending-event .ensures))
     ∙ sym (ap (choiceOf (a .w) (now (a .s)) (frontiers (a .w) (now (a .window)) (a .n))) (l .inv .1 .2 ∙ tried-fits _ _ _ _ _ _ (omega arith)
-        (tested-ready (c .before .before .before .before .before .before) ∙ c .before .before .before .before .before .if1 .taken)
-        (tested-valid (c .before .before .before .before) ∙ not-false _ (c .before .before .before .if2 .left))
-        (tested-fits (c .before) ∙ c .if3 .taken)))
+    (tested-ready (c .before .before .before .before .before .before) ∙ c .before .before .before .before .before .if1 .taken)
+    (tested-valid (c .before .before .before .before) ∙ not-false _ (c .before .before .before .if2 .left))
+    (tested-fits (c .before) ∙ c .if3 .taken)))
 
 pub decide-spec : {M : Type 1} → statement M
 decide-spec =

@@ -32,7 +32,7 @@ returns c =
     let a = c .before .before .before .before .before .before .args in
     let small : a .e .mask < 256 = omega arith in
     let counts : c .before .apply .result ≡ listOf 8 (apply (a .e) (at (takenCounts (a .w) (now (a .s))))) =
-        c .before .apply .ensures ∙ ap (λ (l : List ℕ). listOf 8 (apply (a .e) (at l))) (c .before .before .taken-counts .ensures) in
+    c .before .apply .ensures ∙ ap (λ (l : List ℕ). listOf 8 (apply (a .e) (at l))) (c .before .before .taken-counts .ensures) in
     rw (setting-with (a .w) (now (a .s)) (a .e) small, ← counts, ← (c .before .before .before .process-count .ensures .0)) (c .count-after .ensures .0 _ _)
 
 pub kept-with-spec : {M : Type 1} → statement M
