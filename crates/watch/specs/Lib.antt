@@ -52,7 +52,9 @@ pub mod TurnSteps
 pub mod RefusalSteps
 pub mod OfferSteps
 pub mod TakeSteps
+pub mod ChoiceSteps
 pub mod TakenSteps
+pub mod TakeCallSteps
 pub mod FindSteps
 pub mod OpenSteps
 pub mod OpenCallSteps

@@ -63,7 +63,7 @@ lent-table w s =
     rw whole
 
 -- A state with good numbers has 1 to 8 processes, at most 32 pending events and 1 to 64 lines.
-pub numbers-within : (k pending lines kept room : ℕ) → badNumbers k pending lines kept room ≡ false → (k ≤ 8) × (pending ≤ 32) × (lines ≤ 64) × (kept ≤ 1024) × (kept ≤ room)
+pub numbers-within : (k pending lines kept room : ℕ) → badNumbers k pending lines kept room ≡ false → (k ≤ 8) × (pending ≤ 32) × (lines ≤ 64) × (kept ≤ 1024) × (kept ≤ room) × (1 ≤ lines)
 unfolding badNumbers badProcesses
 numbers-within k pending lines kept room h =
     let p = or-false-e _ _ h in
@@ -72,7 +72,8 @@ numbers-within k pending lines kept room h =
     let t = or-false-e _ _ (r .1) in
     let u = or-false-e (eqb kept 0) _ (t .1) in
     let v = or-false-e _ _ (u .1) in
-    (ltb-false 8 k (or-false-e (eqb k 0) _ (p .0) .1), ltb-false 32 pending (q .0), ltb-false 64 lines (t .0), ltb-false 1024 kept (v .0), ltb-false room kept (v .1))
+    let some : lines ≡ 0 → ⊥ = eqb-false lines 0 (r .0) in
+    (ltb-false 8 k (or-false-e (eqb k 0) _ (p .0) .1), ltb-false 32 pending (q .0), ltb-false 64 lines (t .0), ltb-false 1024 kept (v .0), ltb-false room kept (v .1), omega arith)
 
 -- ---- What is known where none of them holds
 
@@ -81,7 +82,7 @@ unfolding badRecordLength
 right-length w n h = eqb-true n (recordLength w) (not-false _ h)
 
 pub state-within : (w room : ℕ) (s : List ℕ) → badState w room s ≡ false
-    → (processCount s ≤ 8) × (pendingCount s ≤ 32) × (lineTotal s ≤ 64) × (keptCount s ≤ 1024) × (keptCount s ≤ room)
+    → (processCount s ≤ 8) × (pendingCount s ≤ 32) × (lineTotal s ≤ 64) × (keptCount s ≤ 1024) × (keptCount s ≤ room) × (1 ≤ lineTotal s)
 state-within w room s h =
     numbers-within (processCount s) (pendingCount s) (lineTotal s) (keptCount s) room (or-false-e _ _ (sym (state-parts w room s) ∙ h) .0)
 

@@ -19,7 +19,7 @@ use crate::update::remove_event;
 use clocks::Event;
 ghost use Prim.Native.Nat.{ℕ, _*_, _-_, _^_, _≤_, _<_};
 ghost use mathlib.Core.Path.{_≡_};
-ghost use mathlib.Core.Bool.{false, _&&_};
+ghost use mathlib.Core.Bool.{false, cond, _&&_};
 ghost use lib.Dec.{T, ltb, leb};
 ghost use mathlib.Core.List.{map};
 ghost use lib.ListN.{length, getD, replicate};
@@ -30,10 +30,11 @@ ghost use Rattle.window.specs.Bytes.{frontierLength, frontiers, windowBytes};
 ghost use Rattle.window.specs.Step.{keptAfter, stepped};
 ghost use Rattle.window.specs.StepCode.{Fitting};
 ghost use Rattle.watch.specs.Record.{recordLength, processCount, lineTotal, pendingCount, keptCount, pendingAt, pendingEvents, removed, counted};
-ghost use Rattle.watch.specs.Answer.{replyWord};
+ghost use Rattle.watch.specs.Answer.{turnedBack, nothingReady, replyWord};
 ghost use Rattle.watch.specs.Refusals.{roomOf};
 ghost use Rattle.watch.specs.Take.{settingIn, readyIn, tried, chosen, decided, takeWithin, takeCall};
 ghost use Rattle.watch.specs.TakeSteps.{choiceOf};
+ghost use Rattle.watch.specs.TakeCallSteps.{takeFault};
 
 // How many frontiers are kept once a ready event is taken.
 pub fn kept_with(s: &[u8], w: usize, window: &[u8], n: usize, e: Event) -> usize
@@ -187,4 +188,76 @@ fn take_event(
     step_window(s, w, window, scratch, n, kept, e);
     count_event(s, w, i, e, kept as u32);
     state_word(verdict(window, w, kept, lines), kept as u32)
+}
+
+// The word of a take that decides on no event: 36 where one was ready, else nothing ready.
+fn undecided_word(seen: bool) -> u64
+    ensures { λ r. ⌜ r ≡ replyWord (cond seen (turnedBack 36 0) nothingReady) ⌝ }
+{
+    if seen { 36 } else { 0 }
+}
+
+// Takes an event where at most so many frontiers of the window may be used: the reply, and the bytes of the three buffers after it.
+pub fn take_within(w: usize, allowed: usize, s: &mut [u8], window: &mut [u8], scratch: &mut [u8]) -> u64
+    requires { ⌜ Width w ⌝ }
+    requires { ⌜ length (now s) ≡ recordLength w ⌝ }
+    requires { ⌜ (processCount (now s) ≤ 8) × (1 ≤ lineTotal (now s)) × (lineTotal (now s) ≤ 64) ⌝ }
+    requires { ⌜ pendingCount (now s) ≤ 32 ⌝ }
+    requires { ⌜ (keptCount (now s) ≤ 1024) × (keptCount (now s) * frontierLength w ≤ length (now window)) ⌝ }
+    requires { ⌜ (allowed ≤ 1024) × (allowed * frontierLength w ≤ length (now window)) ⌝ }
+    requires { ⌜ length (now scratch) ≡ length (now window) ⌝ }
+    ensures reply { λ r. ⌜ r ≡ replyWord (takeWithin w allowed (now (s .entry)) (now (window .entry)) .answer) ⌝ }
+    ensures bytes { λ r. ⌜ now (s .exit) ≡ takeWithin w allowed (now (s .entry)) (now (window .entry)) .bytes ⌝ }
+    ensures window { λ r. ⌜ now (window .exit) ≡ takeWithin w allowed (now (s .entry)) (now (window .entry)) .window ⌝ }
+    ensures scratch { λ r. ⌜ now (scratch .exit) ≡ takeWithin w allowed (now (s .entry)) (now (window .entry)) .scratch ⌝ }
+{
+    let n = kept_count(s) as usize;
+    let choice = decide(s, w, window, n, allowed);
+    match choice {
+        Choice::Undecided { seen } => {
+            window::step::clear(scratch);
+            undecided_word(seen)
+        }
+        Choice::Falsified { place } => {
+            remove_event(s, w, place);
+            window::step::clear(scratch);
+            35
+        }
+        Choice::Chosen { place, kept } => take_event(s, w, window, scratch, n, place, kept),
+    }
+}
+
+// The number that a take is turned back with; 0 for none.
+pub fn take_fault(w: usize, s: &[u8], n: usize, m: usize) -> u64
+    requires { ⌜ Width w ⌝ }
+    ensures { λ r. ⌜ r ≡ takeFault w (now (s .entry)) n m ⌝ }
+{
+    if bad_record_length(w, s.len()) {
+        return 6;
+    }
+    if bad_window_length(w, n) {
+        return 6;
+    }
+    if m != n {
+        return 6;
+    }
+    if bad_state(s, w, room_of(w, n)) {
+        return 34;
+    }
+    0
+}
+
+// Takes the first event that is decided on: the reply, and the bytes of the three buffers after it.
+pub fn take(w: usize, s: &mut [u8], window: &mut [u8], scratch: &mut [u8]) -> u64
+    requires { ⌜ Width w ⌝ }
+    ensures reply { λ r. ⌜ r ≡ replyWord (takeCall w (now (s .entry)) (now (window .entry)) (now (scratch .entry)) .answer) ⌝ }
+    ensures bytes { λ r. ⌜ now (s .exit) ≡ takeCall w (now (s .entry)) (now (window .entry)) (now (scratch .entry)) .bytes ⌝ }
+    ensures window { λ r. ⌜ now (window .exit) ≡ takeCall w (now (s .entry)) (now (window .entry)) (now (scratch .entry)) .window ⌝ }
+    ensures scratch { λ r. ⌜ now (scratch .exit) ≡ takeCall w (now (s .entry)) (now (window .entry)) (now (scratch .entry)) .scratch ⌝ }
+{
+    let fault = take_fault(w, s, window.len(), scratch.len());
+    if fault != 0 {
+        return fault;
+    }
+    take_within(w, room_of(w, window.len()), s, window, scratch)
 }
