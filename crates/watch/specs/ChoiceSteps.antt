@@ -11,11 +11,12 @@ use Rattle.clocks.specs.Counts.{listOf}
 use Rattle.clocks.specs.BoundedLaws.{and-l, and-r}
 use Rattle.clocks.specs.CountsLaws.{length-listOf, getD-listOf}
 use Rattle.window.specs.declared.Frontier.{Frontier}
+use Rattle.window.specs.Bytes.{frontiers}
 use Rattle.window.specs.Step.{Setting, fits, keptAfter}
 use Rattle.watch.specs.declared.Choice.{Choice}
 use Rattle.watch.specs.declared.Choice.the-variants.{Undecided, Falsified, Chosen}
-use Rattle.watch.specs.Record.{pendingCount, pendingAt, pendingEvents}
-use Rattle.watch.specs.Take.{Decision, undecided, false-clock, chosen, tried, readyIn, settingIn}
+use Rattle.watch.specs.Record.{keptCount, pendingCount, pendingAt, pendingEvents}
+use Rattle.watch.specs.Take.{Decision, undecided, false-clock, chosen, tried, readyIn, settingIn, decided, takeWithin}
 use Rattle.watch.specs.TakeSteps.{choiceOf}
 use Rattle.watch.specs.Deciding.{Outcome, outcome, none-decides, falsifies, chooses}
 
@@ -97,3 +98,9 @@ module _ (w : ℕ) (s : List ℕ) (allowed : ℕ) (fs : List Frontier) where
             some = omega (arith, room .0);
             few = omega (arith, room .1);
           }
+
+-- A take within so many frontiers, by its decision.
+pub within-by : (w allowed : ℕ) (s window : List ℕ) (d : Decision) → tried w s allowed (frontiers w window (keptCount s)) 0 false (pendingEvents w s) ≡ d
+    → takeWithin w allowed s window ≡ decided w s window (frontiers w window (keptCount s)) d
+unfolding takeWithin
+within-by w allowed s window d e = rw e

@@ -4,6 +4,7 @@ ghost use mathlib.Core.Path.{_≡_};
 ghost use Rattle.watch.specs.Words.{unpackCounts, unpackLabels};
 ghost use Rattle.watch.specs.Open.{openCall};
 ghost use Rattle.watch.specs.Offer.{offerCall};
+ghost use Rattle.watch.specs.Take.{takeCall};
 ghost use Rattle.watch.specs.Find.{findCall};
 ghost use Rattle.watch.specs.Answer.{replyWord};
 
@@ -34,6 +35,17 @@ pub extern "C" fn watch_offer(mask: u64, low: u64, high: u64, labels: u64, state
     let clock = crate::words::unpack_counts(low, high);
     let bytes = crate::words::unpack_labels(labels);
     crate::offer::offer(2, mask, clock, bytes, state)
+}
+
+// Takes the first pending event that is decided on.
+#[no_mangle]
+pub extern "C" fn watch_take(state: &mut [u8], window: &mut [u8], scratch: &mut [u8]) -> u64
+    ensures reply { λ r. ⌜ r ≡ replyWord (takeCall 2 (now (state .entry)) (now (window .entry)) (now (scratch .entry)) .answer) ⌝ }
+    ensures bytes { λ r. ⌜ now (state .exit) ≡ takeCall 2 (now (state .entry)) (now (window .entry)) (now (scratch .entry)) .bytes ⌝ }
+    ensures window { λ r. ⌜ now (window .exit) ≡ takeCall 2 (now (state .entry)) (now (window .entry)) (now (scratch .entry)) .window ⌝ }
+    ensures scratch { λ r. ⌜ now (scratch .exit) ≡ takeCall 2 (now (state .entry)) (now (window .entry)) (now (scratch .entry)) .scratch ⌝ }
+{
+    crate::take::take(2, state, window, scratch)
 }
 
 // Finds the place of the first kept frontier at which a line holds.

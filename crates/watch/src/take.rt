@@ -198,7 +198,13 @@ fn undecided_word(seen: bool) -> u64
 }
 
 // Takes an event where at most so many frontiers of the window may be used: the reply, and the bytes of the three buffers after it.
-pub fn take_within(w: usize, allowed: usize, s: &mut [u8], window: &mut [u8], scratch: &mut [u8]) -> u64
+pub fn take_within(
+    w: usize,
+    allowed: usize,
+    s: &mut [u8],
+    window: &mut [u8],
+    scratch: &mut [u8],
+) -> u64
     requires { ⌜ Width w ⌝ }
     requires { ⌜ length (now s) ≡ recordLength w ⌝ }
     requires { ⌜ (processCount (now s) ≤ 8) × (1 ≤ lineTotal (now s)) × (lineTotal (now s) ≤ 64) ⌝ }

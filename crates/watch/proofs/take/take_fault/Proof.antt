@@ -1,54 +1,59 @@
-use native.Mathlib.Omega.{arith}
-use mathlib.Core.Path.{_≡_, refl, sym, ap, _∙_}
-use Prim.Native.Nat.{ℕ, _≤_, _<_, _-_, _+_, _*_}
-use mathlib.Core.List.{List, _++_}
-use lib.ListN.{length, getD, take, drop, set, length-set}
-use mathlib.Core.Logic.{⊎-elim}
-use borrow.Author.Needs.{needs}
-use Rattle.watch.proofs.take.take_fault.Statement.{statement}
+-- The tests, one after the other.
 use Rattle.watch.proofs.take.take_fault.Tie as tie
-use Rattle.watch.proofs.take.take_fault.Reads as reads
-use Rattle.watch.proofs.take.take_fault.Lts as lts
-use Rattle.watch.proofs.refusal.bad_record_length.Reads as bad-record-length-reads
-use Rattle.watch.proofs.refusal.bad_state.Reads as bad-state-reads
-use Rattle.watch.proofs.refusal.bad_window_length.Reads as bad-window-length-reads
-use Rattle.watch.proofs.refusal.room_of.Reads as room-of-reads
+use Prim.Native.Nat.{ℕ}
+use mathlib.Core.Path.{_≡_, sym, ap, _∙_}
+use mathlib.Core.Bool.{false}
+use lib.ListN.{length}
+use borrow.Author.Needs.{needs}
+use borrow.Author.Tests.{ne-eqb, eq-eqb}
+use denote.Ref.{now}
+use Rattle.watch.proofs.take.take_fault.Statement.{statement}
+use Rattle.watch.specs.Refusals.{badRecordLength, badWindowLength, roomOf, badState}
+use Rattle.watch.specs.RefusalSteps.{right-length}
+use Rattle.watch.specs.TakeCallSteps.{takeFault}
 
--- src/take.rt:235:8
 bad-record-length-requires : tie.Need-bad-record-length-requires
 bad-record-length-requires c κs = search needs
 
--- src/take.rt:236:9
-returns : tie.Need-returns
-returns c = search needs
+-- The tests that let the call pass.
+length-passed : (c : tie.Else1) → badRecordLength (c .before .before .before .args .w) (length (now (c .before .before .before .args .s))) ≡ false
+length-passed c = sym (c .before .bad-record-length .ensures) ∙ c .if1 .left
 
--- src/take.rt:238:8
+window-passed : (c : tie.Else2) → badWindowLength (c .before .before .before .before .before .args .w) (c .before .before .before .before .before .args .n) ≡ false
+window-passed c = sym (c .before .bad-window-length .ensures) ∙ c .if2 .left
+
+-- The state is judged with the window's room.
+state-read : (c : tie.After-bad-state) → badState (c .before .before .before .before .before .before .before .before .args .w) (roomOf (c .before .before .before .before .before .before .before .before .args .w) (c .before .before .before .before .before .before .before .before .args .n)) (now (c .before .before .before .before .before .before .before .before .args .s)) ≡ c .bad-state .result
+state-read c = sym (c .bad-state .ensures ∙ ap (λ (room : ℕ). badState (c .before .before .before .before .before .before .before .before .args .w) room (now (c .before .before .before .before .before .before .before .before .args .s))) (c .before .room-of .ensures))
+
+returns : tie.Need-returns
+unfolding takeFault
+returns c = rw (sym (c .before .bad-record-length .ensures) ∙ c .if1 .taken)
+
 bad-window-length-requires : tie.Need-bad-window-length-requires
 bad-window-length-requires c κs = search needs
 
--- src/take.rt:239:9
 returns-2 : tie.Need-returns-2
-returns-2 c = search needs
+unfolding takeFault
+returns-2 c = rw (length-passed (c .before .before), sym (c .before .bad-window-length .ensures) ∙ c .if2 .taken)
 
--- src/take.rt:242:9
 returns-3 : tie.Need-returns-3
-returns-3 c = search needs
+unfolding takeFault
+returns-3 c = rw (length-passed (c .before .before .before), window-passed (c .before), ne-eqb _ _ (c .if3 .taken))
 
--- src/take.rt:244:24
 room-of-requires : tie.Need-room-of-requires
 room-of-requires c κs = search needs
 
--- src/take.rt:244:8
 bad-state-requires : tie.Need-bad-state-requires
-bad-state-requires c κs = search needs
+bad-state-requires c κs = (search needs, right-length (c .before .before .before .before .before .before .before .args .w) (length (now (c .before .before .before .before .before .before .before .args .s))) (length-passed (c .before .before .before .before)))
 
--- src/take.rt:245:9
 returns-4 : tie.Need-returns-4
-returns-4 c = search needs
+unfolding takeFault
+returns-4 c = rw (length-passed (c .before .before .before .before .before .before), window-passed (c .before .before .before .before), eq-eqb _ _ (c .before .before .before .if3 .left), state-read (c .before), c .if4 .taken)
 
--- src/take.rt:231:1
 returns-5 : tie.Need-returns-5
-returns-5 c = search needs
+unfolding takeFault
+returns-5 c = rw (length-passed (c .before .before .before .before .before .before), window-passed (c .before .before .before .before), eq-eqb _ _ (c .before .before .before .if3 .left), state-read (c .before), c .if4 .left)
 
 pub take-fault-spec : {M : Type 1} → statement M
 take-fault-spec =

@@ -1,22 +1,18 @@
-use native.Mathlib.Omega.{arith}
-use mathlib.Core.Path.{_≡_, refl, sym, ap, _∙_}
-use Prim.Native.Nat.{ℕ, _≤_, _<_, _-_, _+_, _*_}
-use mathlib.Core.List.{List, _++_}
-use lib.ListN.{length, getD, take, drop, set, length-set}
-use mathlib.Core.Logic.{⊎-elim}
-use borrow.Author.Needs.{needs}
-use Rattle.watch.proofs.take.undecided_word.Statement.{statement}
+-- 36 or nothing ready.
 use Rattle.watch.proofs.take.undecided_word.Tie as tie
-use Rattle.watch.proofs.take.undecided_word.Reads as reads
-use Rattle.watch.proofs.take.undecided_word.Lts as lts
+use mathlib.Core.Path.{_≡_}
+use borrow.Author.Needs.{needs}
+use denote.Ref.{now}
+use Rattle.watch.proofs.take.undecided_word.Statement.{statement}
+use Rattle.watch.specs.Answer.{replyWord}
 
--- src/take.rt:194:1
 returns : tie.Need-returns
-returns c = search needs
+unfolding replyWord
+returns c = rw (c .if1 .taken)
 
--- src/take.rt:194:1
 returns-2 : tie.Need-returns-2
-returns-2 c = search needs
+unfolding replyWord
+returns-2 c = rw (c .if1 .left)
 
 pub undecided-word-spec : {M : Type 1} → statement M
 undecided-word-spec = tie.close (tie.spec returns returns-2)
