@@ -14,13 +14,13 @@ use Rattle.rules.specs.declared.Line.{Line}
 use Rattle.codec.specs.Little.{Bytes}
 use Rattle.codec.specs.LittleLaws.{pow-256-pos}
 use Rattle.rules.specs.Table.{tableBytes}
-use Rattle.watch.specs.InsertLaws.{length-insertAt, member-insertAt, length-removeAt, member-removeAt}
+use Rattle.demands.specs.InsertLaws.{length-insertAt, member-insertAt, length-removeAt, member-removeAt}
 use Rattle.watch.specs.Record.{processCount, keptCount, takenCounts, lastClocks, tableLines, pendingEvents}
-use Rattle.watch.specs.RecordBlocks.{clockRows, AllStorable}
-use Rattle.watch.specs.PendingLaws.{pendingEvents-recordBytes}
-use Rattle.watch.specs.SetterLaws.{recordBytes-same}
-use Rattle.watch.specs.Status.{Status, recordBytes, Storable, Sized, insertAt, removeAt, withPending, withTaken, firstStatus}
-use Rattle.watch.specs.RecordLaws.{processCount-recordBytes, tableLines-recordBytes, keptCount-recordBytes, takenCounts-recordBytes, lastClocks-recordBytes}
+use Rattle.demands.specs.RecordBlocks.{clockRows, AllStorable}
+use Rattle.demands.specs.PendingLaws.{pendingEvents-recordBytes}
+use Rattle.demands.specs.SetterLaws.{recordBytes-same}
+use Rattle.demands.specs.Status.{Status, recordBytes, Storable, Sized, insertAt, removeAt, withPending, withTaken, firstStatus}
+use Rattle.demands.specs.RecordLaws.{processCount-recordBytes, tableLines-recordBytes, keptCount-recordBytes, takenCounts-recordBytes, lastClocks-recordBytes}
 
 -- Two records with the same bytes have the same stored fields.
 pub record Alike (t u : Status) : Type 0 where

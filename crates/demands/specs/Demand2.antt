@@ -26,18 +26,18 @@ use Rattle.clocks.specs.Kept.{Kept}
 use Rattle.clocks.specs.Counts.{at}
 use Rattle.clocks.specs.Tested.{consistent}
 use Rattle.clocks.specs.Valid.{Joined, History}
-use Rattle.watch.specs.Watching.{worldOf, statusOf}
+use Rattle.demands.specs.Watching.{worldOf, statusOf}
 use Rattle.watch.specs.Take.{takeCall}
 use Rattle.watch.specs.Record.{keptCount}
 use Rattle.watch.specs.Refusals.{badRecordLength, badWindowLength}
 use Rattle.watch.specs.Answer.{nothingReady}
-use Rattle.watch.specs.WatchingLaws.{says-frontiers}
-use Rattle.watch.specs.Ledger.{Settled}
-use Rattle.watch.specs.Run.{Call, Watch}
-use Rattle.watch.specs.Status.{recordBytes}
-use Rattle.watch.specs.TakeAnswers.{nothing-exactly}
-use Rattle.watch.specs.AfterCall.{lengthened, badLengths}
-use Rattle.watch.specs.SoundRun.{Accepts, EightBytes, AllPassed, atEnd, Sound, sound-run}
+use Rattle.demands.specs.WatchingLaws.{says-frontiers}
+use Rattle.demands.specs.Ledger.{Settled}
+use Rattle.demands.specs.Run.{Call, Watch}
+use Rattle.demands.specs.Status.{recordBytes}
+use Rattle.demands.specs.TakeAnswers.{nothing-exactly}
+use Rattle.demands.specs.AfterCall.{lengthened, badLengths}
+use Rattle.demands.specs.SoundRun.{Accepts, EightBytes, AllPassed, atEnd, Sound, sound-run}
 
 -- ---- Statement
 pub record AsDemanded (w k : ℕ) (f : Formula) (start : Cut) (Z : Watch) : Type 0 where

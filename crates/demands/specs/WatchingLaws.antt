@@ -23,14 +23,14 @@ use Rattle.clocks.specs.ValidTestLaws.{valid-same, valid-test}
 use Rattle.clocks.specs.TestedLaws.{ready-test}
 use Rattle.window.specs.WindowLaws.{frontiers-windowBytes}
 use Rattle.window.specs.Bytes.{frontierLength, frontiers, framed, windowBytes}
-use Rattle.watch.specs.Watching.{worldOf, Rule, statusOf, Watching, proper, sized, kept-shaped}
+use Rattle.demands.specs.Watching.{worldOf, Rule, statusOf, Watching, proper, sized, kept-shaped}
 use Rattle.watch.specs.Record.{recordLength, processCount, lineTotal, pendingCount, keptCount, takenCounts, lastClocks, tableLines, pendingAt, pendingEvents}
 use Rattle.watch.specs.Refusals.{badProcesses, badState}
-use Rattle.watch.specs.Ledger.{Ledger}
-use Rattle.watch.specs.Status.{Status, Sized}
+use Rattle.demands.specs.Ledger.{Ledger}
+use Rattle.demands.specs.Status.{Status, Sized}
 use Rattle.watch.specs.Take.{settingIn, readyIn, validIn}
-use Rattle.watch.specs.PendingLaws.{pendingAt-recordBytes, pendingEvents-recordBytes}
-use Rattle.watch.specs.RecordLaws.{processCount-recordBytes, lineTotal-recordBytes, pendingCount-recordBytes, tableLines-recordBytes, length-recordBytes, keptCount-recordBytes, takenCounts-recordBytes, lastClocks-recordBytes}
+use Rattle.demands.specs.PendingLaws.{pendingAt-recordBytes, pendingEvents-recordBytes}
+use Rattle.demands.specs.RecordLaws.{processCount-recordBytes, lineTotal-recordBytes, pendingCount-recordBytes, tableLines-recordBytes, length-recordBytes, keptCount-recordBytes, takenCounts-recordBytes, lastClocks-recordBytes}
 
 module _ (w k : ℕ) (table : List Line) (start : Cut) (R : Rule w k table start) (L : Ledger) (bytes window : List ℕ) (X : Watching w k table start L bytes window) where
   abbrev ts : List Event

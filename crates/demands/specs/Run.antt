@@ -10,15 +10,15 @@ use Rattle.window.specs.Bytes.{frontiers}
 use Rattle.rules.specs.Line.{line}
 use Rattle.clocks.specs.Counts.{at}
 use Rattle.clocks.specs.Lattice.{zeros}
 use Rattle.watch.specs.Find.{findCall}
 use Rattle.watch.specs.Take.{Decision, tried, takeCall, undecided, false-clock, chosen}
 use Rattle.watch.specs.Record.{keptCount, pendingAt, pendingEvents}
 use Rattle.watch.specs.Refusals.{badRecordLength, badWindowLength, roomOf, badState}
 use Rattle.watch.specs.Open.{Opened}
 use Rattle.watch.specs.Answer.{Answer, turnedBack, state, nothingReady, held, found, absent}
 use Rattle.watch.specs.Offer.{placeAmong, offeredEvent, offerCall}
-use Rattle.watch.specs.Ledger.{Ledger}
-use Rattle.watch.specs.Status.{insertAt, removeAt}
+use Rattle.demands.specs.Ledger.{Ledger}
+use Rattle.demands.specs.Status.{insertAt, removeAt}
 
 -- A call: an offer of an event by its mask, clock and labels; a take, lent the window with so many zeros appended, and a scratch of any
 -- length and content; a find of a line.

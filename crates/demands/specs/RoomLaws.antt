@@ -9,10 +9,10 @@ use lib.Seq.{sets, take-at}
 use Rattle.window.specs.Step.{fits}
 use Rattle.window.specs.Order.{same}
 use Rattle.window.specs.ListLaws.{place-member}
-use Rattle.watch.specs.InsertLaws.{member-drop, length-insertAt, length-removeAt}
-use Rattle.watch.specs.PlaceLaws.{zeros, zeros-add, sets-over}
-use Rattle.watch.specs.BlockLaws.{blocks, Even, blocks-append, blocks-split, length-blocks, drop-blocks, block-between, length-first}
-use Rattle.watch.specs.Status.{insertAt, removeAt}
+use Rattle.demands.specs.InsertLaws.{member-drop, length-insertAt, length-removeAt}
+use Rattle.demands.specs.PlaceLaws.{zeros, zeros-add, sets-over}
+use Rattle.demands.specs.BlockLaws.{blocks, Even, blocks-append, blocks-split, length-blocks, drop-blocks, block-between, length-first}
+use Rattle.demands.specs.Status.{insertAt, removeAt}
 
 -- Blocks of n bytes, and the unused places of a room.
 abbrev pub inRoom : {A : Type 0} → (A → List ℕ) → ℕ → ℕ → List A → List ℕ

@@ -12,10 +12,10 @@ use Rattle.clocks.specs.KeyLaws.{before-total, before-irreflexive, before-trans
 use Rattle.clocks.specs.Key.{keyOf, keyBefore}
 use Rattle.clocks.specs.EventLaws.{true-T}
 use Rattle.window.specs.ListLaws.{place-member}
-use Rattle.watch.specs.Watching.{Ordered, NoClash, Clear}
+use Rattle.demands.specs.Watching.{Ordered, NoClash, Clear}
 use Rattle.watch.specs.Offer.{placeAmong}
-use Rattle.watch.specs.Status.{insertAt, removeAt}
-use Rattle.watch.specs.InsertLaws.{member-take, member-drop, member-insertAt}
+use Rattle.demands.specs.Status.{insertAt, removeAt}
+use Rattle.demands.specs.InsertLaws.{member-take, member-drop, member-insertAt}
 
 -- ---- putting in
 pub place-within : (e : Event) (fs : List Event) → placeAmong e fs ≤ length fs

@@ -22,14 +22,14 @@ use Rattle.rules.specs.declared.Line.{Line}
 use Rattle.clocks.specs.declared.Event.{Event}
 use Rattle.rules.specs.TableLaws.{length-tableBytes}
 use Rattle.rules.specs.Table.{tableBytes}
-use Rattle.watch.specs.PlaceLaws.{sets-over, sets-inside, zeros, zeros-add, countBytes-zeros}
-use Rattle.watch.specs.BlockLaws.{clockBytes-blocks, blocks-set}
+use Rattle.demands.specs.PlaceLaws.{sets-over, sets-inside, zeros, zeros-add, countBytes-zeros}
+use Rattle.demands.specs.BlockLaws.{clockBytes-blocks, blocks-set}
 use Rattle.watch.specs.Record.{takenPlace, clocksPlace, clocksSet, counted, eventLength}
-use Rattle.watch.specs.RecordBlocks.{clockRows, headOf, beforeClocks, afterClocks, afterCounts, afterHead, kept-split, counts-split, clocks-split, length-headOf, length-eight, even-clocks, length-clocks, length-beforeClocks, headBytes}
-use Rattle.watch.specs.Status.{Status, clockBytes, recordBytes, pendingBytes, Sized, withTaken, firstStatus}
-use Rattle.watch.specs.StoredLaws.{length-counts}
+use Rattle.demands.specs.RecordBlocks.{clockRows, headOf, beforeClocks, afterClocks, afterCounts, afterHead, kept-split, counts-split, clocks-split, length-headOf, length-eight, even-clocks, length-clocks, length-beforeClocks, headBytes}
+use Rattle.demands.specs.Status.{Status, clockBytes, recordBytes, pendingBytes, Sized, withTaken, firstStatus}
+use Rattle.demands.specs.StoredLaws.{length-counts}
 use Rattle.watch.specs.Open.{firstRecord}
-use Rattle.watch.specs.RecordLaws.{takenCounts-recordBytes}
+use Rattle.demands.specs.RecordLaws.{takenCounts-recordBytes}
 
 -- ---- Records with the same stored fields have the same bytes
 

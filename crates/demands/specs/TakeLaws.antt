@@ -30,14 +30,14 @@ use Rattle.clocks.specs.HistoryLaws.{taken-next, taken-other, event-next}
 use Rattle.clocks.specs.Tested.{ready}
 use Rattle.clocks.specs.CausalLaws.{clock-some}
 use Rattle.window.specs.Verdict.{some-frontier}
-use Rattle.watch.specs.Watching.{worldOf, Rule, statusOf, Watching, proper, kept-shaped, sized, all-shaped}
+use Rattle.demands.specs.Watching.{worldOf, Rule, statusOf, Watching, proper, kept-shaped, sized, all-shaped}
 use Rattle.watch.specs.Record.{removed, counted}
-use Rattle.watch.specs.PendingOrder.{remove-ordered, clear-remove, clear-other, remove-e}
-use Rattle.watch.specs.Ledger.{Ledger}
-use Rattle.watch.specs.Status.{removeAt, Status, recordBytes, Storable, withPending, Sized}
-use Rattle.watch.specs.InsertLaws.{length-removeAt}
-use Rattle.watch.specs.PendingLaws.{removed-recordBytes}
-use Rattle.watch.specs.SetterLaws.{counted-recordBytes}
+use Rattle.demands.specs.PendingOrder.{remove-ordered, clear-remove, clear-other, remove-e}
+use Rattle.demands.specs.Ledger.{Ledger}
+use Rattle.demands.specs.Status.{removeAt, Status, recordBytes, Storable, withPending, Sized}
+use Rattle.demands.specs.InsertLaws.{length-removeAt}
+use Rattle.demands.specs.PendingLaws.{removed-recordBytes}
+use Rattle.demands.specs.SetterLaws.{counted-recordBytes}
 
 -- an event's clock is the last one of its processes; the others' last clocks are what they were
 last-next : (e : Event) (ts : List Event) (p : ℕ) → lastClock (e ∷ ts) p ≡ cond (involved e p) (count e) (lastClock ts p)

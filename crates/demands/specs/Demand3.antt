@@ -27,20 +27,20 @@ use Rattle.rules.specs.Text.{textOf}
 use Rattle.rules.specs.ReaderAccepts.{reader-accepts}
 use Rattle.rules.specs.Reader.{formed}
 use Rattle.clocks.specs.Counts.{at}
-use Rattle.watch.specs.Watching.{worldOf, statusOf, Watching, proper, causal-history}
-use Rattle.watch.specs.Delivery.{same-pending, same-taken-events}
+use Rattle.demands.specs.Watching.{worldOf, statusOf, Watching, proper, causal-history}
+use Rattle.demands.specs.Delivery.{same-pending, same-taken-events}
 use Rattle.watch.specs.Record.{keptCount}
 use Rattle.watch.specs.Answer.{Answer, state, nothingReady}
-use Rattle.watch.specs.PendingOrder.{ordered-unique}
-use Rattle.watch.specs.WatchingLaws.{says-frontiers}
-use Rattle.watch.specs.Ledger.{occurrences, Ledger, accounted, Settled}
-use Rattle.watch.specs.Run.{Watch, Call}
-use Rattle.watch.specs.Status.{recordBytes}
-use Rattle.watch.specs.OfferLaws.{accepted}
-use Rattle.watch.specs.Verdicts.{TrueVerdict, Truthful}
-use Rattle.watch.specs.AfterCall.{WatchRight}
-use Rattle.watch.specs.SoundRun.{Sound, Accepts, EightBytes, AllPassed, atEnd, sound-run}
-use Rattle.watch.specs.Examples.{eight}
+use Rattle.demands.specs.PendingOrder.{ordered-unique}
+use Rattle.demands.specs.WatchingLaws.{says-frontiers}
+use Rattle.demands.specs.Ledger.{occurrences, Ledger, accounted, Settled}
+use Rattle.demands.specs.Run.{Watch, Call}
+use Rattle.demands.specs.Status.{recordBytes}
+use Rattle.demands.specs.OfferLaws.{accepted}
+use Rattle.demands.specs.Verdicts.{TrueVerdict, Truthful}
+use Rattle.demands.specs.AfterCall.{WatchRight}
+use Rattle.demands.specs.SoundRun.{Sound, Accepts, EightBytes, AllPassed, atEnd, sound-run}
+use Rattle.demands.specs.Examples.{eight}
 
 -- ---- Statement
 

@@ -24,22 +24,22 @@ use Rattle.clocks.specs.History.{taken}
 use Rattle.clocks.specs.Counts.{listOf}
 use Rattle.clocks.specs.Tested.{ready}
 use Rattle.clocks.specs.Valid.{Joined, History}
-use Rattle.watch.specs.Watching.{Rule, Watching, worldOf}
+use Rattle.demands.specs.Watching.{Rule, Watching, worldOf}
 use Rattle.watch.specs.Record.{pendingCount, pendingAt, pendingEvents, lineTotal, keptCount}
 use Rattle.watch.specs.Answer.{Answer, turnedBack, state, nothingReady, held, found, absent}
 use Rattle.watch.specs.Offer.{offeredEvent, placeAmong}
-use Rattle.watch.specs.Ledger.{Ledger, Settled}
-use Rattle.watch.specs.Run.{Watch, offeredLedger, after, offers, ledgerAfter, Call, takes, finds}
-use Rattle.watch.specs.OfferLaws.{OfferCase, offer-case, turned, accepted}
-use Rattle.watch.specs.Verdicts.{Truthful, TrueVerdict, verdict-later, state-true}
+use Rattle.demands.specs.Ledger.{Ledger, Settled}
+use Rattle.demands.specs.Run.{Watch, offeredLedger, after, offers, ledgerAfter, Call, takes, finds}
+use Rattle.demands.specs.OfferLaws.{OfferCase, offer-case, turned, accepted}
+use Rattle.demands.specs.Verdicts.{Truthful, TrueVerdict, verdict-later, state-true}
 use Rattle.watch.specs.Refusals.{roomOf, badRecordLength, badWindowLength, badState}
 use Rattle.watch.specs.Deciding.{Outcome, none-decides, falsifies, chooses}
-use Rattle.watch.specs.AfterCall.{WatchRight, noEvent, lengthened, decision, badLengths, take-6, take-else, trial, is-ready, is-valid}
+use Rattle.demands.specs.AfterCall.{WatchRight, noEvent, lengthened, decision, badLengths, take-6, take-else, trial, is-ready, is-valid}
 use Rattle.watch.specs.Take.{Decision, decided, stateOf}
-use Rattle.watch.specs.WatchingLaws.{ready-in, says-lines, says-event, says-taken, setting-in}
-use Rattle.watch.specs.Status.{insertAt, removeAt}
-use Rattle.watch.specs.TakeLaws.{stepped-right}
+use Rattle.demands.specs.WatchingLaws.{ready-in, says-lines, says-event, says-taken, setting-in}
+use Rattle.demands.specs.Status.{insertAt, removeAt}
+use Rattle.demands.specs.TakeLaws.{stepped-right}
 use Rattle.watch.specs.Find.{findFrom, findCall}
 
 -- The last answer "nothing ready" says that no pending event is ready.
 abbrev pub Quiet : Ledger → List Answer → Type 0

@@ -10,9 +10,9 @@ use Rattle.codec.specs.Little.{number, Bytes}
 use Rattle.window.specs.BytesLaws.{length-countBytes}
 use Rattle.window.specs.Bytes.{countBytes}
 use Rattle.clocks.specs.Counts.{listOf}
-use Rattle.watch.specs.PlaceLaws.{numbers-countBytes, zeros, Bytes-append, Bytes-cons, Bytes-zeros, Bytes-countBytes}
+use Rattle.demands.specs.PlaceLaws.{numbers-countBytes, zeros, Bytes-append, Bytes-cons, Bytes-zeros, Bytes-countBytes}
 use Rattle.watch.specs.Record.{eventLength, eventBytes}
-use Rattle.watch.specs.Status.{Storable}
+use Rattle.demands.specs.Status.{Storable}
 
 -- The event whose bytes begin at a place.
 abbrev pub eventFrom : ℕ → List ℕ → ℕ → Event

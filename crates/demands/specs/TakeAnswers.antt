@@ -22,15 +22,15 @@ use Rattle.clocks.specs.Valid.{Joined}
 use Rattle.codec.specs.Bit.{bit}
 use Rattle.window.specs.Verdict.{stepped-many}
 use Rattle.window.specs.ListLaws.{place-member, member-place}
-use Rattle.watch.specs.Watching.{worldOf, Rule, Watching}
+use Rattle.demands.specs.Watching.{worldOf, Rule, Watching}
 use Rattle.watch.specs.Take.{takeCall, Taken, settingIn, readyIn, validIn, Decision, stateOf, decided, undecided, false-clock, chosen}
 use Rattle.watch.specs.Refusals.{roomOf}
 use Rattle.watch.specs.Answer.{turnedBack, state, nothingReady}
 use Rattle.watch.specs.Deciding.{Indecisive, Outcome, none-decides, falsifies, chooses}
-use Rattle.watch.specs.WatchingLaws.{ready-in, valid-in, setting-in, says-lines, says-event, says-taken}
-use Rattle.watch.specs.Ledger.{Ledger, Settled}
-use Rattle.watch.specs.AfterCall.{noEvent, badLengths, decision, take-else, trial}
-use Rattle.watch.specs.TakeLaws.{stepped-some}
+use Rattle.demands.specs.WatchingLaws.{ready-in, valid-in, setting-in, says-lines, says-event, says-taken}
+use Rattle.demands.specs.Ledger.{Ledger, Settled}
+use Rattle.demands.specs.AfterCall.{noEvent, badLengths, decision, take-else, trial}
+use Rattle.demands.specs.TakeLaws.{stepped-some}
 
 module _ (w k : ℕ) (table : List Line) (start : Cut) (R : Rule w k table start) (L : Ledger) (bytes lent : List ℕ) (X : Watching w k table start L bytes lent)
     (scratch : List ℕ) (h : badLengths w k table start R L bytes lent X scratch ≡ false) where

@@ -31,14 +31,14 @@ use Rattle.clocks.specs.Event.{Cut}
 use Rattle.clocks.specs.JoinedClock.{joined-rule}
 use Rattle.clocks.specs.CountsLaws.{listOf-at}
 use Rattle.clocks.specs.Valid.{Joined}
 use Rattle.watch.specs.Refusals.{badRecordLength, badWindowLength, badProcesses}
 use Rattle.watch.specs.Open.{openTable, openRead, openCall}
 use Rattle.watch.specs.Answer.{turnedBack}
-use Rattle.watch.specs.AfterCall.{or-false, WatchRight}
-use Rattle.watch.specs.Watching.{worldOf, Rule, all-shaped}
-use Rattle.watch.specs.Run.{Watch, opened}
-use Rattle.watch.specs.Status.{recordBytes}
-use Rattle.watch.specs.SetterLaws.{firstRecord-recordBytes}
+use Rattle.demands.specs.AfterCall.{or-false, WatchRight}
+use Rattle.demands.specs.Watching.{worldOf, Rule, all-shaped}
+use Rattle.demands.specs.Run.{Watch, opened}
+use Rattle.demands.specs.Status.{recordBytes}
+use Rattle.demands.specs.SetterLaws.{firstRecord-recordBytes}
 
 pub data OpenCase (w : ℕ) (text : List ℕ) (k : ℕ) (labels s window : List ℕ) : Type 0 where
   turned-back : (n i : ℕ) → openCall w text k labels s window ≡ record { answer = turnedBack n i; bytes = s; window = window } → OpenCase w text k labels s window

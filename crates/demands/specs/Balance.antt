@@ -10,18 +10,18 @@ use Rattle.clocks.specs.declared.Event.{Event}
 use Rattle.rules.specs.Line.{line}
 use Rattle.clocks.specs.Event.{Cut, one}
 use Rattle.clocks.specs.SameEvent.{sameEvent}
-use Rattle.watch.specs.InsertLaws.{length-insertAt, length-removeAt, insertAt-removeAt}
-use Rattle.watch.specs.Watching.{Rule, Watching}
+use Rattle.demands.specs.InsertLaws.{length-insertAt, length-removeAt, insertAt-removeAt}
+use Rattle.demands.specs.Watching.{Rule, Watching}
 use Rattle.watch.specs.Record.{pendingAt, pendingEvents}
 use Rattle.watch.specs.Refusals.{roomOf}
 use Rattle.watch.specs.Deciding.{Outcome, none-decides, falsifies, chooses}
-use Rattle.watch.specs.WatchingLaws.{says-event}
+use Rattle.demands.specs.WatchingLaws.{says-event}
 use Rattle.watch.specs.Offer.{placeAmong, offeredEvent}
-use Rattle.watch.specs.Ledger.{occurrences, Ledger, accounted}
-use Rattle.watch.specs.Run.{Call, Watch, decisionOf, ledgerAfter, offeredLedger, acceptedBy, after, offers, takes, finds}
-use Rattle.watch.specs.Status.{insertAt, removeAt}
-use Rattle.watch.specs.OfferLaws.{OfferCase, offer-case, turned, accepted}
-use Rattle.watch.specs.AfterCall.{WatchRight, noEvent, lengthened, badLengths, take-6, decision, take-else, trial}
+use Rattle.demands.specs.Ledger.{occurrences, Ledger, accounted}
+use Rattle.demands.specs.Run.{Call, Watch, decisionOf, ledgerAfter, offeredLedger, acceptedBy, after, offers, takes, finds}
+use Rattle.demands.specs.Status.{insertAt, removeAt}
+use Rattle.demands.specs.OfferLaws.{OfferCase, offer-case, turned, accepted}
+use Rattle.demands.specs.AfterCall.{WatchRight, noEvent, lengthened, badLengths, take-6, decision, take-else, trial}
 
 -- ---- occurrences in a list with one element more or less
 occurs-append : (e : Event) (xs ys : List Event) → occurrences e (xs ++ ys) ≡ occurrences e xs + occurrences e ys

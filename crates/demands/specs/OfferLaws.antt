@@ -28,18 +28,18 @@ use Rattle.clocks.specs.Bounded.{anyBelow}
 use Rattle.clocks.specs.KeyLaws.{lowest-lt, lowest-involved}
 use Rattle.clocks.specs.BoundedLaws.{any-i, any-of-i}
 use Rattle.clocks.specs.Valid.{WellFormed}
 use Rattle.watch.specs.Record.{processCount, pendingCount, takenCounts, pendingEvents, inserted}
 use Rattle.watch.specs.Refusals.{badRecordLength, badState, alreadyTaken, conflicting, conflicts}
 use Rattle.watch.specs.Answer.{turnedBack, held}
 use Rattle.watch.specs.Offer.{placeAmong, offeredEvent, offerCall}
-use Rattle.watch.specs.Watching.{Rule, Watching, statusOf, sized, NoClash}
-use Rattle.watch.specs.Ledger.{Ledger, Eight}
-use Rattle.watch.specs.Run.{Passed, offers}
-use Rattle.watch.specs.Status.{Storable, insertAt}
-use Rattle.watch.specs.PendingOrder.{place-within, insert-ordered, clear-insert}
-use Rattle.watch.specs.WatchingLaws.{says-processes, says-many, says-pending, says-taken}
-use Rattle.watch.specs.InsertLaws.{length-insertAt, member-insertAt}
-use Rattle.watch.specs.PendingLaws.{inserted-recordBytes}
+use Rattle.demands.specs.Watching.{Rule, Watching, statusOf, sized, NoClash}
+use Rattle.demands.specs.Ledger.{Ledger, Eight}
+use Rattle.demands.specs.Run.{Passed, offers}
+use Rattle.demands.specs.Status.{Storable, insertAt}
+use Rattle.demands.specs.PendingOrder.{place-within, insert-ordered, clear-insert}
+use Rattle.demands.specs.WatchingLaws.{says-processes, says-many, says-pending, says-taken}
+use Rattle.demands.specs.InsertLaws.{length-insertAt, member-insertAt}
+use Rattle.demands.specs.PendingLaws.{inserted-recordBytes}
 
 -- ---- An offer comes to one of two things
 pub data OfferCase (w mask : ℕ) (clock labels s : List ℕ) : Type 0 where

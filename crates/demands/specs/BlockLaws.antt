@@ -11,10 +11,10 @@ use Rattle.clocks.specs.declared.Event.{Event}
 use Rattle.codec.specs.Little.{Bytes}
 use Rattle.window.specs.ListLaws.{place-member}
 use Rattle.window.specs.Bytes.{countBytes}
-use Rattle.watch.specs.InsertLaws.{member-take}
-use Rattle.watch.specs.PlaceLaws.{sets-over, Bytes-append}
+use Rattle.demands.specs.InsertLaws.{member-take}
+use Rattle.demands.specs.PlaceLaws.{sets-over, Bytes-append}
 use Rattle.watch.specs.Record.{eventBytes}
-use Rattle.watch.specs.Status.{clockBytes, pendingBytes}
+use Rattle.demands.specs.Status.{clockBytes, pendingBytes}
 
 -- The bytes of some things, one behind the other.
 unfoldable pub blocks : {A : Type 0} → (A → List ℕ) → List A → List ℕ

@@ -17,11 +17,11 @@ use Rattle.rules.specs.Table.{tableBytes}
 use Rattle.clocks.specs.Event.{Cut}
 use Rattle.clocks.specs.Counts.{at, listOf}
 use Rattle.clocks.specs.CountsLaws.{length-listOf, getD-listOf, at-listOf, at-beyond}
-use Rattle.watch.specs.PlaceLaws.{zeros}
-use Rattle.watch.specs.BlockLaws.{Even, clockBytes-blocks, pendingBytes-blocks, length-blocks}
+use Rattle.demands.specs.PlaceLaws.{zeros}
+use Rattle.demands.specs.BlockLaws.{Even, clockBytes-blocks, pendingBytes-blocks, length-blocks}
 use Rattle.watch.specs.Record.{eventLength, eventBytes}
-use Rattle.watch.specs.Status.{Status, clockBytes, pendingBytes, recordBytes, Storable}
-use Rattle.watch.specs.StoredLaws.{length-counts, length-eventBytes}
+use Rattle.demands.specs.Status.{Status, clockBytes, pendingBytes, recordBytes, Storable}
+use Rattle.demands.specs.StoredLaws.{length-counts, length-eventBytes}
 
 -- The first eight bytes.
 abbrev pub headBytes : ℕ → ℕ → ℕ → ℕ → List ℕ

@@ -9,18 +9,18 @@ use mathlib.Core.Logic.{_≢_}
 use lib.ListN.{length}
 use Rattle.rules.specs.declared.Line.{Line}
 use Rattle.clocks.specs.Event.{Cut}
-use Rattle.watch.specs.Watching.{Rule, Watching}
+use Rattle.demands.specs.Watching.{Rule, Watching}
 use Rattle.watch.specs.Record.{pendingCount}
-use Rattle.watch.specs.RecordLaws.{pendingCount-recordBytes}
-use Rattle.watch.specs.Status.{removeAt}
+use Rattle.demands.specs.RecordLaws.{pendingCount-recordBytes}
+use Rattle.demands.specs.Status.{removeAt}
 use Rattle.watch.specs.Take.{takeCall, Taken, Decision, decided, undecided}
 use Rattle.watch.specs.Refusals.{roomOf}
 use Rattle.watch.specs.Answer.{turnedBack, nothingReady}
 use Rattle.watch.specs.Deciding.{Outcome, none-decides, falsifies, chooses}
-use Rattle.watch.specs.Ledger.{Ledger}
-use Rattle.watch.specs.Run.{ledgerAfter}
-use Rattle.watch.specs.InsertLaws.{length-removeAt}
-use Rattle.watch.specs.AfterCall.{noEvent, badLengths, decision, take-6, take-else, take-right, trial}
+use Rattle.demands.specs.Ledger.{Ledger}
+use Rattle.demands.specs.Run.{ledgerAfter}
+use Rattle.demands.specs.InsertLaws.{length-removeAt}
+use Rattle.demands.specs.AfterCall.{noEvent, badLengths, decision, take-6, take-else, take-right, trial}
 
 module _ (w k : ℕ) (table : List Line) (start : Cut) (R : Rule w k table start) (L : Ledger) (bytes lent : List ℕ) (X : Watching w k table start L bytes lent)
     (scratch : List ℕ) where

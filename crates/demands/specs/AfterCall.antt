@@ -24,19 +24,19 @@ use Rattle.clocks.specs.History.{taken}
 use Rattle.clocks.specs.BoundedLaws.{and-r}
 use Rattle.clocks.specs.Valid.{Joined, WellFormed}
 use Rattle.rules.specs.Line.{line}
-use Rattle.watch.specs.Watching.{Rule, Watching, worldOf}
-use Rattle.watch.specs.WatchingLaws.{says-pending, lent-longer, never-34, says-frontiers, says-event, ready-in, valid-in, setting-in}
+use Rattle.demands.specs.Watching.{Rule, Watching, worldOf}
+use Rattle.demands.specs.WatchingLaws.{says-pending, lent-longer, never-34, says-frontiers, says-event, ready-in, valid-in, setting-in}
 use Rattle.watch.specs.Offer.{offeredEvent}
-use Rattle.watch.specs.Ledger.{Ledger}
-use Rattle.watch.specs.Run.{Passed, Watch, offeredLedger, after, offers, decisionOf, ledgerAfter, Call, run, takes, finds}
-use Rattle.watch.specs.OfferLaws.{OfferCase, offer-case, accepted-watching, turned, accepted}
+use Rattle.demands.specs.Ledger.{Ledger}
+use Rattle.demands.specs.Run.{Passed, Watch, offeredLedger, after, offers, decisionOf, ledgerAfter, Call, run, takes, finds}
+use Rattle.demands.specs.OfferLaws.{OfferCase, offer-case, accepted-watching, turned, accepted}
 use Rattle.watch.specs.Take.{Decision, tried, decided, takeWithin, takeCall, undecided, settingIn, readyIn, validIn}
 use Rattle.watch.specs.Record.{keptCount, removed}
 use Rattle.watch.specs.Refusals.{badRecordLength, badWindowLength, roomOf, badState}
 use Rattle.watch.specs.Answer.{turnedBack}
 use Rattle.watch.specs.Deciding.{Outcome, outcome, none-decides, falsifies, chooses}
-use Rattle.watch.specs.TakeLaws.{falsified-watching, taken-watching}
-use Rattle.watch.specs.Status.{removeAt}
+use Rattle.demands.specs.TakeLaws.{falsified-watching, taken-watching}
+use Rattle.demands.specs.Status.{removeAt}
 
 -- ---- A watch and its ledger
 abbrev pub WatchRight : ℕ → ℕ → List Line → Cut → Watch → Type 0

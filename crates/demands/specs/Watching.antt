@@ -34,8 +34,8 @@ use Rattle.rules.specs.Truth.{lineTruth}
 use Rattle.clocks.specs.Counts.{at, listOf}
 use Rattle.clocks.specs.Tested.{consistent}
 use Rattle.clocks.specs.CountsLaws.{length-listOf, at-listOf, at-beyond}
-use Rattle.watch.specs.Ledger.{Ledger, Kept-right}
-use Rattle.watch.specs.Status.{Status, recordBytes, Storable, Sized}
+use Rattle.demands.specs.Ledger.{Ledger, Kept-right}
+use Rattle.demands.specs.Status.{Status, recordBytes, Storable, Sized}
 
 -- The world of a watch: eight processes stored, none closed.
 abbrev pub worldOf : ℕ → List Line → Cut → World

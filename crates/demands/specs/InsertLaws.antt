@@ -6,7 +6,7 @@ use mathlib.Core.List.{List, [], _∷_, _++_, List·Memᴰ, List·Memᴰ·head, 
 use mathlib.Core.Logic.{_⊎_, inl, inr, ⊎-elim, _↔_}
 use lib.ListN.{length, getD, take, drop, length-append, length-drop, take-append-drop}
 use lib.Seq.{split-at, getD-at, length-take-le}
-use Rattle.watch.specs.Status.{insertAt, removeAt}
+use Rattle.demands.specs.Status.{insertAt, removeAt}
 
 -- ---- Parts of a list have members of the list
 module _ {A : Type 0} where

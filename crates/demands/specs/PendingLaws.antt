@@ -9,15 +9,15 @@ use lib.Seq.{sets}
 use Rattle.clocks.specs.declared.Event.{Event}
 use Rattle.window.specs.ListLaws.{place-member}
 use Rattle.clocks.specs.CountsLaws.{filled}
-use Rattle.watch.specs.PlaceLaws.{zeros, drop-behind, sets-behind}
-use Rattle.watch.specs.BlockLaws.{blocks, pendingBytes-blocks, block-apart, length-before, Even}
+use Rattle.demands.specs.PlaceLaws.{zeros, drop-behind, sets-behind}
+use Rattle.demands.specs.BlockLaws.{blocks, pendingBytes-blocks, block-apart, length-before, Even}
 use Rattle.watch.specs.Record.{eventLength, pendingPlace, pendingAt, pendingEvents, eventBytes, inserted, removed}
-use Rattle.watch.specs.RecordBlocks.{frontBytes, recordBytes-blocks, even-pending, length-frontBytes, pendingBlock}
-use Rattle.watch.specs.Status.{Status, recordBytes, Sized, Storable, insertAt, removeAt, withPending}
-use Rattle.watch.specs.RecordLaws.{pendingCount-recordBytes}
-use Rattle.watch.specs.StoredLaws.{eventFrom-bytes, length-eventBytes}
-use Rattle.watch.specs.RoomLaws.{inRoom, part-inRoom, inserted-inRoom, removed-inRoom}
-use Rattle.watch.specs.InsertLaws.{length-insertAt, length-removeAt}
+use Rattle.demands.specs.RecordBlocks.{frontBytes, recordBytes-blocks, even-pending, length-frontBytes, pendingBlock}
+use Rattle.demands.specs.Status.{Status, recordBytes, Sized, Storable, insertAt, removeAt, withPending}
+use Rattle.demands.specs.RecordLaws.{pendingCount-recordBytes}
+use Rattle.demands.specs.StoredLaws.{eventFrom-bytes, length-eventBytes}
+use Rattle.demands.specs.RoomLaws.{inRoom, part-inRoom, inserted-inRoom, removed-inRoom}
+use Rattle.demands.specs.InsertLaws.{length-insertAt, length-removeAt}
 
 -- An event for the places past the end.
 none : Event

@@ -11,15 +11,15 @@ use Rattle.clocks.specs.Event.{Cut}
 use Rattle.clocks.specs.Counts.{at}
 use Rattle.window.specs.Start.{startFrontier}
 use Rattle.rules.specs.Reader.{readRule, formed}
-use Rattle.watch.specs.Reports.{Reporting, after-reporting, open-reporting}
-use Rattle.watch.specs.Watching.{Rule}
+use Rattle.demands.specs.Reports.{Reporting, after-reporting, open-reporting}
+use Rattle.demands.specs.Watching.{Rule}
 use Rattle.watch.specs.Open.{Opened, openTable, openCall}
 use Rattle.watch.specs.Answer.{turnedBack, state}
-use Rattle.watch.specs.OpenLaws.{OpenCase, open-case, opened-rule, opened-right, turned-back, opens, opened-start}
-use Rattle.watch.specs.Ledger.{occurrences}
-use Rattle.watch.specs.Run.{Call, Passed, Watch, after, run, opened}
-use Rattle.watch.specs.Balance.{WatchBalanced, after-balanced}
-use Rattle.watch.specs.AfterCall.{WatchRight, after-right}
+use Rattle.demands.specs.OpenLaws.{OpenCase, open-case, opened-rule, opened-right, turned-back, opens, opened-start}
+use Rattle.demands.specs.Ledger.{occurrences}
+use Rattle.demands.specs.Run.{Call, Passed, Watch, after, run, opened}
+use Rattle.demands.specs.Balance.{WatchBalanced, after-balanced}
+use Rattle.demands.specs.AfterCall.{WatchRight, after-right}
 
 -- Open accepted the text, the number of processes and the start labels (01: answers as for a taken event).
 abbrev pub Accepts : ℕ → List ℕ → ℕ → List ℕ → List ℕ → List ℕ → Type 0

@@ -22,8 +22,8 @@ use Rattle.clocks.specs.Valid.{Takeable, History, ClockRule}
 use Rattle.clocks.specs.CausalLaws.{count-number, number-of, in-occupied, count-within}
 use Rattle.clocks.specs.Tested.{ready}
 use Rattle.clocks.specs.SameEvents.{Same, same-sym, same-taken}
-use Rattle.watch.specs.Ledger.{occurrences, Ledger, Eight, Kept-right, accounted, Settled}
-use Rattle.watch.specs.Run.{takes}
+use Rattle.demands.specs.Ledger.{occurrences, Ledger, Eight, Kept-right, accounted, Settled}
+use Rattle.demands.specs.Run.{takes}
 
 -- ---- occurrences and members
 pub occurs-i : (e : Event) (fs : List Event) → List·Memᴰ e fs → 0 < occurrences e fs

@@ -28,8 +28,8 @@ use Rattle.clocks.specs.Counts.{listOf}
 use Rattle.clocks.specs.Lattice.{taken-consistent}
 use Rattle.clocks.specs.Agree.{agree-old}
 use Rattle.clocks.specs.Valid.{Joined, History}
-use Rattle.watch.specs.Watching.{worldOf, Rule}
+use Rattle.demands.specs.Watching.{worldOf, Rule}
 use Rattle.watch.specs.Answer.{Answer, state}
 
 -- ---- Statement
 
