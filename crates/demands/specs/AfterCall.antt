@@ -30,9 +30,10 @@ use Rattle.watch.specs.Offer.{offeredEvent}
 use Rattle.demands.specs.Ledger.{Ledger}
 use Rattle.demands.specs.Run.{Passed, Watch, offeredLedger, after, offers, decisionOf, ledgerAfter, Call, run, takes, finds}
 use Rattle.demands.specs.OfferLaws.{OfferCase, offer-case, accepted-watching, turned, accepted}
-use Rattle.watch.specs.Take.{Decision, tried, decided, takeWithin, takeCall, undecided, settingIn, readyIn, validIn}
-use Rattle.watch.specs.Record.{keptCount, removed}
-use Rattle.watch.specs.Refusals.{badRecordLength, badWindowLength, roomOf, badState}
+use Rattle.watch.specs.Take.{Decision, tried, decided, takeWithin, takeCall, undecided, settingIn}
+use Rattle.records.specs.Record.{readyIn, validIn}
+use Rattle.records.specs.Record.{keptCount, removed}
+use Rattle.records.specs.Refusals.{badRecordLength, badWindowLength, roomOf, badState}
 use Rattle.watch.specs.Answer.{turnedBack}
 use Rattle.watch.specs.Deciding.{Outcome, outcome, none-decides, falsifies, chooses}
 use Rattle.demands.specs.TakeLaws.{falsified-watching, taken-watching}

@@ -12,8 +12,8 @@ use Rattle.clocks.specs.Event.{Cut, one}
 use Rattle.clocks.specs.SameEvent.{sameEvent}
 use Rattle.demands.specs.InsertLaws.{length-insertAt, length-removeAt, insertAt-removeAt}
 use Rattle.demands.specs.Watching.{Rule, Watching}
-use Rattle.watch.specs.Record.{pendingAt, pendingEvents}
-use Rattle.watch.specs.Refusals.{roomOf}
+use Rattle.records.specs.Record.{pendingAt, pendingEvents}
+use Rattle.records.specs.Refusals.{roomOf}
 use Rattle.watch.specs.Deciding.{Outcome, none-decides, falsifies, chooses}
 use Rattle.demands.specs.WatchingLaws.{says-event}
 use Rattle.watch.specs.Offer.{placeAmong, offeredEvent}

@@ -13,7 +13,7 @@ use Rattle.window.specs.ListLaws.{place-member}
 use Rattle.window.specs.Bytes.{countBytes}
 use Rattle.demands.specs.InsertLaws.{member-take}
 use Rattle.demands.specs.PlaceLaws.{sets-over, Bytes-append}
-use Rattle.watch.specs.Record.{eventBytes}
+use Rattle.records.specs.Record.{eventBytes}
 use Rattle.demands.specs.Status.{clockBytes, pendingBytes}
 
 -- The bytes of some things, one behind the other.

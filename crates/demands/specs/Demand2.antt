@@ -28,8 +28,8 @@ use Rattle.clocks.specs.Tested.{consistent}
 use Rattle.clocks.specs.Valid.{Joined, History}
 use Rattle.demands.specs.Watching.{worldOf, statusOf}
 use Rattle.watch.specs.Take.{takeCall}
-use Rattle.watch.specs.Record.{keptCount}
-use Rattle.watch.specs.Refusals.{badRecordLength, badWindowLength}
+use Rattle.records.specs.Record.{keptCount}
+use Rattle.records.specs.Refusals.{badRecordLength, badWindowLength}
 use Rattle.watch.specs.Answer.{nothingReady}
 use Rattle.demands.specs.WatchingLaws.{says-frontiers}
 use Rattle.demands.specs.Ledger.{Settled}

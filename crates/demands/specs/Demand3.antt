@@ -29,7 +29,7 @@ use Rattle.rules.specs.Reader.{formed}
 use Rattle.clocks.specs.Counts.{at}
 use Rattle.demands.specs.Watching.{worldOf, statusOf, Watching, proper, causal-history}
 use Rattle.demands.specs.Delivery.{same-pending, same-taken-events}
-use Rattle.watch.specs.Record.{keptCount}
+use Rattle.records.specs.Record.{keptCount}
 use Rattle.watch.specs.Answer.{Answer, state, nothingReady}
 use Rattle.demands.specs.PendingOrder.{ordered-unique}
 use Rattle.demands.specs.WatchingLaws.{says-frontiers}

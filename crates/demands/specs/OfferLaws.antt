@@ -28,8 +28,8 @@ use Rattle.clocks.specs.Bounded.{anyBelow}
 use Rattle.clocks.specs.KeyLaws.{lowest-lt, lowest-involved}
 use Rattle.clocks.specs.BoundedLaws.{any-i, any-of-i}
 use Rattle.clocks.specs.Valid.{WellFormed}
-use Rattle.watch.specs.Record.{processCount, pendingCount, takenCounts, pendingEvents, inserted}
-use Rattle.watch.specs.Refusals.{badRecordLength, badState, alreadyTaken, conflicting, conflicts}
+use Rattle.records.specs.Record.{processCount, pendingCount, takenCounts, pendingEvents, inserted}
+use Rattle.records.specs.Refusals.{badRecordLength, badState, alreadyTaken, conflicting, conflicts}
 use Rattle.watch.specs.Answer.{turnedBack, held}
 use Rattle.watch.specs.Offer.{placeAmong, offeredEvent, offerCall}
 use Rattle.demands.specs.Watching.{Rule, Watching, statusOf, sized, NoClash}

@@ -31,7 +31,7 @@ use Rattle.clocks.specs.Event.{Cut}
 use Rattle.clocks.specs.JoinedClock.{joined-rule}
 use Rattle.clocks.specs.CountsLaws.{listOf-at}
 use Rattle.clocks.specs.Valid.{Joined}
-use Rattle.watch.specs.Refusals.{badRecordLength, badWindowLength, badProcesses}
+use Rattle.records.specs.Refusals.{badRecordLength, badWindowLength, badProcesses}
 use Rattle.watch.specs.Open.{openTable, openRead, openCall}
 use Rattle.watch.specs.Answer.{turnedBack}
 use Rattle.demands.specs.AfterCall.{or-false, WatchRight}

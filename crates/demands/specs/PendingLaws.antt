@@ -11,7 +11,7 @@ use Rattle.window.specs.ListLaws.{place-member}
 use Rattle.clocks.specs.CountsLaws.{filled}
 use Rattle.demands.specs.PlaceLaws.{zeros, drop-behind, sets-behind}
 use Rattle.demands.specs.BlockLaws.{blocks, pendingBytes-blocks, block-apart, length-before, Even}
-use Rattle.watch.specs.Record.{eventLength, pendingPlace, pendingAt, pendingEvents, eventBytes, inserted, removed}
+use Rattle.records.specs.Record.{eventLength, pendingPlace, pendingAt, pendingEvents, eventBytes, inserted, removed}
 use Rattle.demands.specs.RecordBlocks.{frontBytes, recordBytes-blocks, even-pending, length-frontBytes, pendingBlock}
 use Rattle.demands.specs.Status.{Status, recordBytes, Sized, Storable, insertAt, removeAt, withPending}
 use Rattle.demands.specs.RecordLaws.{pendingCount-recordBytes}

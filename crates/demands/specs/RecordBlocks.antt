@@ -19,7 +19,7 @@ use Rattle.clocks.specs.Counts.{at, listOf}
 use Rattle.clocks.specs.CountsLaws.{length-listOf, getD-listOf, at-listOf, at-beyond}
 use Rattle.demands.specs.PlaceLaws.{zeros}
 use Rattle.demands.specs.BlockLaws.{Even, clockBytes-blocks, pendingBytes-blocks, length-blocks}
-use Rattle.watch.specs.Record.{eventLength, eventBytes}
+use Rattle.records.specs.Record.{eventLength, eventBytes}
 use Rattle.demands.specs.Status.{Status, clockBytes, pendingBytes, recordBytes, Storable}
 use Rattle.demands.specs.StoredLaws.{length-counts, length-eventBytes}
 

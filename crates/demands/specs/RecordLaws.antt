@@ -15,7 +15,7 @@ use Rattle.clocks.specs.Counts.{listOf}
 use Rattle.clocks.specs.CountsLaws.{length-listOf, listOf-same, getD-listOf}
 use Rattle.window.specs.Bytes.{countBytes}
 use Rattle.demands.specs.PlaceLaws.{numbers-countBytes, zeros, Bytes-append, Bytes-zeros, Bytes-countBytes, Bytes-cons}
-use Rattle.watch.specs.Record.{clocksPlace, tablePlace, recordLength, processCount, lineTotal, pendingCount, keptCount, takenCounts, lastClocks, tableLines, eventLength, eventBytes}
+use Rattle.records.specs.Record.{clocksPlace, tablePlace, recordLength, processCount, lineTotal, pendingCount, keptCount, takenCounts, lastClocks, tableLines, eventLength, eventBytes}
 use Rattle.demands.specs.RecordBlocks.{clockRows, pendingBlock, recordBytes-blocks, headOf, beforeTable, afterCounts, afterHead, kept-split, counts-split, table-split, fit-listOf, length-pendingBlock, length-frontBytes, length-beforeTable, beforeClocks, afterClocks, tableBlock, frontBytes, clocks-split, length-headOf, even-clocks, length-beforeClocks}
 use Rattle.demands.specs.Status.{Status, recordBytes, Sized, clockBytes, pendingBytes}
 use Rattle.demands.specs.BlockLaws.{blocks, clockBytes-blocks, pendingBytes-blocks, Bytes-blocks, block-apart, length-before}

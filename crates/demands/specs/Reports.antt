@@ -25,14 +25,14 @@ use Rattle.clocks.specs.Counts.{listOf}
 use Rattle.clocks.specs.Tested.{ready}
 use Rattle.clocks.specs.Valid.{Joined, History}
 use Rattle.demands.specs.Watching.{Rule, Watching, worldOf}
-use Rattle.watch.specs.Record.{pendingCount, pendingAt, pendingEvents, lineTotal, keptCount}
+use Rattle.records.specs.Record.{pendingCount, pendingAt, pendingEvents, lineTotal, keptCount}
 use Rattle.watch.specs.Answer.{Answer, turnedBack, state, nothingReady, held, found, absent}
 use Rattle.watch.specs.Offer.{offeredEvent, placeAmong}
 use Rattle.demands.specs.Ledger.{Ledger, Settled}
 use Rattle.demands.specs.Run.{Watch, offeredLedger, after, offers, ledgerAfter, Call, takes, finds}
 use Rattle.demands.specs.OfferLaws.{OfferCase, offer-case, turned, accepted}
 use Rattle.demands.specs.Verdicts.{Truthful, TrueVerdict, verdict-later, state-true}
-use Rattle.watch.specs.Refusals.{roomOf, badRecordLength, badWindowLength, badState}
+use Rattle.records.specs.Refusals.{roomOf, badRecordLength, badWindowLength, badState}
 use Rattle.watch.specs.Deciding.{Outcome, none-decides, falsifies, chooses}
 use Rattle.demands.specs.AfterCall.{WatchRight, noEvent, lengthened, decision, badLengths, take-6, take-else, trial, is-ready, is-valid}
 use Rattle.watch.specs.Take.{Decision, decided, stateOf}

@@ -12,8 +12,8 @@ use Rattle.clocks.specs.Counts.{at}
 use Rattle.clocks.specs.Lattice.{zeros}
 use Rattle.watch.specs.Find.{findCall}
 use Rattle.watch.specs.Take.{Decision, tried, takeCall, undecided, false-clock, chosen}
-use Rattle.watch.specs.Record.{keptCount, pendingAt, pendingEvents}
-use Rattle.watch.specs.Refusals.{badRecordLength, badWindowLength, roomOf, badState}
+use Rattle.records.specs.Record.{keptCount, pendingAt, pendingEvents}
+use Rattle.records.specs.Refusals.{badRecordLength, badWindowLength, roomOf, badState}
 use Rattle.watch.specs.Open.{Opened}
 use Rattle.watch.specs.Answer.{Answer, turnedBack, state, nothingReady, held, found, absent}
 use Rattle.watch.specs.Offer.{placeAmong, offeredEvent, offerCall}

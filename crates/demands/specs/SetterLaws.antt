@@ -24,7 +24,7 @@ use Rattle.rules.specs.TableLaws.{length-tableBytes}
 use Rattle.rules.specs.Table.{tableBytes}
 use Rattle.demands.specs.PlaceLaws.{sets-over, sets-inside, zeros, zeros-add, countBytes-zeros}
 use Rattle.demands.specs.BlockLaws.{clockBytes-blocks, blocks-set}
-use Rattle.watch.specs.Record.{takenPlace, clocksPlace, clocksSet, counted, eventLength}
+use Rattle.records.specs.Record.{takenPlace, clocksPlace, clocksSet, counted, eventLength}
 use Rattle.demands.specs.RecordBlocks.{clockRows, headOf, beforeClocks, afterClocks, afterCounts, afterHead, kept-split, counts-split, clocks-split, length-headOf, length-eight, even-clocks, length-clocks, length-beforeClocks, headBytes}
 use Rattle.demands.specs.Status.{Status, clockBytes, recordBytes, pendingBytes, Sized, withTaken, firstStatus}
 use Rattle.demands.specs.StoredLaws.{length-counts}

@@ -11,7 +11,7 @@ use Rattle.window.specs.Bytes.{countBytes}
 use Rattle.rules.specs.Table.{tableBytes}
 use Rattle.clocks.specs.Event.{count, Cut, involved, apply}
 use Rattle.clocks.specs.Counts.{at, listOf}
-use Rattle.watch.specs.Record.{eventLength, eventBytes}
+use Rattle.records.specs.Record.{eventLength, eventBytes}
 
 -- What a record says: the number of processes, the table, the frontiers kept, the taken counts, each process's last clock, the pending
 -- events in their order.

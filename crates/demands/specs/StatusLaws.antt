@@ -15,7 +15,7 @@ use Rattle.codec.specs.Little.{Bytes}
 use Rattle.codec.specs.LittleLaws.{pow-256-pos}
 use Rattle.rules.specs.Table.{tableBytes}
 use Rattle.demands.specs.InsertLaws.{length-insertAt, member-insertAt, length-removeAt, member-removeAt}
-use Rattle.watch.specs.Record.{processCount, keptCount, takenCounts, lastClocks, tableLines, pendingEvents}
+use Rattle.records.specs.Record.{processCount, keptCount, takenCounts, lastClocks, tableLines, pendingEvents}
 use Rattle.demands.specs.RecordBlocks.{clockRows, AllStorable}
 use Rattle.demands.specs.PendingLaws.{pendingEvents-recordBytes}
 use Rattle.demands.specs.SetterLaws.{recordBytes-same}

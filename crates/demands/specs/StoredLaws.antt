@@ -11,7 +11,7 @@ use Rattle.window.specs.BytesLaws.{length-countBytes}
 use Rattle.window.specs.Bytes.{countBytes}
 use Rattle.clocks.specs.Counts.{listOf}
 use Rattle.demands.specs.PlaceLaws.{numbers-countBytes, zeros, Bytes-append, Bytes-cons, Bytes-zeros, Bytes-countBytes}
-use Rattle.watch.specs.Record.{eventLength, eventBytes}
+use Rattle.records.specs.Record.{eventLength, eventBytes}
 use Rattle.demands.specs.Status.{Storable}
 
 -- The event whose bytes begin at a place.

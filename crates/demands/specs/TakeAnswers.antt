@@ -23,8 +23,9 @@ use Rattle.codec.specs.Bit.{bit}
 use Rattle.window.specs.Verdict.{stepped-many}
 use Rattle.window.specs.ListLaws.{place-member, member-place}
 use Rattle.demands.specs.Watching.{worldOf, Rule, Watching}
-use Rattle.watch.specs.Take.{takeCall, Taken, settingIn, readyIn, validIn, Decision, stateOf, decided, undecided, false-clock, chosen}
-use Rattle.watch.specs.Refusals.{roomOf}
+use Rattle.watch.specs.Take.{takeCall, Taken, settingIn, Decision, stateOf, decided, undecided, false-clock, chosen}
+use Rattle.records.specs.Record.{readyIn, validIn}
+use Rattle.records.specs.Refusals.{roomOf}
 use Rattle.watch.specs.Answer.{turnedBack, state, nothingReady}
 use Rattle.watch.specs.Deciding.{Indecisive, Outcome, none-decides, falsifies, chooses}
 use Rattle.demands.specs.WatchingLaws.{ready-in, valid-in, setting-in, says-lines, says-event, says-taken}

@@ -31,7 +31,7 @@ use Rattle.clocks.specs.Tested.{ready}
 use Rattle.clocks.specs.CausalLaws.{clock-some}
 use Rattle.window.specs.Verdict.{some-frontier}
 use Rattle.demands.specs.Watching.{worldOf, Rule, statusOf, Watching, proper, kept-shaped, sized, all-shaped}
-use Rattle.watch.specs.Record.{removed, counted}
+use Rattle.records.specs.Record.{removed, counted}
 use Rattle.demands.specs.PendingOrder.{remove-ordered, clear-remove, clear-other, remove-e}
 use Rattle.demands.specs.Ledger.{Ledger}
 use Rattle.demands.specs.Status.{removeAt, Status, recordBytes, Storable, withPending, Sized}

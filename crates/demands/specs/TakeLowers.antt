@@ -10,11 +10,11 @@ use lib.ListN.{length}
 use Rattle.rules.specs.declared.Line.{Line}
 use Rattle.clocks.specs.Event.{Cut}
 use Rattle.demands.specs.Watching.{Rule, Watching}
-use Rattle.watch.specs.Record.{pendingCount}
+use Rattle.records.specs.Record.{pendingCount}
 use Rattle.demands.specs.RecordLaws.{pendingCount-recordBytes}
 use Rattle.demands.specs.Status.{removeAt}
 use Rattle.watch.specs.Take.{takeCall, Taken, Decision, decided, undecided}
-use Rattle.watch.specs.Refusals.{roomOf}
+use Rattle.records.specs.Refusals.{roomOf}
 use Rattle.watch.specs.Answer.{turnedBack, nothingReady}
 use Rattle.watch.specs.Deciding.{Outcome, none-decides, falsifies, chooses}
 use Rattle.demands.specs.Ledger.{Ledger}

@@ -15,8 +15,9 @@ use Rattle.window.specs.Bytes.{frontiers}
 use Rattle.window.specs.Step.{Setting, fits, keptAfter}
 use Rattle.watch.specs.declared.Choice.{Choice}
 use Rattle.watch.specs.declared.Choice.the-variants.{Undecided, Falsified, Chosen}
-use Rattle.watch.specs.Record.{keptCount, pendingCount, pendingAt, pendingEvents}
-use Rattle.watch.specs.Take.{Decision, undecided, false-clock, chosen, tried, readyIn, settingIn, decided, takeWithin}
+use Rattle.records.specs.Record.{keptCount, pendingCount, pendingAt, pendingEvents}
+use Rattle.watch.specs.Take.{Decision, undecided, false-clock, chosen, tried, settingIn, decided, takeWithin}
+use Rattle.records.specs.Record.{readyIn}
 use Rattle.watch.specs.TakeSteps.{choiceOf}
 use Rattle.watch.specs.Deciding.{Outcome, outcome, none-decides, falsifies, chooses}
 

@@ -12,7 +12,8 @@ use Rattle.clocks.specs.declared.Event.{Event}
 use Rattle.window.specs.Step.{fits}
 use Rattle.clocks.specs.EventLaws.{true-T}
 use Rattle.clocks.specs.Counts.{at}
-use Rattle.watch.specs.Take.{settingIn, readyIn, validIn, tried, undecided, false-clock, chosen}
+use Rattle.watch.specs.Take.{settingIn, tried, undecided, false-clock, chosen}
+use Rattle.records.specs.Record.{readyIn, validIn}
 
 -- The event decides nothing: where it is ready, its clock is valid and its window does not fit.
 abbrev pub Indecisive : ℕ → List ℕ → ℕ → List Frontier → Event → Type 0

@@ -8,8 +8,8 @@ use Rattle.window.specs.declared.Frontier.{Frontier}
 use Rattle.codec.specs.Bit.{bit}
 use Rattle.window.specs.Bytes.{frontiers}
 use Rattle.rules.specs.Line.{line}
-use Rattle.watch.specs.Record.{lineTotal, keptCount}
-use Rattle.watch.specs.Refusals.{badRecordLength, badWindowLength, roomOf, badState}
+use Rattle.records.specs.Record.{lineTotal, keptCount}
+use Rattle.records.specs.Refusals.{badRecordLength, badWindowLength, roomOf, badState}
 use Rattle.watch.specs.Answer.{Answer, turnedBack, found, absent}
 
 -- The place, from i on, of the first frontier at which the line holds; none if there is none.

@@ -8,10 +8,10 @@ use mathlib.Core.List.{List}
 use lib.ListN.{drop}
 use Rattle.codec.specs.Bit.{bit}
 use Rattle.window.specs.Bytes.{frontierAt, frontiers, frontierLength}
-use Rattle.watch.specs.ListSteps.{rest-next, rest-end}
+use Rattle.records.specs.ListSteps.{rest-next, rest-end}
 use Rattle.watch.specs.Find.{findFrom}
 use Rattle.watch.specs.Answer.{replyWord}
-use Rattle.watch.specs.Refusals.{roomOf}
+use Rattle.records.specs.Refusals.{roomOf}
 
 -- ---- Through the frontiers
 

@@ -1,21 +1,14 @@
--- The watch: its record and the four calls.
+-- The watch: the four calls on its record and window.
 
 -- What a reader has to believe
-pub mod Record
 pub mod Answer
-pub mod Refusals
 pub mod Offer
 pub mod Take
 pub mod Find
 pub mod Words
 pub mod Open
 -- What the code's proofs cite: one turn, one test at a time
-pub mod ListSteps
-pub mod MovingSteps
-pub mod RecordSteps
-pub mod UpdateSteps
 pub mod TurnSteps
-pub mod RefusalSteps
 pub mod OfferSteps
 pub mod Deciding
 pub mod TakeSteps

@@ -8,8 +8,8 @@ use Rattle.clocks.specs.declared.Event.{Event}
 use Rattle.clocks.specs.Key.{keyOf, keyBefore}
 use Rattle.clocks.specs.Counts.{at}
 use Rattle.clocks.specs.Refusal.{badMask, badClock, badLabels}
-use Rattle.watch.specs.Record.{processCount, pendingCount, takenCounts, pendingEvents, inserted}
-use Rattle.watch.specs.Refusals.{badRecordLength, badState, alreadyTaken, conflicting}
+use Rattle.records.specs.Record.{processCount, pendingCount, takenCounts, pendingEvents, inserted}
+use Rattle.records.specs.Refusals.{badRecordLength, badState, alreadyTaken, conflicting}
 use Rattle.watch.specs.Answer.{Answer, turnedBack, held}
 
 -- What a call that is lent the record answers and leaves there.

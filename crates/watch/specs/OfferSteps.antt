@@ -12,12 +12,12 @@ use Rattle.clocks.specs.declared.Event.{Event}
 use Rattle.clocks.specs.Key.{keyOf, keyBefore}
 use Rattle.clocks.specs.Counts.{at}
 use Rattle.clocks.specs.Refusal.{badMask, badClock, badLabels, eventFault}
-use Rattle.watch.specs.ListSteps.{rest-next, rest-end}
-use Rattle.watch.specs.Record.{processCount, pendingCount, takenCounts, pendingAt, pendingEvents, inserted, recordLength}
-use Rattle.watch.specs.Refusals.{badRecordLength, badState, alreadyTaken, conflicting}
+use Rattle.records.specs.ListSteps.{rest-next, rest-end}
+use Rattle.records.specs.Record.{processCount, pendingCount, takenCounts, pendingAt, pendingEvents, inserted, recordLength}
+use Rattle.records.specs.Refusals.{badRecordLength, badState, alreadyTaken, conflicting}
 use Rattle.watch.specs.Answer.{turnedBack, held, replyWord}
 use Rattle.watch.specs.Offer.{Offered, placeAmong, offeredEvent, offerCall}
-use Rattle.watch.specs.RefusalSteps.{right-length}
+use Rattle.records.specs.RefusalSteps.{right-length}
 use Rattle.watch.specs.TurnSteps.{Turns, chosen-by, passed, end, turn}
 
 -- ---- The refusals in their order

@@ -13,8 +13,8 @@ use Rattle.rules.specs.Reader.{Reading, readRule, formed, refused}
 use Rattle.clocks.specs.Refusal.{badStart}
 use Rattle.clocks.specs.CountsLaws.{filled}
 use Rattle.watch.specs.Take.{stateOf}
-use Rattle.watch.specs.Record.{eventLength}
-use Rattle.watch.specs.Refusals.{badRecordLength, badWindowLength, badProcesses}
+use Rattle.records.specs.Record.{eventLength}
+use Rattle.records.specs.Refusals.{badRecordLength, badWindowLength, badProcesses}
 use Rattle.watch.specs.Answer.{Answer, turnedBack}
 
 -- What open answers and leaves in the two buffers that it is lent.

@@ -21,9 +21,9 @@ use Rattle.rules.specs.LineLaws.{lineCount-pos}
 use Rattle.rules.specs.Reader.{Reading, readRule, formed, refused}
 use Rattle.clocks.specs.Refusal.{badStart}
 use Rattle.rules.specs.declared.Line.{Line}
-use Rattle.watch.specs.RefusalSteps.{or-false-e, right-length, processes-within, window-holds}
-use Rattle.watch.specs.Record.{recordLength}
-use Rattle.watch.specs.Refusals.{badRecordLength, badWindowLength, badProcesses}
+use Rattle.records.specs.RefusalSteps.{or-false-e, right-length, processes-within, window-holds}
+use Rattle.records.specs.Record.{recordLength}
+use Rattle.records.specs.Refusals.{badRecordLength, badWindowLength, badProcesses}
 use Rattle.watch.specs.Open.{Opened, openTable, openRead, openCall}
 use Rattle.watch.specs.Answer.{replyWord, turnedBack}
 use Rattle.watch.specs.OpenSteps.{openFault}

@@ -20,8 +20,8 @@ use Rattle.clocks.specs.Counts.{at}
 use Rattle.codec.specs.Bit.{bit}
 use Rattle.window.specs.Start.{startFrontier}
 use Rattle.rules.specs.Judge.{judge}
-use Rattle.watch.specs.Record.{tablePlace, eventLength, recordLength}
-use Rattle.watch.specs.Refusals.{badRecordLength, badWindowLength, badProcesses}
+use Rattle.records.specs.Record.{tablePlace, eventLength, recordLength}
+use Rattle.records.specs.Refusals.{badRecordLength, badWindowLength, badProcesses}
 use Rattle.watch.specs.Open.{firstRecord, openTable}
 use Rattle.watch.specs.Take.{stateOf}
 use Rattle.watch.specs.Answer.{flag, replyWord}

@@ -12,11 +12,9 @@ use Rattle.window.specs.Step.{Setting, stepped, fits}
 use Rattle.window.specs.Bytes.{frontiers, windowBytes}
 use Rattle.clocks.specs.History.{event}
 use Rattle.clocks.specs.Event.{apply}
-use Rattle.clocks.specs.Counts.{at, listOf, rows}
-use Rattle.clocks.specs.Tested.{ready}
-use Rattle.clocks.specs.ValidTest.{validBy}
-use Rattle.watch.specs.Record.{processCount, lineTotal, keptCount, takenCounts, lastClocks, tableLines, pendingAt, pendingEvents, removed, counted}
-use Rattle.watch.specs.Refusals.{badRecordLength, badWindowLength, roomOf, badState}
+use Rattle.clocks.specs.Counts.{at, listOf}
+use Rattle.records.specs.Record.{processCount, lineTotal, keptCount, takenCounts, tableLines, pendingAt, pendingEvents, removed, counted, readyIn, validIn}
+use Rattle.records.specs.Refusals.{badRecordLength, badWindowLength, roomOf, badState}
 use Rattle.watch.specs.Answer.{Answer, turnedBack, state, nothingReady}
 
 -- What take answers and leaves in the three buffers that it is lent.
@@ -36,13 +34,6 @@ settingIn w s e = record {
   event = e;
   reached = apply e (at (takenCounts w s));
 }
-
--- The event is ready, its clock valid, by the record's bytes.
-unfoldable pub readyIn : ℕ → List ℕ → Event → Bool
-readyIn w s e = ready 8 e (at (takenCounts w s))
-
-unfoldable pub validIn : ℕ → List ℕ → Event → Bool
-validIn w s e = validBy 8 e (rows (lastClocks w s))
 
 -- What take decides: on nothing (was some event ready?), that pending event i has a false clock, or to take event i.
 pub data Decision : Type 0 where

@@ -10,11 +10,11 @@ use lib.Dec.{eqb, lit<, ltb}
 use lib.ListN.{length}
 use borrow.Author.Tests.{ne-eqb, eq-eqb, eqb-true, not-false, ltb-false}
 use Rattle.window.specs.Bytes.{frontierLength}
-use Rattle.watch.specs.Record.{recordLength, processCount, lineTotal, pendingCount, keptCount}
-use Rattle.watch.specs.Refusals.{badRecordLength, badWindowLength, roomOf, badState}
+use Rattle.records.specs.Record.{recordLength, processCount, lineTotal, pendingCount, keptCount}
+use Rattle.records.specs.Refusals.{badRecordLength, badWindowLength, roomOf, badState}
 use Rattle.watch.specs.Answer.{replyWord, turnedBack}
 use Rattle.watch.specs.Take.{Taken, takeWithin, takeCall}
-use Rattle.watch.specs.RefusalSteps.{or-false-e, right-length, state-within}
+use Rattle.records.specs.RefusalSteps.{or-false-e, right-length, state-within}
 use Rattle.watch.specs.FindSteps.{room-within}
 use Rattle.watch.specs.TurnSteps.{chosen-by, passed, end, turn}
 

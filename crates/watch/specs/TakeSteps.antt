@@ -20,8 +20,9 @@ use Rattle.window.specs.Step.{fits, keptAfter}
 use Rattle.window.specs.StepCode.{settingWith}
 use Rattle.codec.specs.BitLaws.{bit-above}
 use Rattle.codec.specs.Little.{number}
-use Rattle.watch.specs.Take.{settingIn, readyIn, validIn, Decision, tried, undecided, false-clock, chosen}
-use Rattle.watch.specs.Record.{tablePlace, processCount, lineTotal, pendingCount, takenCounts, tableLines, pendingAt, pendingEvents, takenPlace}
+use Rattle.watch.specs.Take.{settingIn, Decision, tried, undecided, false-clock, chosen}
+use Rattle.records.specs.Record.{readyIn, validIn}
+use Rattle.records.specs.Record.{tablePlace, processCount, lineTotal, pendingCount, takenCounts, tableLines, pendingAt, pendingEvents, takenPlace}
 
 -- A decision as the code has it: with an event to take comes how many frontiers are kept then.
 unfoldable pub choiceOf : ℕ → List ℕ → List Frontier → Decision → Choice

@@ -1,11 +1,11 @@
 // Find (01, The calls): the first kept frontier at which a line of the table holds, or none.
 
-use crate::record::kept_count;
-use crate::record::line_total;
-use crate::refusal::bad_record_length;
-use crate::refusal::bad_state;
-use crate::refusal::bad_window_length;
-use crate::refusal::room_of;
+use records::fields::kept_count;
+use records::fields::line_total;
+use records::refusal::bad_record_length;
+use records::refusal::bad_state;
+use records::refusal::bad_window_length;
+use records::refusal::room_of;
 ghost use Prim.Native.Nat.{_≤_, _<_, _*_};
 ghost use mathlib.Core.Path.{_≡_};
 ghost use lib.ListN.{length};

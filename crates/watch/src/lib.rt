@@ -1,13 +1,5 @@
 // The watch: a record and a window of bytes that the caller lends, and four calls on them.
 
-// The record's fields, read.
-pub mod record;
-// Bytes moved within a slice, or cleared.
-pub mod moving;
-// The record's bytes, changed.
-pub mod update;
-// What a call is turned back for.
-pub mod refusal;
 // Offer: an event is added to the pending ones.
 pub mod offer;
 // Counts and labels out of the words that C hands over.

@@ -1,21 +1,21 @@
 // Offer (01, The calls): an event is added to the pending ones, in its place by lowest process and count; or it is turned back.
 
-use crate::record::pending_count;
-use crate::record::pending_event;
-use crate::record::process_count;
-use crate::record::taken_counts;
-use crate::refusal::already_taken;
-use crate::refusal::bad_record_length;
-use crate::refusal::bad_state;
-use crate::refusal::conflicting;
-use crate::update::insert_event;
 use clocks::Event;
+use records::fields::pending_count;
+use records::fields::pending_event;
+use records::fields::process_count;
+use records::fields::taken_counts;
+use records::refusal::already_taken;
+use records::refusal::bad_record_length;
+use records::refusal::bad_state;
+use records::refusal::conflicting;
+use records::update::insert_event;
 ghost use Prim.Native.Nat.{ℕ, _≤_, _<_, _^_};
 ghost use mathlib.Core.Path.{_≡_};
 ghost use lib.ListN.{length};
 ghost use Rattle.clocks.specs.Counts.{at};
 ghost use Rattle.window.specs.Width.{Width};
-ghost use Rattle.watch.specs.Record.{recordLength, pendingCount, pendingEvents};
+ghost use Rattle.records.specs.Record.{recordLength, pendingCount, pendingEvents};
 ghost use Rattle.watch.specs.Offer.{placeAmong, offeredEvent, offerCall};
 ghost use Rattle.watch.specs.Answer.{replyWord};
 ghost use Rattle.watch.specs.OfferSteps.{offerFault};

@@ -1,13 +1,13 @@
 // Open (01, The calls): reads a rule's text, the number of processes and the start labels, and writes record and window.
 
-use crate::moving::clear;
-use crate::moving::copy_in;
-use crate::refusal::bad_processes;
-use crate::refusal::bad_record_length;
-use crate::refusal::bad_window_length;
-use crate::refusal::table_place;
 use crate::reply::state_word;
 use crate::reply::turned_word;
+use records::moving::clear;
+use records::moving::copy_in;
+use records::refusal::bad_processes;
+use records::refusal::bad_record_length;
+use records::refusal::bad_window_length;
+use records::refusal::table_place;
 use rules::RuleRead;
 use window::Frontier;
 ghost use Prim.Native.Nat.{_+_, _*_, _≤_, _<_};
@@ -16,7 +16,7 @@ ghost use lib.ListN.{length};
 ghost use Rattle.rules.specs.TableBytes.{linesOf};
 ghost use Rattle.window.specs.Width.{Width};
 ghost use Rattle.window.specs.Bytes.{frontierLength, windowBytes};
-ghost use Rattle.watch.specs.Record.{recordLength};
+ghost use Rattle.records.specs.Record.{recordLength};
 ghost use Rattle.watch.specs.Open.{firstRecord, openTable, openCall};
 ghost use Rattle.watch.specs.Answer.{replyWord};
 ghost use Rattle.watch.specs.OpenSteps.{zerosJudged, openFault};

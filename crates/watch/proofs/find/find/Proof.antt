@@ -9,11 +9,11 @@ use borrow.Author.Needs.{needs}
 use borrow.Author.Tests.{le-leb, lt-leb}
 use denote.Ref.{now}
 use Rattle.watch.proofs.find.find.Statement.{statement}
-use Rattle.watch.specs.RefusalSteps.{right-length, state-within}
+use Rattle.records.specs.RefusalSteps.{right-length, state-within}
 use Rattle.watch.specs.FindSteps.{room-within}
 use Rattle.watch.specs.Find.{findCall}
-use Rattle.watch.specs.Record.{lineTotal}
-use Rattle.watch.specs.Refusals.{badRecordLength, badWindowLength, roomOf, badState}
+use Rattle.records.specs.Record.{lineTotal}
+use Rattle.records.specs.Refusals.{badRecordLength, badWindowLength, roomOf, badState}
 use Rattle.watch.specs.Answer.{replyWord}
 
 bad-record-length-requires : tie.Need-bad-record-length-requires

@@ -7,7 +7,7 @@ use lib.ListN.{length}
 use borrow.Author.Needs.{needs}
 use denote.Ref.{now}
 use Rattle.watch.proofs.offer.offer.Statement.{statement}
-use Rattle.watch.specs.Record.{recordLength, pendingCount}
+use Rattle.records.specs.Record.{recordLength, pendingCount}
 use Rattle.watch.specs.OfferSteps.{offer-passed, offer-turned, offer-accepted}
 
 offer-fault-requires : tie.Need-offer-fault-requires

@@ -14,9 +14,9 @@ use Rattle.clocks.specs.Counts.{at}
 use Rattle.clocks.specs.Refusal.{eventFault}
 use Rattle.clocks.specs.declared.Event.{Event}
 use Rattle.watch.proofs.offer.offer_fault.Statement.{statement}
-use Rattle.watch.specs.RefusalSteps.{right-length, state-within}
-use Rattle.watch.specs.Record.{processCount, pendingCount, takenCounts, pendingEvents}
-use Rattle.watch.specs.Refusals.{badRecordLength, badState, alreadyTaken, conflicting}
+use Rattle.records.specs.RefusalSteps.{right-length, state-within}
+use Rattle.records.specs.Record.{processCount, pendingCount, takenCounts, pendingEvents}
+use Rattle.records.specs.Refusals.{badRecordLength, badState, alreadyTaken, conflicting}
 use Rattle.watch.specs.OfferSteps.{offerFault}
 use Rattle.watch.specs.Offer.{offeredEvent}
 

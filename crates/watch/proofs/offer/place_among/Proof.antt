@@ -9,7 +9,7 @@ use borrow.Author.Tests.{not-true, not-false}
 use denote.Ref.{now}
 use Rattle.clocks.specs.Key.{keyOf, keyBefore}
 use Rattle.watch.proofs.offer.place_among.Statement.{statement}
-use Rattle.watch.specs.Record.{pendingCount, pendingAt, pendingEvents}
+use Rattle.records.specs.Record.{pendingCount, pendingAt, pendingEvents}
 use Rattle.watch.specs.OfferSteps.{placeFrom, place-here, place-further, place-last}
 use Rattle.watch.specs.Offer.{placeAmong}
 

@@ -8,7 +8,7 @@ use borrow.Author.Needs.{needs}
 use denote.Ref.{now}
 use Rattle.window.specs.Bytes.{frontierLength}
 use Rattle.watch.proofs.open.open.Statement.{statement}
-use Rattle.watch.specs.Record.{recordLength}
+use Rattle.records.specs.Record.{recordLength}
 use Rattle.watch.specs.Open.{Opened}
 use Rattle.watch.specs.Answer.{replyWord}
 use Rattle.watch.specs.OpenCallSteps.{open-turned, open-passed, open-refused, open-accepted}

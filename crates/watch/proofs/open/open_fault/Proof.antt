@@ -5,8 +5,8 @@ use mathlib.Core.Path.{_≡_, sym, _∙_}
 use mathlib.Core.Bool.{false}
 use borrow.Author.Needs.{needs}
 use Rattle.watch.proofs.open.open_fault.Statement.{statement}
-use Rattle.watch.specs.RefusalSteps.{processes-within}
-use Rattle.watch.specs.Refusals.{badRecordLength, badWindowLength, badProcesses}
+use Rattle.records.specs.RefusalSteps.{processes-within}
+use Rattle.records.specs.Refusals.{badRecordLength, badWindowLength, badProcesses}
 use Rattle.watch.specs.OpenSteps.{openFault}
 
 bad-record-length-requires : tie.Need-bad-record-length-requires

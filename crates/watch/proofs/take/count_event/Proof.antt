@@ -7,8 +7,8 @@ use mathlib.Core.Path.{_≡_, ap, _∙_}
 use borrow.Author.Needs.{needs}
 use denote.Ref.{now}
 use Rattle.watch.proofs.take.count_event.Statement.{statement}
-use Rattle.watch.specs.Record.{counted}
-use Rattle.watch.specs.Take.{readyIn}
+use Rattle.records.specs.Record.{counted}
+use Rattle.records.specs.Record.{readyIn}
 use Rattle.watch.specs.TakenSteps.{removed-ready}
 
 remove-event-requires : tie.Need-remove-event-requires

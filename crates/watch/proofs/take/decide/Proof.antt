@@ -15,8 +15,9 @@ use Rattle.clocks.specs.EventLaws.{true-T}
 use Rattle.window.specs.Step.{fits, keptAfter}
 use Rattle.window.specs.Bytes.{frontiers}
 use Rattle.watch.specs.declared.Choice.the-variants.{Undecided, Chosen}
-use Rattle.watch.specs.Record.{pendingAt, pendingEvents}
-use Rattle.watch.specs.Take.{Decision, settingIn, tried, readyIn, validIn}
+use Rattle.records.specs.Record.{pendingAt, pendingEvents}
+use Rattle.watch.specs.Take.{Decision, settingIn, tried}
+use Rattle.records.specs.Record.{readyIn, validIn}
 use Rattle.watch.specs.TakeSteps.{choiceOf, triedFrom, tried-end, tried-pass, tried-false, tried-fits, tried-full}
 
 abbrev whole : ℕ → List ℕ → ℕ → List ℕ → ℕ → Decision

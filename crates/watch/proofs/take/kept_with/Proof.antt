@@ -10,8 +10,8 @@ use denote.Ref.{now}
 use Rattle.watch.proofs.take.kept_with.Statement.{statement}
 use Rattle.clocks.specs.Event.{apply}
 use Rattle.clocks.specs.Counts.{at, listOf}
-use Rattle.watch.specs.Record.{takenCounts}
-use Rattle.watch.specs.Take.{readyIn}
+use Rattle.records.specs.Record.{takenCounts}
+use Rattle.records.specs.Record.{readyIn}
 use Rattle.watch.specs.TakeSteps.{setting-with}
 
 process-count-requires : tie.Need-process-count-requires

@@ -13,8 +13,9 @@ use Rattle.clocks.specs.Counts.{at, listOf}
 use Rattle.window.specs.Bytes.{frontiers}
 use Rattle.window.specs.Step.{Setting, keptAfter}
 use Rattle.window.specs.StepCode.{settingWith}
-use Rattle.watch.specs.Record.{takenCounts}
-use Rattle.watch.specs.Take.{readyIn, settingIn}
+use Rattle.records.specs.Record.{takenCounts}
+use Rattle.watch.specs.Take.{settingIn}
+use Rattle.records.specs.Record.{readyIn}
 use Rattle.watch.specs.TakeSteps.{setting-lent}
 
 process-count-requires : tie.Need-process-count-requires

@@ -8,8 +8,8 @@ use borrow.Author.Needs.{needs}
 use borrow.Author.Tests.{ne-eqb, eq-eqb}
 use denote.Ref.{now}
 use Rattle.watch.proofs.take.take_fault.Statement.{statement}
-use Rattle.watch.specs.Refusals.{badRecordLength, badWindowLength, roomOf, badState}
-use Rattle.watch.specs.RefusalSteps.{right-length}
+use Rattle.records.specs.Refusals.{badRecordLength, badWindowLength, roomOf, badState}
+use Rattle.records.specs.RefusalSteps.{right-length}
 use Rattle.watch.specs.TakeCallSteps.{takeFault}
 
 bad-record-length-requires : tie.Need-bad-record-length-requires

@@ -14,7 +14,7 @@ use Rattle.window.specs.Bytes.{frontierLength, frontiers}
 use Rattle.watch.proofs.take.take_within.Statement.{statement}
 use Rattle.watch.specs.Answer.{replyWord}
 use Rattle.watch.specs.ChoiceSteps.{within-by, choice-undecided, choice-falsified, choice-chosen}
-use Rattle.watch.specs.Record.{keptCount, pendingEvents}
+use Rattle.records.specs.Record.{keptCount, pendingEvents}
 use Rattle.watch.specs.Take.{Taken, tried, decided}
 use Rattle.watch.specs.TakeSteps.{choiceOf}
 

@@ -1,0 +1,109 @@
+-- The record's bytes (01, The window: the record), for counts of w bytes: where each field stands, how it is read and how it is set.
+use Prim.Native.Nat.{ℕ, zero, suc, _+_, _-_, _*_}
+use mathlib.Core.Bool.{Bool, cond}
+use mathlib.Core.List.{List, _∷_, _++_}
+use lib.ListN.{getD, take, drop, set, replicate}
+use lib.Seq.{sets}
+use Rattle.rules.specs.declared.Line.{Line}
+use Rattle.clocks.specs.declared.Event.{Event}
+use Rattle.codec.specs.Little.{number, put}
+use Rattle.window.specs.Bytes.{countBytes}
+use Rattle.rules.specs.TableBytes.{linesOf}
+use Rattle.clocks.specs.Event.{involved, apply}
+use Rattle.clocks.specs.Counts.{at, listOf, rows}
+use Rattle.clocks.specs.Tested.{ready}
+use Rattle.clocks.specs.ValidTest.{validBy}
+
+-- ---- Places
+
+abbrev pub takenPlace : ℕ
+takenPlace = 8
+
+abbrev pub clocksPlace : ℕ → ℕ
+clocksPlace w = 8 + 8 * w
+
+abbrev pub tablePlace : ℕ → ℕ
+tablePlace w = 8 + 72 * w
+
+-- A pending event's length: mask, seven zeros, clock, labels (01: held events).
+abbrev pub eventLength : ℕ → ℕ
+eventLength w = 8 * w + 16
+
+abbrev pub pendingPlace : ℕ → ℕ → ℕ
+pendingPlace w i = 200 + 72 * w + i * eventLength w
+
+abbrev pub recordLength : ℕ → ℕ
+recordLength w = pendingPlace w 32
+
+-- ---- Fields
+
+-- The number of processes.
+abbrev pub processCount : List ℕ → ℕ
+processCount s = getD s 0 0
+
+-- The number of the table's lines.
+abbrev pub lineTotal : List ℕ → ℕ
+lineTotal s = getD s 1 0
+
+-- The number of pending events (01: held).
+abbrev pub pendingCount : List ℕ → ℕ
+pendingCount s = getD s 2 0
+
+-- The number of kept frontiers.
+abbrev pub keptCount : List ℕ → ℕ
+keptCount s = number s 4 4
+
+unfoldable pub takenCounts : ℕ → List ℕ → List ℕ
+takenCounts w s = listOf 8 (λ p. number s (takenPlace + p * w) w)
+
+unfoldable pub lastClocks : ℕ → List ℕ → List (List ℕ)
+lastClocks w s = listOf 8 (λ p. listOf 8 (λ q. number s (clocksPlace w + p * (8 * w) + q * w) w))
+
+-- The rule's table, as many lines as the record says.
+unfoldable pub tableLines : ℕ → List ℕ → List Line
+tableLines w s = linesOf (drop (tablePlace w) s) (lineTotal s)
+
+-- Pending event number i.
+unfoldable pub pendingAt : ℕ → List ℕ → ℕ → Event
+pendingAt w s i =
+    let at = pendingPlace w i in
+    record { mask = getD s at 0; clock = listOf 8 (λ p. number s (at + 8 + p * w) w); labels = take 8 (drop (at + 8 + 8 * w) s) }
+
+unfoldable pub pendingEvents : ℕ → List ℕ → List Event
+pendingEvents w s = listOf (pendingCount s) (pendingAt w s)
+
+-- ---- By the fields
+
+-- The event is ready, its clock valid, by the record's bytes.
+unfoldable pub readyIn : ℕ → List ℕ → Event → Bool
+readyIn w s e = ready 8 e (at (takenCounts w s))
+
+unfoldable pub validIn : ℕ → List ℕ → Event → Bool
+validIn w s e = validBy 8 e (rows (lastClocks w s))
+
+-- ---- Setting
+
+-- The bytes of a pending event.
+unfoldable pub eventBytes : ℕ → Event → List ℕ
+eventBytes w e = e .mask ∷ replicate 7 0 ++ countBytes w (e .clock) ++ e .labels
+
+-- Event e laid down as number i of the pending events, those from i on moved up by one.
+unfoldable pub inserted : ℕ → List ℕ → ℕ → Event → List ℕ
+inserted w s i e =
+    let moved = take ((pendingCount s - i) * eventLength w) (drop (pendingPlace w i) s) in
+    set (sets s (pendingPlace w i) (eventBytes w e ++ moved)) 2 (pendingCount s + 1)
+
+-- Pending event number i gone, those behind it moved down by one, the freed place 0.
+unfoldable pub removed : ℕ → List ℕ → ℕ → List ℕ
+removed w s i =
+    let moved = take ((pendingCount s - (i + 1)) * eventLength w) (drop (pendingPlace w (i + 1)) s) in
+    set (sets s (pendingPlace w i) (moved ++ replicate (eventLength w) 0)) 2 (pendingCount s - 1)
+
+-- The clock of an event as the last one of each of its processes among the first n.
+unfoldable pub clocksSet : ℕ → ℕ → List ℕ → Event → List ℕ
+clocksSet w zero s e = s
+clocksSet w (suc p) s e = cond (involved e p) (sets (clocksSet w p s e) (clocksPlace w + p * (8 * w)) (countBytes w (e .clock))) (clocksSet w p s e)
+
+-- The taken counts with the event, its clock as its processes' last, and the number of frontiers kept.
+unfoldable pub counted : ℕ → List ℕ → Event → ℕ → List ℕ
+counted w s e kept = clocksSet w 8 (sets (put s 4 4 kept) takenPlace (countBytes w (listOf 8 (apply e (at (takenCounts w s)))))) e
