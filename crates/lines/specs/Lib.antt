@@ -11,3 +11,5 @@ pub mod NumberLaws
 pub mod ReadingLaws
 pub mod ListLaws
 pub mod WordLaws
+pub mod StartLaws
+pub mod DidLaws

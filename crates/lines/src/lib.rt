@@ -12,6 +12,10 @@ mod list;
 mod words;
 // The line that opens: processes and room.
 pub mod watch;
+// The line with the start labels.
+pub mod start;
+// An event's line.
+pub mod did;
 
 // Where a reading stands, with the number read last; or the first fault met (01, Turned back, from the input: 1 and 10).
 pub enum Read {
