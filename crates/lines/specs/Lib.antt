@@ -13,3 +13,5 @@ pub mod ListLaws
 pub mod WordLaws
 pub mod StartLaws
 pub mod DidLaws
+pub mod RuleLaws
+pub mod LineExamples

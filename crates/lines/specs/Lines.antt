@@ -1,10 +1,12 @@
 -- The program's lines (01, Examples: the program): what each gives, or its fault by 1 or 10.
-use Prim.Native.Nat.{ℕ}
-use mathlib.Core.Bool.{true, false}
+use Prim.Native.Nat.{ℕ, _-_}
+use mathlib.Core.Bool.{true, false, cond}
 use mathlib.Core.List.{List}
-use lib.ListN.{take, drop}
+use lib.Dec.{eqb}
+use lib.ListN.{length, take, drop}
 use Rattle.clocks.specs.Counts.{at}
-use Rattle.rules.specs.Text.{ascii}
+use Rattle.rules.specs.Text.{ascii, byteAt}
+use Rattle.rules.specs.Reader.{Reading, formed, refused, readRule}
 use Rattle.lines.specs.declared.Read.{Read}
 use Rattle.lines.specs.declared.Read.the-variants.{At, Refused}
 use Rattle.lines.specs.declared.WatchLine.{WatchLine}
@@ -13,6 +15,8 @@ use Rattle.lines.specs.declared.StartLine.{StartLine}
 use Rattle.lines.specs.declared.StartLine.the-variants.{Start, Refused as StartRefused}
 use Rattle.lines.specs.declared.DidLine.{DidLine}
 use Rattle.lines.specs.declared.DidLine.the-variants.{Did, Refused as DidRefused}
+use Rattle.lines.specs.declared.RuleLine.{RuleLine}
+use Rattle.lines.specs.declared.RuleLine.the-variants.{Rule, Refused as RuleRefused}
 use Rattle.lines.specs.Reading.{valueOf, thenByte, thenBytes, headRead, thenNumber, thenEnd, limited}
 use Rattle.lines.specs.NumberList.{Listed, thenList, thenSpacedList, thenClose, eight}
 use Rattle.lines.specs.Words.{word, placed}
@@ -73,3 +77,19 @@ didLine s k =
     let labels = thenList s false labelLimit (thenBytes s (ascii " (") second) in
     let third = thenClose s (valueOf first) (valueOf first) (labels .read) in
     didOf (valueOf first) (processes .numbers) (counts .numbers) (labels .numbers) (thenLast s third)
+
+-- (rule form): the form runs from behind the space to before the line's last byte, and is read with k processes.
+unfoldable pub ruleText : List ℕ → List ℕ
+ruleText s = take (length s - 7) (drop 6 s)
+
+-- Behind the rule's own faults: a last byte that is no closing bracket is 1.
+unfoldable pub ruleClosed : List ℕ → Reading → RuleLine
+ruleClosed s (formed i f) = cond (eqb (byteAt s (length s - 1)) 41) (Rule 6 (length s - 1)) (RuleRefused 1 (length s - 1))
+ruleClosed s (refused n i) = RuleRefused n i
+
+unfoldable pub ruleOf : List ℕ → ℕ → Read → RuleLine
+ruleOf s k (At i v) = ruleClosed s (readRule (ruleText s) k)
+ruleOf s k (Refused n i) = RuleRefused n i
+
+unfoldable pub ruleLine : List ℕ → ℕ → RuleLine
+ruleLine s k = ruleOf s k (limited s (headRead s (ascii "(rule ")))

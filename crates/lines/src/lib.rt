@@ -12,6 +12,8 @@ mod list;
 mod words;
 // The line that opens: processes and room.
 pub mod watch;
+// The rule's line.
+pub mod rule;
 // The line with the start labels.
 pub mod start;
 // An event's line.
@@ -32,6 +34,12 @@ pub struct Numbers {
 // The line that opens: the number of processes and the room in frontiers.
 pub enum WatchLine {
     Watch { k: u64, room: u64 },
+    Refused { number: u8, place: usize },
+}
+
+// The rule's line: the rule is the bytes from `start` to before `end`. A fault of the rule itself has its place counted from `start`.
+pub enum RuleLine {
+    Rule { start: usize, end: usize },
     Refused { number: u8, place: usize },
 }
 
