@@ -16,6 +16,7 @@ use Rattle.lines.specs.declared.Read.{Read}
 use Rattle.lines.specs.declared.Read.the-variants.{At, Refused}
 use Rattle.lines.specs.declared.Numbers.{Numbers}
 use Rattle.lines.specs.Number.{digits, value, numberOf, numberAt}
+use Rattle.lines.specs.NumberLaws.{inside}
 use Rattle.lines.specs.NumberList.{Listed, listed, afterNumber, numbersAt, allNumbersAt, eight, kept}
 
 -- ---- A number that was read
@@ -131,3 +132,9 @@ module _ {s : List ℕ} {ascending : Bool} {most start : ℕ} {values : List ℕ
         near = omega (arith, n, a .behind, g .near);
         goes = going-step ∙ rw (h, eq-eqb (byteAt s i) 32 q, e);
       }
+
+  -- The same, in the code's own terms: what it read, the numbers then kept, the byte behind, and what the next number is at least.
+  pub going-again : {r : Read} {i v b next : ℕ} {more : List ℕ} → r ≡ numberAt s here least most → r ≡ At i v → more ≡ set values count v
+      → b ≡ byteAt s i → b ≡ 32 → next ≡ cond ascending (v + 1) 0 → Going s ascending most start more (count + 1) next (i + 1)
+  going-again {r} {i} {v} {b} {next} {more} e h m c q n =
+      let p : i < length s = inside s i (omega arith) in rw (m, n) (going-on i v (sym e ∙ h) (sym c ∙ q) p)

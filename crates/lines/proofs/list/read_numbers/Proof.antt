@@ -3,7 +3,7 @@ use native.Mathlib.Omega.{arith}
 use Prim.Native.Nat.{_-_, _≤_}
 use mathlib.Core.Path.{_≡_, refl, sym, ap, _∙_}
 use lib.ListN.{length, length-set}
-use Rattle.lines.specs.ListLaws.{Going, number-after, going-start, going-refused, going-last, going-on}
+use Rattle.lines.specs.ListLaws.{Going, number-after, going-start, going-refused, going-last, going-again}
 use Rattle.lines.specs.NumberLaws.{inside}
 use borrow.Author.Needs.{needs}
 use Rattle.lines.proofs.list.read_numbers.Statement.{statement}
@@ -57,11 +57,9 @@ loop-less c = let h = number-after (c .before .before .before .before .before .b
     omega (arith, p, h .behind)
 
 loop-again : tie.Need-loop-again Inv-loop μ-loop
-loop-again c = let s = c .before .before .before .before .before .before .before .before .before .before .args .line .now in
-    let l = c .before .before .before .before .before .before .before .before .loop in
-    let p = inside s (c .before .before .before .before .before .found2 .given .0 .0) (omega (arith, c .before .before .byte-at .ensures, c .before .if1 .left)) in
+loop-again c = let l = c .before .before .before .before .before .before .before .before .loop in
     let n : length (c .before .before .before .keep .result) ≡ 8 = ap length (c .before .before .before .keep .ensures) ∙ length-set (l .values) _ _ ∙ l .inv .0 in
-    (n, rw (c .before .before .before .keep .ensures, c .least-behind .ensures) (going-on (l .inv .1) _ _ (sym (c .before .before .before .before .before .before .before .read-number .ensures) ∙ c .before .before .before .before .before .found2 .given .1) (sym (c .before .before .byte-at .ensures) ∙ c .before .if1 .left) p))
+    (n, going-again (l .inv .1) (c .before .before .before .before .before .before .before .read-number .ensures) (c .before .before .before .before .before .found2 .given .1) (c .before .before .before .keep .ensures) (c .before .before .byte-at .ensures) (c .before .if1 .left) (c .least-behind .ensures))
 
 pub read-numbers-spec : {M : Type 1} → statement M
 read-numbers-spec =
