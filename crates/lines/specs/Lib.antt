@@ -1,0 +1,17 @@
+-- The program's lines: reading them, and what they are turned back for.
+
+-- What a reader has to believe
+pub mod Number
+pub mod Reading
+pub mod NumberList
+pub mod Words
+pub mod Lines
+-- What is proved of them
+pub mod NumberLaws
+pub mod ReadingLaws
+pub mod ListLaws
+pub mod WordLaws
+pub mod StartLaws
+pub mod DidLaws
+pub mod RuleLaws
+pub mod LineExamples

@@ -1,0 +1,95 @@
+-- The program's lines (01, Examples: the program): what each gives, or its fault by 1 or 10.
+use Prim.Native.Nat.{ℕ, _-_}
+use mathlib.Core.Bool.{true, false, cond}
+use mathlib.Core.List.{List}
+use lib.Dec.{eqb}
+use lib.ListN.{length, take, drop}
+use Rattle.clocks.specs.Counts.{at}
+use Rattle.rules.specs.Text.{ascii, byteAt}
+use Rattle.rules.specs.Reader.{Reading, formed, refused, readRule}
+use Rattle.lines.specs.declared.Read.{Read}
+use Rattle.lines.specs.declared.Read.the-variants.{At, Refused}
+use Rattle.lines.specs.declared.WatchLine.{WatchLine}
+use Rattle.lines.specs.declared.WatchLine.the-variants.{Watch, Refused as WatchRefused}
+use Rattle.lines.specs.declared.StartLine.{StartLine}
+use Rattle.lines.specs.declared.StartLine.the-variants.{Start, Refused as StartRefused}
+use Rattle.lines.specs.declared.DidLine.{DidLine}
+use Rattle.lines.specs.declared.DidLine.the-variants.{Did, Refused as DidRefused}
+use Rattle.lines.specs.declared.RuleLine.{RuleLine}
+use Rattle.lines.specs.declared.RuleLine.the-variants.{Rule, Refused as RuleRefused}
+use Rattle.lines.specs.Reading.{valueOf, thenByte, thenBytes, headRead, thenNumber, thenEnd, limited}
+use Rattle.lines.specs.NumberList.{Listed, thenList, thenSpacedList, thenClose, eight}
+use Rattle.lines.specs.Words.{word, placed}
+
+-- The limits on numbers (01, Turned back, from the input: 10): the processes and counts, labels, process numbers, and frontiers in a window.
+abbrev pub countLimit : ℕ
+countLimit = 65535
+
+abbrev pub labelLimit : ℕ
+labelLimit = 255
+
+abbrev pub processLimit : ℕ
+processLimit = 7
+
+abbrev pub roomLimit : ℕ
+roomLimit = 1024
+
+-- A line's closing bracket and its end.
+unfoldable pub thenLast : List ℕ → Read → Read
+thenLast s r = limited s (thenEnd s (thenByte s 41 r))
+
+-- (watch k room)
+unfoldable pub watchOf : ℕ → Read → WatchLine
+watchOf k (At i room) = Watch k room
+watchOf k (Refused n i) = WatchRefused n i
+
+unfoldable pub watchLine : List ℕ → WatchLine
+watchLine s =
+    let k = thenNumber s 0 countLimit (headRead s (ascii "(watch ")) in
+    let room = thenNumber s 1 roomLimit (thenByte s 32 k) in
+    watchOf (valueOf k) (thenLast s room)
+
+-- (start l ..), with a label byte for each of k processes.
+unfoldable pub startOf : List ℕ → Read → StartLine
+startOf labels (At i n) = Start (word 256 labels)
+startOf labels (Refused n i) = StartRefused n i
+
+unfoldable pub startLine : List ℕ → ℕ → StartLine
+startLine s k =
+    let labels = thenSpacedList s labelLimit (headRead s (ascii "(start")) in
+    startOf (eight (labels .numbers)) (limited s (thenEnd s (thenClose s k k (labels .read))))
+
+-- (did (p ..) (c ..) (l ..)): some processes, ascending; a count for each of k processes; a label byte for each of those that take part.
+unfoldable pub didOf : ℕ → List ℕ → List ℕ → List ℕ → Read → DidLine
+didOf n processes counts labels (At i v) =
+    Did (word 2 (placed n (at processes) (λ j. 1)))
+    (word 65536 (take 4 (eight counts)))
+    (word 65536 (drop 4 (eight counts)))
+    (word 256 (placed n (at processes) (at labels)))
+didOf n processes counts labels (Refused m i) = DidRefused m i
+
+unfoldable pub didLine : List ℕ → ℕ → DidLine
+didLine s k =
+    let processes = thenList s true processLimit (headRead s (ascii "(did (")) in
+    let first = thenClose s 1 8 (processes .read) in
+    let counts = thenList s false countLimit (thenBytes s (ascii " (") first) in
+    let second = thenClose s k k (counts .read) in
+    let labels = thenList s false labelLimit (thenBytes s (ascii " (") second) in
+    let third = thenClose s (valueOf first) (valueOf first) (labels .read) in
+    didOf (valueOf first) (processes .numbers) (counts .numbers) (labels .numbers) (thenLast s third)
+
+-- (rule form): the form runs from behind the space to before the line's last byte, and is read with k processes.
+unfoldable pub ruleText : List ℕ → List ℕ
+ruleText s = take (length s - 7) (drop 6 s)
+
+-- Behind the rule's own faults: a last byte that is no closing bracket is 1.
+unfoldable pub ruleClosed : List ℕ → Reading → RuleLine
+ruleClosed s (formed i f) = cond (eqb (byteAt s (length s - 1)) 41) (Rule 6 (length s - 1)) (RuleRefused 1 (length s - 1))
+ruleClosed s (refused n i) = RuleRefused n i
+
+unfoldable pub ruleOf : List ℕ → ℕ → Read → RuleLine
+ruleOf s k (At i v) = ruleClosed s (readRule (ruleText s) k)
+ruleOf s k (Refused n i) = RuleRefused n i
+
+unfoldable pub ruleLine : List ℕ → ℕ → RuleLine
+ruleLine s k = ruleOf s k (limited s (headRead s (ascii "(rule ")))

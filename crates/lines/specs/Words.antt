@@ -1,0 +1,14 @@
+-- Numbers in the words that the calls take (01, Clocks and cuts: an event's mask, clock and labels).
+use Prim.Native.Nat.{ℕ, zero, suc, _+_, _*_, _%_}
+use mathlib.Core.List.{List, [], _∷_}
+use lib.ListN.{set, replicate}
+
+-- Parts below a base, the first lowest.
+unfoldable pub word : ℕ → List ℕ → ℕ
+word base [] = 0
+word base (v ∷ vs) = v % base + base * word base vs
+
+-- Eight numbers: the first n values each at its own place, 0 at the others.
+unfoldable pub placed : ℕ → (ℕ → ℕ) → (ℕ → ℕ) → List ℕ
+placed zero places values = replicate 8 0
+placed (suc j) places values = set (placed j places values) (places j) (values j)
