@@ -11,15 +11,15 @@ use lib.Dec.{eqb, T, leb, ltb, leb→le}
 use borrow.Author.Tests.{ltb-false}
 use Rattle.rules.specs.declared.Line.{Line}
 use Rattle.clocks.specs.declared.Event.{Event}
-use Rattle.window.specs.Bytes.{windowBytes, frontierLength, frontiers}
+use Rattle.frontiers.specs.Bytes.{windowBytes, frontierLength, frontiers}
 use Rattle.clocks.specs.Event.{Cut, Ready}
 use Rattle.clocks.specs.Counts.{at}
 use Rattle.clocks.specs.Lattice.{zeros}
-use Rattle.window.specs.declared.Frontier.{Frontier}
-use Rattle.window.specs.Verdict.{stepped-many}
+use Rattle.frontiers.specs.declared.Frontier.{Frontier}
+use Rattle.window.specs.Many.{stepped-many}
 use Rattle.window.specs.Step.{Setting, stepped, keptAfter, fits}
-use Rattle.window.specs.Represents.{settingOf}
-use Rattle.window.specs.ListLaws.{place-member}
+use Rattle.window_laws.specs.Represents.{settingOf}
+use Rattle.frontiers.specs.ListLaws.{place-member}
 use Rattle.clocks.specs.History.{taken}
 use Rattle.clocks.specs.BoundedLaws.{and-r}
 use Rattle.clocks.specs.Valid.{Joined, WellFormed}

@@ -9,8 +9,8 @@ use lib.ListN.{length, getD, take, drop, set, length-append, take-append-drop}
 use lib.Seq.{sets, take-at, drop-at, length-take-le, drop-cons, set-split}
 use Rattle.clocks.specs.declared.Event.{Event}
 use Rattle.codec.specs.Little.{Bytes}
-use Rattle.window.specs.ListLaws.{place-member}
-use Rattle.window.specs.Bytes.{countBytes}
+use Rattle.frontiers.specs.ListLaws.{place-member}
+use Rattle.frontiers.specs.Bytes.{countBytes}
 use Rattle.demands.specs.InsertLaws.{member-take}
 use Rattle.demands.specs.PlaceLaws.{sets-over, Bytes-append}
 use Rattle.records.specs.Record.{eventBytes}

@@ -7,13 +7,13 @@ use mathlib.Core.List.{List, _++_, map, List·Memᴰ}
 use mathlib.Core.Logic.{inl, inr, _↔_}
 use lib.Dec.{T, eqb}
 use lib.ListN.{length, replicate}
-use Rattle.window.specs.declared.Frontier.{Frontier}
+use Rattle.frontiers.specs.declared.Frontier.{Frontier}
 use Rattle.clocks.specs.declared.Event.{Event}
 use Rattle.codec.specs.Bit.{bit}
 use Rattle.codec.specs.BitLaws.{bit-zero, bit-above}
-use Rattle.window.specs.FrontierLaws.{wordOf-lt, bit-wordOf}
-use Rattle.window.specs.Represents.{World, modelOf, openIn, wordOf, frontierOf, Sorted}
-use Rattle.window.specs.Bytes.{frontiers, windowBytes}
+use Rattle.window_laws.specs.FrontierLaws.{wordOf-lt, bit-wordOf}
+use Rattle.window_laws.specs.Represents.{World, modelOf, openIn, wordOf, frontierOf, Sorted}
+use Rattle.frontiers.specs.Bytes.{frontiers, windowBytes}
 use Rattle.rules.specs.Line.{lineCount, linesAt}
 use Rattle.rules.specs.Truth.{holds, lineTruth}
 use Rattle.rules.specs.LinesMean.{rule-means}

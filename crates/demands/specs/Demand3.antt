@@ -8,10 +8,10 @@ use mathlib.Core.List.{List, _∷_, List·Memᴰ}
 use lib.ListN.{length}
 use Rattle.rules.specs.declared.Line.{Line}
 use Rattle.clocks.specs.declared.Event.{Event}
-use Rattle.window.specs.StoredCuts.{listOf-injective}
-use Rattle.window.specs.Represents.{World, modelOf}
-use Rattle.window.specs.Bytes.{frontiers}
-use Rattle.window.specs.Unique.{window-unique}
+use Rattle.window_laws.specs.StoredCuts.{listOf-injective}
+use Rattle.window_laws.specs.Represents.{World, modelOf}
+use Rattle.frontiers.specs.Bytes.{frontiers}
+use Rattle.window_laws.specs.Unique.{window-unique}
 use Rattle.rules.specs.Line.{linesAt}
 use Rattle.rules.specs.Truth.{holds}
 use Rattle.rules.specs.TruthLocal.{holds-local}

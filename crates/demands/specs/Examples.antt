@@ -6,7 +6,7 @@ use mathlib.Core.List.{List, [], _∷_, map, _++_}
 use lib.ListN.{replicate}
 use lib.Count.{trailingZeros}
 use Rattle.clocks.specs.declared.Event.{Event}
-use Rattle.window.specs.declared.Frontier.{Frontier}
+use Rattle.frontiers.specs.declared.Frontier.{Frontier}
 use Rattle.codec.specs.Bit.{bit}
 use Rattle.codec.specs.Little.{bytesOf, valueOf, number, put}
 use Rattle.clocks.specs.Event.{involved, count, apply, minus}
@@ -25,11 +25,11 @@ use Rattle.rules.specs.Line.{trueLines, constantLines, linesBefore, linesAfter,
 use Rattle.rules.specs.Table.{tableBytes, goodLine, goodFrom}
 use Rattle.rules.specs.TableBytes.{lineAt, linesFrom}
 use Rattle.rules.specs.Judge.{propositionJudged, notJudged, andJudged, eyJudged, esJudged, asJudged, judgeLine, judgeFrom}
-use Rattle.window.specs.Order.{before, same}
-use Rattle.window.specs.Seek.{atMost, bisect, gallop, seek, standsAt}
+use Rattle.frontiers.specs.Order.{before, same}
+use Rattle.frontiers.specs.Seek.{atMost, bisect, gallop, seek, standsAt}
 use Rattle.window.specs.Step.{stays, enabledAt, advanced, filtered, slotCounts, mergeInto, merge, slots, sought, withoutLast, consider, gathered, judgedBy, lay, stepped, keptAfter, fits}
 use Rattle.window.specs.Start.{startFrontier}
-use Rattle.window.specs.Bytes.{frontierLength, countBytes, frontierBytes, frontierFrom, frontierAt, frontiers, framed, windowBytes}
+use Rattle.frontiers.specs.Bytes.{frontierLength, countBytes, frontierBytes, frontierFrom, frontierAt, frontiers, framed, windowBytes}
 use Rattle.watch.specs.Answer.{Answer, turnedBack, state, held}
 use Rattle.records.specs.Record.{keptCount, takenCounts, lastClocks, tableLines, pendingAt, pendingEvents, eventBytes, inserted, removed, clocksSet, counted}
 use Rattle.records.specs.Refusals.{badRecordLength, badWindowLength, roomOf, badProcesses, badState, alreadyTaken, conflicts, conflicting}

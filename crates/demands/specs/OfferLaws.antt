@@ -22,7 +22,7 @@ use Rattle.clocks.specs.RefusalLaws.{mask-fine, fault-0, no-fault}
 use Rattle.clocks.specs.declared.Key.{Key}
 use Rattle.codec.specs.Bit.{bit}
 use Rattle.codec.specs.BitLaws.{bit-zero}
-use Rattle.window.specs.Order.{same}
+use Rattle.frontiers.specs.Order.{same}
 use Rattle.rules.specs.Reader.{formed}
 use Rattle.clocks.specs.Bounded.{anyBelow}
 use Rattle.clocks.specs.KeyLaws.{lowest-lt, lowest-involved}

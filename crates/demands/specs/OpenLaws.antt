@@ -18,11 +18,11 @@ use Rattle.clocks.specs.EventLaws.{true-T}
 use Rattle.clocks.specs.Counts.{at}
 use Rattle.clocks.specs.BoundedLaws.{or-e}
 use Rattle.clocks.specs.Refusal.{badStart}
-use Rattle.window.specs.WindowLaws.{length-windowBytes}
-use Rattle.window.specs.StartTheorem.{start-represents}
-use Rattle.window.specs.Represents.{Represents, Proper}
+use Rattle.frontiers.specs.WindowLaws.{length-windowBytes}
+use Rattle.window_laws.specs.StartTheorem.{start-represents}
+use Rattle.window_laws.specs.Represents.{Represents, Proper}
 use Rattle.window.specs.Start.{startFrontier}
-use Rattle.window.specs.Bytes.{frontierLength, windowBytes}
+use Rattle.frontiers.specs.Bytes.{frontierLength, windowBytes}
 use Rattle.rules.specs.Text.{Within}
 use Rattle.rules.specs.ReaderAccepts.{reader-accepts}
 use Rattle.rules.specs.LineLaws.{length-linesAt, lineCount-pos, good-linesAt}

@@ -7,7 +7,7 @@ use mathlib.Core.List.{List, [], _++_}
 use lib.ListN.{length, getD, take, drop, set}
 use lib.Seq.{sets}
 use Rattle.clocks.specs.declared.Event.{Event}
-use Rattle.window.specs.ListLaws.{place-member}
+use Rattle.frontiers.specs.ListLaws.{place-member}
 use Rattle.clocks.specs.CountsLaws.{filled}
 use Rattle.demands.specs.PlaceLaws.{zeros, drop-behind, sets-behind}
 use Rattle.demands.specs.BlockLaws.{blocks, pendingBytes-blocks, block-apart, length-before, Even}

@@ -11,7 +11,7 @@ use Rattle.clocks.specs.declared.Event.{Event}
 use Rattle.clocks.specs.KeyLaws.{before-total, before-irreflexive, before-transitive}
 use Rattle.clocks.specs.Key.{keyOf, keyBefore}
 use Rattle.clocks.specs.EventLaws.{true-T}
-use Rattle.window.specs.ListLaws.{place-member}
+use Rattle.frontiers.specs.ListLaws.{place-member}
 use Rattle.demands.specs.Watching.{Ordered, NoClash, Clear}
 use Rattle.watch.specs.Offer.{placeAmong}
 use Rattle.demands.specs.Status.{insertAt, removeAt}

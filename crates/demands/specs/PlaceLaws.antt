@@ -10,8 +10,8 @@ use lib.Seq.{sets, take-at, drop-at, getD-append-add, drop-append-add, sets-eq}
 use Rattle.codec.specs.Little.{bytesOf, number, Bytes}
 use Rattle.codec.specs.LittleLaws.{Bytes-bytesOf}
 use Rattle.codec.specs.SetsLaws.{sets-tail, sets-front}
-use Rattle.window.specs.BytesLaws.{number-countBytes}
-use Rattle.window.specs.Bytes.{countBytes}
+use Rattle.frontiers.specs.BytesLaws.{number-countBytes}
+use Rattle.frontiers.specs.Bytes.{countBytes}
 use Rattle.clocks.specs.Counts.{at, listOf}
 use Rattle.clocks.specs.CountsLaws.{filled}
 

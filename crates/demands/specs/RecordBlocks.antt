@@ -10,8 +10,8 @@ use Rattle.rules.specs.declared.Line.{Line}
 use Rattle.clocks.specs.declared.Event.{Event}
 use Rattle.codec.specs.Little.{bytesOf}
 use Rattle.codec.specs.LittleLaws.{pow-256-pos, length-bytesOf}
-use Rattle.window.specs.ListLaws.{member-place}
-use Rattle.window.specs.Bytes.{countBytes}
+use Rattle.frontiers.specs.ListLaws.{member-place}
+use Rattle.frontiers.specs.Bytes.{countBytes}
 use Rattle.rules.specs.TableLaws.{length-tableBytes}
 use Rattle.rules.specs.Table.{tableBytes}
 use Rattle.clocks.specs.Event.{Cut}

@@ -8,12 +8,12 @@ use lib.Seq.{take-at, drop-at}
 use lib.Dec.{lit<}
 use Rattle.codec.specs.Little.{bytesOf, number, Bytes}
 use Rattle.codec.specs.LittleLaws.{length-bytesOf, valueOf-bytesOf, Bytes-bytesOf}
-use Rattle.window.specs.OrderLaws.{first}
+use Rattle.frontiers.specs.OrderLaws.{first}
 use Rattle.rules.specs.TableBytesLaws.{linesOf-tableBytes}
 use Rattle.rules.specs.Table.{tableBytes}
 use Rattle.clocks.specs.Counts.{listOf}
 use Rattle.clocks.specs.CountsLaws.{length-listOf, listOf-same, getD-listOf}
-use Rattle.window.specs.Bytes.{countBytes}
+use Rattle.frontiers.specs.Bytes.{countBytes}
 use Rattle.demands.specs.PlaceLaws.{numbers-countBytes, zeros, Bytes-append, Bytes-zeros, Bytes-countBytes, Bytes-cons}
 use Rattle.records.specs.Record.{clocksPlace, tablePlace, recordLength, processCount, lineTotal, pendingCount, keptCount, takenCounts, lastClocks, tableLines, eventLength, eventBytes}
 use Rattle.demands.specs.RecordBlocks.{clockRows, pendingBlock, recordBytes-blocks, headOf, beforeTable, afterCounts, afterHead, kept-split, counts-split, table-split, fit-listOf, length-pendingBlock, length-frontBytes, length-beforeTable, beforeClocks, afterClocks, tableBlock, frontBytes, clocks-split, length-headOf, even-clocks, length-beforeClocks}

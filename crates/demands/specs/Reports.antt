@@ -13,13 +13,13 @@ use Rattle.rules.specs.Line.{linesAt, line}
 use Rattle.rules.specs.Formula.{Formula}
 use Rattle.clocks.specs.Event.{Cut, Ready, apply}
 use Rattle.rules.specs.Reader.{formed}
-use Rattle.window.specs.declared.Frontier.{Frontier}
+use Rattle.frontiers.specs.declared.Frontier.{Frontier}
 use Rattle.clocks.specs.declared.Event.{Event}
 use Rattle.codec.specs.Bit.{bit}
 use Rattle.window.specs.Step.{stepped}
-use Rattle.window.specs.Represents.{Represents, settingOf}
-use Rattle.window.specs.ListLaws.{place-member}
-use Rattle.window.specs.Bytes.{frontiers}
+use Rattle.window_laws.specs.Represents.{Represents, settingOf}
+use Rattle.frontiers.specs.ListLaws.{place-member}
+use Rattle.frontiers.specs.Bytes.{frontiers}
 use Rattle.clocks.specs.History.{taken}
 use Rattle.clocks.specs.Counts.{listOf}
 use Rattle.clocks.specs.Tested.{ready}

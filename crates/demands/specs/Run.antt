@@ -6,7 +6,7 @@ use mathlib.Core.List.{List, [], _∷_, _++_}
 use lib.Dec.{eqb}
 use lib.ListN.{length, replicate}
 use Rattle.clocks.specs.declared.Event.{Event}
-use Rattle.window.specs.Bytes.{frontiers}
+use Rattle.frontiers.specs.Bytes.{frontiers}
 use Rattle.rules.specs.Line.{line}
 use Rattle.clocks.specs.Counts.{at}
 use Rattle.clocks.specs.Lattice.{zeros}

@@ -13,8 +13,8 @@ use lib.Dec.{ltb, lit≤}
 use borrow.Author.Tests.{lt-ltb, le-ltb}
 use Rattle.codec.specs.Little.{bytesOf, put}
 use Rattle.codec.specs.LittleLaws.{length-bytesOf}
-use Rattle.window.specs.BytesLaws.{count-within}
-use Rattle.window.specs.Bytes.{countBytes}
+use Rattle.frontiers.specs.BytesLaws.{count-within}
+use Rattle.frontiers.specs.Bytes.{countBytes}
 use Rattle.clocks.specs.Event.{Cut, count, involved, apply}
 use Rattle.clocks.specs.Counts.{listOf, at}
 use Rattle.clocks.specs.CountsLaws.{length-listOf, getD-listOf, filled, listOf-same, at-listOf, listOf-at}

@@ -7,7 +7,7 @@ use lib.ListN.{length, getD, take, drop, replicate}
 use Rattle.rules.specs.declared.Line.{Line}
 use Rattle.clocks.specs.declared.Event.{Event}
 use Rattle.codec.specs.Little.{bytesOf}
-use Rattle.window.specs.Bytes.{countBytes}
+use Rattle.frontiers.specs.Bytes.{countBytes}
 use Rattle.rules.specs.Table.{tableBytes}
 use Rattle.clocks.specs.Event.{count, Cut, involved, apply}
 use Rattle.clocks.specs.Counts.{at, listOf}

@@ -7,8 +7,8 @@ use lib.ListN.{length, getD, take, drop, length-append}
 use lib.Seq.{getD-at, take-at, drop-at}
 use Rattle.clocks.specs.declared.Event.{Event}
 use Rattle.codec.specs.Little.{number, Bytes}
-use Rattle.window.specs.BytesLaws.{length-countBytes}
-use Rattle.window.specs.Bytes.{countBytes}
+use Rattle.frontiers.specs.BytesLaws.{length-countBytes}
+use Rattle.frontiers.specs.Bytes.{countBytes}
 use Rattle.clocks.specs.Counts.{listOf}
 use Rattle.demands.specs.PlaceLaws.{numbers-countBytes, zeros, Bytes-append, Bytes-cons, Bytes-zeros, Bytes-countBytes}
 use Rattle.records.specs.Record.{eventLength, eventBytes}

@@ -8,11 +8,11 @@ use mathlib.Core.Logic.{inr, ⊎-elim, _↔_}
 use lib.Dec.{leb, T, leb→le}
 use lib.ListN.{length, getD}
 use borrow.Author.Tests.{leb-false, lt-ltb}
-use Rattle.window.specs.declared.Frontier.{Frontier}
+use Rattle.frontiers.specs.declared.Frontier.{Frontier}
 use Rattle.rules.specs.declared.Line.{Line}
 use Rattle.clocks.specs.declared.Event.{Event}
 use Rattle.window.specs.Step.{stepped, fits, Setting}
-use Rattle.window.specs.Represents.{settingOf}
+use Rattle.window_laws.specs.Represents.{settingOf}
 use Rattle.rules.specs.Formula.{truth}
 use Rattle.rules.specs.Reader.{formed}
 use Rattle.clocks.specs.History.{taken}
@@ -20,8 +20,8 @@ use Rattle.clocks.specs.Event.{Cut, Ready, apply}
 use Rattle.clocks.specs.Counts.{at, listOf}
 use Rattle.clocks.specs.Valid.{Joined}
 use Rattle.codec.specs.Bit.{bit}
-use Rattle.window.specs.Verdict.{stepped-many}
-use Rattle.window.specs.ListLaws.{place-member, member-place}
+use Rattle.window.specs.Many.{stepped-many}
+use Rattle.frontiers.specs.ListLaws.{place-member, member-place}
 use Rattle.demands.specs.Watching.{worldOf, Rule, Watching}
 use Rattle.watch.specs.Take.{takeCall, Taken, settingIn, Decision, stateOf, decided, undecided, false-clock, chosen}
 use Rattle.records.specs.Record.{readyIn, validIn}

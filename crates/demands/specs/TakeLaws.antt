@@ -10,17 +10,17 @@ use lib.ListN.{length, getD}
 use Rattle.rules.specs.declared.Line.{Line}
 use Rattle.clocks.specs.declared.Event.{Event}
 use Rattle.codec.specs.BitLaws.{bit-zero}
-use Rattle.window.specs.WindowLaws.{length-windowBytes}
-use Rattle.window.specs.Represents.{World, openIn, Proper, Represents, settingOf}
-use Rattle.window.specs.ListLaws.{place-member}
-use Rattle.window.specs.Bytes.{windowBytes, frontierLength}
+use Rattle.frontiers.specs.WindowLaws.{length-windowBytes}
+use Rattle.window_laws.specs.Represents.{World, openIn, Proper, Represents, settingOf}
+use Rattle.frontiers.specs.ListLaws.{place-member}
+use Rattle.frontiers.specs.Bytes.{windowBytes, frontierLength}
 use Rattle.rules.specs.Reader.{formed}
 use Rattle.clocks.specs.History.{taken, clockOf, lastClock, In, Causal}
 use Rattle.clocks.specs.Event.{Cut, Ready, count, involved, apply}
 use Rattle.clocks.specs.Valid.{Joined, Takeable, History}
-use Rattle.window.specs.declared.Frontier.{Frontier}
-use Rattle.window.specs.StepTheorem.{step-represents}
-use Rattle.window.specs.Shaped.{AllShaped}
+use Rattle.frontiers.specs.declared.Frontier.{Frontier}
+use Rattle.window_laws.specs.StepTheorem.{step-represents}
+use Rattle.frontiers.specs.Shaped.{AllShaped}
 use Rattle.window.specs.Step.{stepped}
 use Rattle.clocks.specs.ClockRule.{history-causal}
 use Rattle.clocks.specs.EventLaws.{either, ready-next}
@@ -29,7 +29,7 @@ use Rattle.clocks.specs.Step.{clock-old}
 use Rattle.clocks.specs.HistoryLaws.{taken-next, taken-other, event-next}
 use Rattle.clocks.specs.Tested.{ready}
 use Rattle.clocks.specs.CausalLaws.{clock-some}
-use Rattle.window.specs.Verdict.{some-frontier}
+use Rattle.window_laws.specs.Verdict.{some-frontier}
 use Rattle.demands.specs.Watching.{worldOf, Rule, statusOf, Watching, proper, kept-shaped, sized, all-shaped}
 use Rattle.records.specs.Record.{removed, counted}
 use Rattle.demands.specs.PendingOrder.{remove-ordered, clear-remove, clear-other, remove-e}

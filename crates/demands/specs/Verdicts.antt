@@ -6,13 +6,13 @@ use mathlib.Core.Path.{_≡_, ap, _∙_}
 use mathlib.Core.Bool.{Bool}
 use mathlib.Core.List.{List, _∷_, map, List·Memᴰ}
 use lib.ListN.{length, getD}
-use Rattle.window.specs.declared.Frontier.{Frontier}
+use Rattle.frontiers.specs.declared.Frontier.{Frontier}
 use Rattle.clocks.specs.declared.Event.{Event}
 use Rattle.codec.specs.Bit.{bit}
-use Rattle.window.specs.OrderLaws.{last}
+use Rattle.frontiers.specs.OrderLaws.{last}
 use Rattle.window.specs.Lists.{getD-mapped}
-use Rattle.window.specs.Verdict.{some-frontier, verdict-right}
-use Rattle.window.specs.Represents.{World, modelOf, frontierOf, Represents, Proper}
+use Rattle.window_laws.specs.Verdict.{some-frontier, verdict-right}
+use Rattle.window_laws.specs.Represents.{World, modelOf, frontierOf, Represents, Proper}
 use Rattle.rules.specs.Line.{linesAt}
 use Rattle.rules.specs.Truth.{Property, holds, lineTruth}
 use Rattle.rules.specs.LinesMean.{rule-means}

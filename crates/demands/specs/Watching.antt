@@ -11,12 +11,12 @@ use mathlib.Core.Option.{Option, none, some}
 use lib.Dec.{T}
 use lib.ListN.{length, getD}
 use lib.Pow.{pow-mono}
-use Rattle.window.specs.declared.Frontier.{Frontier}
+use Rattle.frontiers.specs.declared.Frontier.{Frontier}
 use Rattle.rules.specs.declared.Line.{Line}
 use Rattle.clocks.specs.declared.Event.{Event}
 use Rattle.codec.specs.LittleLaws.{pow-256-pos}
-use Rattle.window.specs.Represents.{World, Represents, Proper, modelOf, frontierOf}
-use Rattle.window.specs.Bytes.{frontierLength, windowBytes}
+use Rattle.window_laws.specs.Represents.{World, Represents, Proper, modelOf, frontierOf}
+use Rattle.frontiers.specs.Bytes.{frontierLength, windowBytes}
 use Rattle.rules.specs.Table.{tableBytes, goodTable}
 use Rattle.clocks.specs.Event.{count, Cut, involved}
 use Rattle.clocks.specs.History.{taken, clockOf, lastClock, Causal, event, ofEvent, maskOf, labelOf, Consistent, In}
@@ -27,9 +27,9 @@ use Rattle.clocks.specs.HistoryLaws.{event-exists, event-numbered}
 use Rattle.clocks.specs.Refusal.{Faultless}
 use Rattle.clocks.specs.Valid.{Joined, History}
 use Rattle.clocks.specs.CausalLaws.{clock-some, clock-cases, count-number}
-use Rattle.window.specs.FrontierLaws.{wordOf-lt}
+use Rattle.window_laws.specs.FrontierLaws.{wordOf-lt}
 use Rattle.window.specs.Lists.{mapped-e}
-use Rattle.window.specs.Shaped.{Shaped, AllShaped}
+use Rattle.frontiers.specs.Shaped.{Shaped, AllShaped}
 use Rattle.rules.specs.Truth.{lineTruth}
 use Rattle.clocks.specs.Counts.{at, listOf}
 use Rattle.clocks.specs.Tested.{consistent}

@@ -11,8 +11,8 @@ use lib.Dec.{T}
 use borrow.Author.Tests.{le-ltb, ne-eqb}
 use Rattle.rules.specs.declared.Line.{Line}
 use Rattle.clocks.specs.declared.Event.{Event}
-use Rattle.window.specs.Verdict.{some-frontier}
-use Rattle.window.specs.Represents.{World, Proper, settingOf}
+use Rattle.window_laws.specs.Verdict.{some-frontier}
+use Rattle.window_laws.specs.Represents.{World, Proper, settingOf}
 use Rattle.clocks.specs.History.{taken, lastClock}
 use Rattle.clocks.specs.Event.{Cut, Ready, apply}
 use Rattle.clocks.specs.ClockRule.{taken-silent}
@@ -21,8 +21,8 @@ use Rattle.clocks.specs.CountsLaws.{getD-listOf, at-listOf, at-listOf-all}
 use Rattle.clocks.specs.Valid.{Joined, History, WellFormed}
 use Rattle.clocks.specs.ValidTestLaws.{valid-same, valid-test}
 use Rattle.clocks.specs.TestedLaws.{ready-test}
-use Rattle.window.specs.WindowLaws.{frontiers-windowBytes}
-use Rattle.window.specs.Bytes.{frontierLength, frontiers, framed, windowBytes}
+use Rattle.frontiers.specs.WindowLaws.{frontiers-windowBytes}
+use Rattle.frontiers.specs.Bytes.{frontierLength, frontiers, framed, windowBytes}
 use Rattle.demands.specs.Watching.{worldOf, Rule, statusOf, Watching, proper, sized, kept-shaped}
 use Rattle.records.specs.Record.{recordLength, processCount, lineTotal, pendingCount, keptCount, takenCounts, lastClocks, tableLines, pendingAt, pendingEvents}
 use Rattle.records.specs.Refusals.{badProcesses, badState}

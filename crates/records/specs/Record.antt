@@ -7,7 +7,7 @@ use lib.Seq.{sets}
 use Rattle.rules.specs.declared.Line.{Line}
 use Rattle.clocks.specs.declared.Event.{Event}
 use Rattle.codec.specs.Little.{number, put}
-use Rattle.window.specs.Bytes.{countBytes}
+use Rattle.frontiers.specs.Bytes.{countBytes}
 use Rattle.rules.specs.TableBytes.{linesOf}
 use Rattle.clocks.specs.Event.{involved, apply}
 use Rattle.clocks.specs.Counts.{at, listOf, rows}

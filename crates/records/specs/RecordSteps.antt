@@ -5,11 +5,11 @@ use native.Mathlib.Nat.{mul-le-mul-right, mul-sub, mul-comm}
 use mathlib.Core.Path.{_≡_}
 use mathlib.Core.List.{List}
 use lib.ListN.{getD, take, drop}
-use Rattle.window.specs.StoreLaws.{count-next}
+use Rattle.frontiers.specs.StoreLaws.{count-next}
 use Rattle.codec.specs.Little.{number}
 use Rattle.clocks.specs.Counts.{listOf, at}
 use Rattle.clocks.specs.declared.Event.{Event}
-use Rattle.window.specs.BytesLaws.{count-within}
+use Rattle.frontiers.specs.BytesLaws.{count-within}
 use Rattle.clocks.specs.CountsLaws.{at-listOf}
 use Rattle.records.specs.Record.{clocksPlace, eventLength, pendingPlace, recordLength, pendingAt, takenCounts}
 

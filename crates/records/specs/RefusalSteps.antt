@@ -13,7 +13,7 @@ use Rattle.clocks.specs.declared.Event.{Event}
 use Rattle.rules.specs.Table.{goodTable}
 use Rattle.clocks.specs.Bounded.{anyOf}
 use Rattle.rules.specs.TableBytes.{linesOf}
-use Rattle.window.specs.Bytes.{frontierLength}
+use Rattle.frontiers.specs.Bytes.{frontierLength}
 use Rattle.records.specs.ListSteps.{rest-next, rest-end}
 use Rattle.records.specs.Record.{processCount, lineTotal, pendingCount, keptCount, tableLines, pendingAt, pendingEvents, tablePlace, recordLength}
 use Rattle.records.specs.Refusals.{badProcesses, badState, conflicts, conflicting, badRecordLength, badWindowLength}

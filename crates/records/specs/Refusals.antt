@@ -4,7 +4,7 @@ use mathlib.Core.Bool.{Bool, not, _&&_, _||_}
 use mathlib.Core.List.{List}
 use lib.Dec.{leb, ltb, eqb}
 use Rattle.clocks.specs.declared.Event.{Event}
-use Rattle.window.specs.Bytes.{frontierLength}
+use Rattle.frontiers.specs.Bytes.{frontierLength}
 use Rattle.rules.specs.Table.{goodTable}
 use Rattle.clocks.specs.Event.{count, Cut, involved}
 use Rattle.clocks.specs.Bounded.{anyBelow, anyOf}

@@ -11,10 +11,10 @@ use lib.ListN.{length, take, drop, set, replicate, length-append, length-drop}
 use lib.Dec.{T, eqb→eq}
 use Rattle.clocks.specs.declared.Event.{Event}
 use Rattle.codec.specs.Bit.{bit}
-use Rattle.window.specs.Bytes.{countBytes}
+use Rattle.frontiers.specs.Bytes.{countBytes}
 use Rattle.clocks.specs.Event.{involved, count, one, apply}
 use Rattle.codec.specs.SetsLaws.{sets-append, sets-comm}
-use Rattle.window.specs.BytesLaws.{length-countBytes}
+use Rattle.frontiers.specs.BytesLaws.{length-countBytes}
 use Rattle.codec.specs.PutLaws.{number-lt}
 use Rattle.codec.specs.Little.{Bytes}
 use Rattle.codec.specs.LittleLaws.{pow-256-pos}

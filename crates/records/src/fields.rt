@@ -4,7 +4,7 @@ use clocks::Event;
 ghost use Prim.Native.Nat.{_+_, _*_, _≤_, _<_};
 ghost use mathlib.Core.Path.{_≡_};
 ghost use lib.ListN.{length, getD};
-ghost use Rattle.window.specs.Width.{Width};
+ghost use Rattle.frontiers.specs.Width.{Width};
 ghost use Rattle.records.specs.Record.{eventLength, pendingPlace, recordLength, processCount, lineTotal, pendingCount, keptCount, takenCounts, lastClocks, pendingAt};
 
 // A byte of the record.
@@ -53,7 +53,7 @@ pub fn taken_counts(s: &[u8], w: usize) -> [u32; 8]
     requires { ⌜ 8 + 8 * w ≤ length (now s) ⌝ }
     ensures { λ r. ⌜ r ≡ takenCounts w (now (s .entry)) ⌝ }
 {
-    window::counts::read_counts(s, 8, w)
+    frontiers::counts::read_counts(s, 8, w)
 }
 
 // The clock of each process's last event.
@@ -66,7 +66,7 @@ pub fn last_clocks(s: &[u8], w: usize) -> [[u32; 8]; 8]
     let mut place = 8 + 8 * w;
     let mut p = 0;
     while p < 8 {
-        clocks[p] = window::counts::read_counts(s, place, w);
+        clocks[p] = frontiers::counts::read_counts(s, place, w);
         place = place + 8 * w;
         p = p + 1;
     }
@@ -99,8 +99,8 @@ pub fn pending_event(s: &[u8], w: usize, i: usize) -> Event
 {
     let place = pending_place(w, i);
     let mask = s[place];
-    let clock = window::counts::read_counts(s, place + 8, w);
-    let labels = window::stored::read_eight(s, place + 8 + 8 * w);
+    let clock = frontiers::counts::read_counts(s, place + 8, w);
+    let labels = frontiers::stored::read_eight(s, place + 8 + 8 * w);
     Event {
         mask,
         clock,

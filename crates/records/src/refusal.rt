@@ -13,7 +13,7 @@ ghost use mathlib.Core.Bool.{_&&_};
 ghost use lib.Dec.{eqb, leb};
 ghost use lib.ListN.{length};
 ghost use Rattle.clocks.specs.Counts.{at};
-ghost use Rattle.window.specs.Width.{Width};
+ghost use Rattle.frontiers.specs.Width.{Width};
 ghost use Rattle.records.specs.Record.{tablePlace, recordLength, pendingCount, pendingEvents};
 ghost use Rattle.records.specs.Refusals.{badRecordLength, badWindowLength, roomOf, badProcesses, badState, alreadyTaken};
 ghost use Rattle.records.specs.Refusals as conditions;
@@ -32,7 +32,7 @@ pub fn bad_window_length(w: usize, n: usize) -> bool
     requires { ⌜ Width w ⌝ }
     ensures { λ r. ⌜ r ≡ badWindowLength w n ⌝ }
 {
-    let size = window::place::frontier_length(w);
+    let size = frontiers::place::frontier_length(w);
     if n < size {
         return true;
     }
@@ -47,7 +47,7 @@ pub fn room_of(w: usize, n: usize) -> usize
     requires { ⌜ Width w ⌝ }
     ensures { λ r. ⌜ r ≡ roomOf w n ⌝ }
 {
-    n / window::place::frontier_length(w)
+    n / frontiers::place::frontier_length(w)
 }
 
 // 5: a number of processes that is not 1 to 8.

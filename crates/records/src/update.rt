@@ -14,8 +14,8 @@ ghost use lib.Dec.{T};
 ghost use lib.ListN.{length};
 ghost use lib.Seq.{sets};
 ghost use Rattle.clocks.specs.Counts.{at};
-ghost use Rattle.window.specs.Width.{Width};
-ghost use Rattle.window.specs.Bytes.{countBytes};
+ghost use Rattle.frontiers.specs.Width.{Width};
+ghost use Rattle.frontiers.specs.Bytes.{countBytes};
 ghost use Rattle.records.specs.Record.{eventLength, recordLength, pendingCount, eventBytes, inserted, removed, clocksSet, counted};
 ghost use Rattle.records.specs.Record.{readyIn};
 
@@ -26,7 +26,7 @@ pub fn write_counts_at(s: &mut [u8], w: usize, place: usize, counts: [u32; 8])
     requires { ⌜ ((p : ℕ) → at counts p < 256 ^ w) ⌝ }
     ensures { λ r. ⌜ now (s .exit) ≡ sets (now (s .entry)) place (countBytes w counts) ⌝ }
 {
-    window::counts::write_counts(&mut s[place..], w, counts);
+    frontiers::counts::write_counts(&mut s[place..], w, counts);
 }
 
 // Stores a pending event's bytes at a place.
@@ -42,7 +42,7 @@ pub fn write_event(s: &mut [u8], w: usize, place: usize, e: Event)
     s[place] = e.mask;
     clear(s, place + 1, 7);
     write_counts_at(s, w, behind, clock);
-    window::stored::write_eight(s, behind + 8 * w, labels);
+    frontiers::stored::write_eight(s, behind + 8 * w, labels);
 }
 
 // Lays an event down as number i of the pending ones, those from i on moved up by one.

@@ -2,10 +2,10 @@
 use Prim.Native.Nat.{ℕ}
 use mathlib.Core.List.{List}
 use Rattle.clocks.specs.declared.Event.{Event}
-use Rattle.window.specs.declared.Frontier.{Frontier}
+use Rattle.frontiers.specs.declared.Frontier.{Frontier}
 use Rattle.window.specs.Step.{stepped}
 use Rattle.window.specs.StepCode.{settingWith}
-use Rattle.window.specs.Bytes.{frontiers}
+use Rattle.frontiers.specs.Bytes.{frontiers}
 use Rattle.watch.specs.Words.{unpackCounts, unpackLabels}
 
 -- The frontiers after the event, whose clock and labels come in words, as do the counts reached.

@@ -4,7 +4,7 @@ use clocks::Event;
 ghost use Prim.Native.Nat.{_<_};
 ghost use mathlib.Core.Path.{_≡_};
 ghost use lib.ListN.{length};
-ghost use Rattle.window.specs.Bytes.{windowBytes};
+ghost use Rattle.frontiers.specs.Bytes.{windowBytes};
 ghost use Rattle.watch.specs.Words.{unpackCounts, unpackLabels};
 ghost use Rattle.step_bench.specs.StepOf.{frontiersAfter};
 

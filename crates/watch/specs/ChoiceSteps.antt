@@ -10,8 +10,8 @@ use Rattle.clocks.specs.declared.Event.{Event}
 use Rattle.clocks.specs.Counts.{listOf}
 use Rattle.clocks.specs.BoundedLaws.{and-l, and-r}
 use Rattle.clocks.specs.CountsLaws.{length-listOf, getD-listOf}
-use Rattle.window.specs.declared.Frontier.{Frontier}
-use Rattle.window.specs.Bytes.{frontiers}
+use Rattle.frontiers.specs.declared.Frontier.{Frontier}
+use Rattle.frontiers.specs.Bytes.{frontiers}
 use Rattle.window.specs.Step.{Setting, fits, keptAfter}
 use Rattle.watch.specs.declared.Choice.{Choice}
 use Rattle.watch.specs.declared.Choice.the-variants.{Undecided, Falsified, Chosen}

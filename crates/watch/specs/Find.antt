@@ -4,9 +4,9 @@ use mathlib.Core.Bool.{cond, _||_}
 use mathlib.Core.List.{List, [], _∷_}
 use lib.Dec.{leb}
 use lib.ListN.{length}
-use Rattle.window.specs.declared.Frontier.{Frontier}
+use Rattle.frontiers.specs.declared.Frontier.{Frontier}
 use Rattle.codec.specs.Bit.{bit}
-use Rattle.window.specs.Bytes.{frontiers}
+use Rattle.frontiers.specs.Bytes.{frontiers}
 use Rattle.rules.specs.Line.{line}
 use Rattle.records.specs.Record.{lineTotal, keptCount}
 use Rattle.records.specs.Refusals.{badRecordLength, badWindowLength, roomOf, badState}

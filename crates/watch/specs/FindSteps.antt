@@ -7,7 +7,7 @@ use mathlib.Core.Bool.{true, false}
 use mathlib.Core.List.{List}
 use lib.ListN.{drop}
 use Rattle.codec.specs.Bit.{bit}
-use Rattle.window.specs.Bytes.{frontierAt, frontiers, frontierLength}
+use Rattle.frontiers.specs.Bytes.{frontierAt, frontiers, frontierLength}
 use Rattle.records.specs.ListSteps.{rest-next, rest-end}
 use Rattle.watch.specs.Find.{findFrom}
 use Rattle.watch.specs.Answer.{replyWord}

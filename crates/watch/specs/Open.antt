@@ -6,7 +6,7 @@ use lib.ListN.{length, replicate}
 use Rattle.rules.specs.declared.Line.{Line}
 use Rattle.codec.specs.Little.{bytesOf}
 use Rattle.window.specs.Start.{startFrontier}
-use Rattle.window.specs.Bytes.{windowBytes}
+use Rattle.frontiers.specs.Bytes.{windowBytes}
 use Rattle.rules.specs.Line.{linesAt}
 use Rattle.rules.specs.Table.{tableBytes}
 use Rattle.rules.specs.Reader.{Reading, readRule, formed, refused}

@@ -8,7 +8,7 @@ use lib.Dec.{eqb, lit<}
 use lib.ListN.{length}
 use borrow.Author.Tests.{eq-eqb, ne-eqb}
 use Rattle.rules.specs.ReaderAccepts.{accepted}
-use Rattle.window.specs.Bytes.{frontierLength}
+use Rattle.frontiers.specs.Bytes.{frontierLength}
 use Rattle.rules.specs.RuleTableLaws.{length-tableOf, linesOf-tableOf}
 use Rattle.rules.specs.Line.{lineCount, linesAt}
 use Rattle.rules.specs.TableBytes.{linesOf}

@@ -9,10 +9,10 @@ use lib.ListN.{length, getD, take, drop, replicate, length-append, length-replic
 use lib.Seq.{sets-eq, take-append-seam, drop-append-seam, drop-append-add, drop-cons, sets, length-take-le}
 use Rattle.rules.specs.TableBytes.{lineAt, linesFrom, linesOf}
 use Rattle.rules.specs.Table.{tableBytes}
-use Rattle.window.specs.declared.Frontier.{Frontier}
+use Rattle.frontiers.specs.declared.Frontier.{Frontier}
 use Rattle.codec.specs.Little.{bytesOf, put}
-use Rattle.window.specs.BytesLaws.{length-eights}
-use Rattle.window.specs.Bytes.{frontierLength, frontierBytes, framed, windowBytes}
+use Rattle.frontiers.specs.BytesLaws.{length-eights}
+use Rattle.frontiers.specs.Bytes.{frontierLength, frontierBytes, framed, windowBytes}
 use Rattle.rules.specs.TableBytesLaws.{length-linesFrom}
 use Rattle.clocks.specs.Refusal.{badStart}
 use Rattle.codec.specs.LittleLaws.{length-bytesOf, pow-256-pos}

@@ -9,7 +9,7 @@ use lib.ListN.{take, drop, drop-of-length-le, length, length-drop}
 use lib.Seq.{drop-cons, take-all}
 use Rattle.watch.specs.declared.Choice.{Choice}
 use Rattle.watch.specs.declared.Choice.the-variants.{Undecided, Falsified, Chosen}
-use Rattle.window.specs.declared.Frontier.{Frontier}
+use Rattle.frontiers.specs.declared.Frontier.{Frontier}
 use Rattle.clocks.specs.declared.Event.{Event}
 use Rattle.clocks.specs.History.{event}
 use Rattle.clocks.specs.Event.{Cut, apply, involved}

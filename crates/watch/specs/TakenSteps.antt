@@ -16,14 +16,14 @@ use Rattle.codec.specs.SetsLaws.{part-sets-before, part-sets-after}
 use Rattle.clocks.specs.declared.Event.{Event}
 use Rattle.clocks.specs.Counts.{at, listOf}
 use Rattle.clocks.specs.CountsLaws.{listOf-same, at-listOf, at-beyond, length-listOf}
-use Rattle.window.specs.declared.Frontier.{Frontier}
-use Rattle.window.specs.Bytes.{frontiers, frontierAt}
-use Rattle.window.specs.BytesLaws.{count-within}
+use Rattle.frontiers.specs.declared.Frontier.{Frontier}
+use Rattle.frontiers.specs.Bytes.{frontiers, frontierAt}
+use Rattle.frontiers.specs.BytesLaws.{count-within}
 use Rattle.window.specs.Lists.{getD-mapped}
 use Rattle.window.specs.Step.{stepped, keptAfter}
 use Rattle.window.specs.StepCode.{Fitting}
-use Rattle.window.specs.Verdict.{stepped-many}
-use Rattle.window.specs.WindowLaws.{length-frontiers, getD-frontiers}
+use Rattle.window.specs.Many.{stepped-many}
+use Rattle.frontiers.specs.WindowLaws.{length-frontiers, getD-frontiers}
 use Rattle.records.specs.Record.{pendingAt, pendingCount, pendingPlace, eventLength, removed, takenCounts, counted, lineTotal}
 use Rattle.watch.specs.Take.{settingIn, decided, chosen, stateOf}
 use Rattle.records.specs.Record.{readyIn}

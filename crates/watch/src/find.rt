@@ -9,8 +9,8 @@ use records::refusal::room_of;
 ghost use Prim.Native.Nat.{_≤_, _<_, _*_};
 ghost use mathlib.Core.Path.{_≡_};
 ghost use lib.ListN.{length};
-ghost use Rattle.window.specs.Width.{Width};
-ghost use Rattle.window.specs.Bytes.{frontierLength, frontiers};
+ghost use Rattle.frontiers.specs.Width.{Width};
+ghost use Rattle.frontiers.specs.Bytes.{frontierLength, frontiers};
 ghost use Rattle.watch.specs.Find.{findFrom, findCall};
 ghost use Rattle.watch.specs.Answer.{replyWord};
 
@@ -24,8 +24,8 @@ pub fn find_first(w: usize, line: u32, window: &[u8], kept: usize) -> u64
 {
     let mut i = 0;
     while i < kept {
-        let place = window::place::frontier_place(w, i);
-        let values = window::stored::read_values(window, place, w);
+        let place = frontiers::place::frontier_place(w, i);
+        let values = frontiers::stored::read_values(window, place, w);
         if codec::has_bit(values, line) {
             return 256 + 65536 * (i as u64);
         }

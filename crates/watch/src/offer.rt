@@ -14,7 +14,7 @@ ghost use Prim.Native.Nat.{ℕ, _≤_, _<_, _^_};
 ghost use mathlib.Core.Path.{_≡_};
 ghost use lib.ListN.{length};
 ghost use Rattle.clocks.specs.Counts.{at};
-ghost use Rattle.window.specs.Width.{Width};
+ghost use Rattle.frontiers.specs.Width.{Width};
 ghost use Rattle.records.specs.Record.{recordLength, pendingCount, pendingEvents};
 ghost use Rattle.watch.specs.Offer.{placeAmong, offeredEvent, offerCall};
 ghost use Rattle.watch.specs.Answer.{replyWord};

@@ -2,6 +2,7 @@
 
 use crate::reply::state_word;
 use crate::reply::turned_word;
+use frontiers::Frontier;
 use records::moving::clear;
 use records::moving::copy_in;
 use records::refusal::bad_processes;
@@ -9,13 +10,12 @@ use records::refusal::bad_record_length;
 use records::refusal::bad_window_length;
 use records::refusal::table_place;
 use rules::RuleRead;
-use window::Frontier;
 ghost use Prim.Native.Nat.{_+_, _*_, _≤_, _<_};
 ghost use mathlib.Core.Path.{_≡_};
 ghost use lib.ListN.{length};
 ghost use Rattle.rules.specs.TableBytes.{linesOf};
-ghost use Rattle.window.specs.Width.{Width};
-ghost use Rattle.window.specs.Bytes.{frontierLength, windowBytes};
+ghost use Rattle.frontiers.specs.Width.{Width};
+ghost use Rattle.frontiers.specs.Bytes.{frontierLength, windowBytes};
 ghost use Rattle.records.specs.Record.{recordLength};
 ghost use Rattle.watch.specs.Open.{firstRecord, openTable, openCall};
 ghost use Rattle.watch.specs.Answer.{replyWord};
@@ -49,7 +49,7 @@ pub fn write_window(window: &mut [u8], w: usize, labels: [u8; 8], values: u64)
     clear(window, 0, all);
     let counts = [0u32; 8];
     let masks = [0u8; 8];
-    window::stored::write_frontier(
+    frontiers::stored::write_frontier(
         window,
         w,
         Frontier {

@@ -25,8 +25,8 @@ ghost use mathlib.Core.List.{map};
 ghost use lib.ListN.{length, getD, replicate};
 ghost use Rattle.codec.specs.Bit.{bit};
 ghost use Rattle.clocks.specs.Counts.{at};
-ghost use Rattle.window.specs.Width.{Width};
-ghost use Rattle.window.specs.Bytes.{frontierLength, frontiers, windowBytes};
+ghost use Rattle.frontiers.specs.Width.{Width};
+ghost use Rattle.frontiers.specs.Bytes.{frontierLength, frontiers, windowBytes};
 ghost use Rattle.window.specs.Step.{keptAfter, stepped};
 ghost use Rattle.window.specs.StepCode.{Fitting};
 ghost use Rattle.records.specs.Record.{recordLength, processCount, lineTotal, pendingCount, keptCount, pendingAt, pendingEvents, removed, counted};
@@ -143,8 +143,8 @@ fn verdict(window: &[u8], w: usize, kept: usize, lines: u32) -> bool
     requires { ⌜ (1 ≤ lines) × (lines ≤ 64) ⌝ }
     ensures { λ r. ⌜ r ≡ bit (getD (map (λ f. f .values) (frontiers w (now (window .entry)) kept)) (kept - 1) 0) (lines - 1) ⌝ }
 {
-    let place = window::place::frontier_place(w, kept - 1);
-    codec::has_bit(window::stored::read_values(window, place, w), lines - 1)
+    let place = frontiers::place::frontier_place(w, kept - 1);
+    codec::has_bit(frontiers::stored::read_values(window, place, w), lines - 1)
 }
 
 // Pending event number i leaves and is counted as taken.

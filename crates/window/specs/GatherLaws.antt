@@ -10,15 +10,16 @@ use lib.Bits.{bitOr, bitAnd}
 use lib.ListN.{getD, set}
 use Rattle.clocks.specs.Event.{involved, minus}
 use Rattle.clocks.specs.Counts.{at, listOf}
-use Rattle.window.specs.declared.Frontier.{Frontier}
+use Rattle.frontiers.specs.declared.Frontier.{Frontier}
 use Rattle.window.specs.Lists.{getD-mapped}
-use Rattle.window.specs.Seek.{seek, standsAt}
-use Rattle.window.specs.Bytes.{frontiers, frontierAt}
-use Rattle.window.specs.WindowLaws.{length-frontiers, getD-frontiers}
-use Rattle.window.specs.LookupLaws.{standsAt-beyond}
+use Rattle.frontiers.specs.Seek.{seek, standsAt}
+use Rattle.frontiers.specs.Bytes.{frontiers, frontierAt}
+use Rattle.frontiers.specs.WindowLaws.{length-frontiers, getD-frontiers}
+use Rattle.frontiers.specs.LookupLaws.{standsAt-beyond}
 use Rattle.rules.specs.Judge.{judge}
 use Rattle.window.specs.declared.Found.{Found}
-use Rattle.window.specs.Step.{Setting, Gathered, sought, withoutLast, consider, gathered, keysOf, valuesAt, advanced, judgedBy}
+use Rattle.window.specs.Step.{Setting, Gathered, sought, withoutLast, consider, gathered, valuesAt, advanced, judgedBy}
+use Rattle.frontiers.specs.Seek.{keysOf}
 use Rattle.window.specs.StepCode.{soughtWith, gatheredOf, gatheredFrom, hintsFrom, freshFrom}
 
 module _ (s : Setting) (mask : ℕ) (h : s .stored ≡ 8) (v : s .event .mask ≡ mask) (laid : List Frontier) (g : Frontier) (p : ℕ) (k : Gathered) where

@@ -9,9 +9,9 @@ use Rattle.clocks.specs.declared.Event.{Event}
 use Rattle.clocks.specs.Event.{apply}
 use Rattle.clocks.specs.Counts.{at, listOf}
 use Rattle.clocks.specs.Tested.{ready}
-use Rattle.window.specs.declared.Frontier.{Frontier}
-use Rattle.window.specs.Order.{before}
-use Rattle.window.specs.Bytes.{frontierAt, frontiers}
+use Rattle.frontiers.specs.declared.Frontier.{Frontier}
+use Rattle.frontiers.specs.Order.{before}
+use Rattle.frontiers.specs.Bytes.{frontierAt, frontiers}
 use Rattle.window.specs.Step.{Setting, Slot, staying, fresh, slotCounts, merge, advanced, stays, enabledAt, filtered, lay, stepped}
 use Rattle.window.specs.StepCode.{staysWith}
 

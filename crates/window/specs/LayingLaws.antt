@@ -11,9 +11,9 @@ use lib.Seq.{drop-cons}
 use borrow.Author.Tests.{lt-ltb, le-ltb}
 use Rattle.clocks.specs.declared.Event.{Event}
 use Rattle.clocks.specs.Counts.{at}
-use Rattle.window.specs.declared.Frontier.{Frontier}
-use Rattle.window.specs.Bytes.{frontierAt, frontiers}
-use Rattle.window.specs.WindowLaws.{length-frontiers, getD-frontiers}
+use Rattle.frontiers.specs.declared.Frontier.{Frontier}
+use Rattle.frontiers.specs.Bytes.{frontierAt, frontiers}
+use Rattle.frontiers.specs.WindowLaws.{length-frontiers, getD-frontiers}
 use Rattle.window.specs.Step.{Setting, slotCounts, merge, mergeInto, slots, advanced, stays, enabledAt, filtered, lay, stepped, keptAfter}
 use Rattle.window.specs.StepCode.{hintsFrom, freshFrom}
 use Rattle.window.specs.Laying.{restOf, slotsOf, freshFirst, freshAt, Laying}

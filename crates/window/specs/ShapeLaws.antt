@@ -14,10 +14,10 @@ use Rattle.clocks.specs.Counts.{at, listOf}
 use Rattle.clocks.specs.CountsLaws.{length-listOf, at-listOf, at-beyond}
 use Rattle.clocks.specs.StepCounts.{apply-ready}
 use Rattle.clocks.specs.Tested.{ready}
-use Rattle.window.specs.declared.Frontier.{Frontier}
-use Rattle.window.specs.Bytes.{frontierLength, frontierAt}
-use Rattle.window.specs.BytesLaws.{shaped-from}
-use Rattle.window.specs.Shaped.{Shaped}
+use Rattle.frontiers.specs.declared.Frontier.{Frontier}
+use Rattle.frontiers.specs.Bytes.{frontierLength, frontierAt}
+use Rattle.frontiers.specs.BytesLaws.{shaped-from}
+use Rattle.frontiers.specs.Shaped.{Shaped}
 use Rattle.window.specs.Step.{Setting, advanced}
 use Rattle.window.specs.StepCode.{Fitting}
 

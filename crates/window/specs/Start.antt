@@ -5,7 +5,7 @@ use mathlib.Core.List.{List}
 use lib.ListN.{replicate}
 use Rattle.rules.specs.declared.Line.{Line}
 use Rattle.rules.specs.Judge.{judge}
-use Rattle.window.specs.declared.Frontier.{Frontier}
+use Rattle.frontiers.specs.declared.Frontier.{Frontier}
 
 unfoldable pub startFrontier : ℕ → List ℕ → List Line → Frontier
 startFrontier stored labels table = record {

@@ -15,9 +15,9 @@ use Rattle.clocks.specs.Bounded.{allBelow, anyBelow}
 use Rattle.clocks.specs.Counts.{at, listOf}
 use Rattle.clocks.specs.Tested.{ready}
 use Rattle.rules.specs.Judge.{judge}
-use Rattle.window.specs.declared.Frontier.{Frontier}
-use Rattle.window.specs.Seek.{seek, standsAt}
-use Rattle.window.specs.Order.{before}
+use Rattle.frontiers.specs.declared.Frontier.{Frontier}
+use Rattle.frontiers.specs.Seek.{seek, standsAt, keysOf}
+use Rattle.frontiers.specs.Order.{before}
 
 -- What a step is taken in: how many processes are stored, how many there are, which are closed, the rule's table, the event, and the
 -- taken counts with it.
@@ -98,9 +98,6 @@ withoutLast s g p = listOf (s .stored) (minus (getD (g .masks) p 0) (at (g .coun
 -- The values of a frontier among those laid down.
 abbrev pub valuesAt : List Frontier → ℕ → ℕ
 valuesAt laid i = getD (map (λ f. f .values) laid) i 0
-
-abbrev pub keysOf : List Frontier → List (List ℕ)
-keysOf laid = map (λ f. f .counts) laid
 
 -- Process p is considered: looked up from its hint, and counted in where it is found.
 unfoldable pub consider : Setting → List Frontier → Frontier → ℕ → Gathered → Gathered

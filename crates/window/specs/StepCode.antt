@@ -13,7 +13,7 @@ use Rattle.clocks.specs.Bounded.{allBelow, anyBelow}
 use Rattle.clocks.specs.Tested.{ready}
 use Rattle.rules.specs.TableBytes.{linesOf}
 use Rattle.window.specs.declared.Found.{Found}
-use Rattle.window.specs.declared.Frontier.{Frontier}
+use Rattle.frontiers.specs.declared.Frontier.{Frontier}
 use Rattle.window.specs.Step.{Setting, Gathered, advanced, gathered, judgedBy}
 
 -- The setting of a step: eight processes are stored, k there are; the table by its bytes, the taken counts as a list.

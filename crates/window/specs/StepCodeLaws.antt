@@ -17,11 +17,11 @@ use Rattle.clocks.specs.Counts.{at, listOf}
 use Rattle.clocks.specs.CountsLaws.{listOf-same}
 use Rattle.clocks.specs.Bounded.{allBelow}
 use Rattle.clocks.specs.BoundedLaws.{same-test, all-i, all-e}
-use Rattle.window.specs.declared.Frontier.{Frontier}
-use Rattle.window.specs.Order.{same}
-use Rattle.window.specs.OrderLaws.{same-e, same-i}
-use Rattle.window.specs.Bytes.{frontiers, frontierAt}
-use Rattle.window.specs.WindowLaws.{frontiers-more}
+use Rattle.frontiers.specs.declared.Frontier.{Frontier}
+use Rattle.frontiers.specs.Order.{same}
+use Rattle.frontiers.specs.OrderLaws.{same-e, same-i}
+use Rattle.frontiers.specs.Bytes.{frontiers, frontierAt}
+use Rattle.frontiers.specs.WindowLaws.{frontiers-more}
 use Rattle.window.specs.Step.{Setting, stays, enabledAt, advanced, filtered, keptAfter}
 use Rattle.window.specs.StepCode.{settingWith, keptOf}
 

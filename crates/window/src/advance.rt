@@ -1,7 +1,7 @@
 // The frontier that an event leads to, not judged yet; and the test of an event's clock.
 
-use crate::Frontier;
 use clocks::Event;
+use frontiers::Frontier;
 ghost use mathlib.Core.Path.{_≡_};
 ghost use mathlib.Core.Bool.{cond};
 ghost use lib.Dec.{T};

@@ -1,12 +1,12 @@
 // What is gathered for a new frontier from the frontiers laid down before it.
 
 use crate::Found;
-use crate::Frontier;
+use frontiers::Frontier;
 ghost use Prim.Native.Nat.{_+_, _*_, _≤_, _<_};
 ghost use mathlib.Core.Path.{_≡_};
 ghost use lib.ListN.{length};
-ghost use Rattle.window.specs.Width.{Width};
-ghost use Rattle.window.specs.Bytes.{frontierLength, frontierAt, frontiers};
+ghost use Rattle.frontiers.specs.Width.{Width};
+ghost use Rattle.frontiers.specs.Bytes.{frontierLength, frontierAt, frontiers};
 ghost use Rattle.window.specs.Step.{Setting, consider as considered, gathered};
 ghost use Rattle.window.specs.StepCode.{soughtWith, gatheredOf};
 
@@ -32,8 +32,8 @@ fn values_at(s: &[u8], w: usize, i: usize) -> u64
     requires { ⌜ i * frontierLength w + frontierLength w ≤ length (now s) ⌝ }
     ensures { λ r. ⌜ r ≡ frontierAt w (now (s .entry)) i .values ⌝ }
 {
-    let place = crate::place::frontier_place(w, i);
-    crate::stored::read_values(s, place, w)
+    let place = frontiers::place::frontier_place(w, i);
+    frontiers::stored::read_values(s, place, w)
 }
 
 // Process p is considered: looked up from its hint among the m frontiers laid down, and counted in where it is found.
@@ -60,11 +60,11 @@ fn consider(
     let counts = g.counts;
     let key = clocks::step::minus(last, counts);
     let mut hints = prior.hints;
-    let place = crate::lookup::seek(scratch, w, m, key, hints[i]);
+    let place = frontiers::lookup::seek(scratch, w, m, key, hints[i]);
     hints[i] = place;
     let ors = prior.ors;
     let ands = prior.ands;
-    if !crate::lookup::stands_at(scratch, w, m, key, place) {
+    if !frontiers::lookup::stands_at(scratch, w, m, key, place) {
         return Found { ors, ands, hints };
     }
     let values = values_at(scratch, w, place);

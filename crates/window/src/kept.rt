@@ -8,8 +8,8 @@ ghost use mathlib.Core.List.{List};
 ghost use lib.Dec.{eqb};
 ghost use lib.ListN.{length};
 ghost use Rattle.clocks.specs.Event.{one};
-ghost use Rattle.window.specs.Width.{Width};
-ghost use Rattle.window.specs.Bytes.{frontierLength, frontierAt, frontiers};
+ghost use Rattle.frontiers.specs.Width.{Width};
+ghost use Rattle.frontiers.specs.Bytes.{frontierLength, frontierAt, frontiers};
 ghost use Rattle.window.specs.Step.{keptAfter};
 ghost use Rattle.window.specs.StepCode.{settingWith, complete, staysWith, keptOf};
 
@@ -44,7 +44,7 @@ pub fn stays(k: u32, closed: u64, reached: [u32; 8], counts: [u32; 8]) -> bool
     if is_complete(k, closed, reached, counts) {
         return true;
     }
-    crate::order::counts_same(counts, reached)
+    frontiers::order::counts_same(counts, reached)
 }
 
 // 1 for yes, 0 for no.
@@ -71,8 +71,8 @@ pub fn counts_at(window: &[u8], w: usize, i: usize) -> [u32; 8]
     requires { ⌜ i * frontierLength w + frontierLength w ≤ length (now window) ⌝ }
     ensures { λ r. ⌜ r ≡ frontierAt w (now (window .entry)) i .counts ⌝ }
 {
-    let place = crate::place::frontier_place(w, i);
-    crate::counts::read_counts(window, place, w)
+    let place = frontiers::place::frontier_place(w, i);
+    frontiers::counts::read_counts(window, place, w)
 }
 
 // How many frontiers there are after the event.

@@ -1,7 +1,7 @@
 // Frontiers laid down in the scratch: one that stays, and a new one that is judged.
 
-use crate::Frontier;
 use clocks::Event;
+use frontiers::Frontier;
 ghost use Prim.Native.Nat.{ℕ, _+_, _*_, _≤_};
 ghost use mathlib.Core.Path.{_≡_};
 ghost use mathlib.Core.List.{List, [], _∷_, _++_};
@@ -9,8 +9,8 @@ ghost use lib.Dec.{T};
 ghost use lib.ListN.{length};
 ghost use Rattle.clocks.specs.Counts.{at};
 ghost use Rattle.clocks.specs.Tested.{ready};
-ghost use Rattle.window.specs.Width.{Width};
-ghost use Rattle.window.specs.Bytes.{frontierLength, frontierAt, frontiers};
+ghost use Rattle.frontiers.specs.Width.{Width};
+ghost use Rattle.frontiers.specs.Bytes.{frontierLength, frontierAt, frontiers};
 ghost use Rattle.window.specs.StepCode.{Fitting, settingWith, freshFrom, hintsFrom};
 
 // Frontier number i.
@@ -20,8 +20,8 @@ pub fn frontier_at(window: &[u8], w: usize, i: usize) -> Frontier
     requires { ⌜ i * frontierLength w + frontierLength w ≤ length (now window) ⌝ }
     ensures { λ r. ⌜ r ≡ frontierAt w (now (window .entry)) i ⌝ }
 {
-    let place = crate::place::frontier_place(w, i);
-    crate::stored::read_frontier(window, place, w)
+    let place = frontiers::place::frontier_place(w, i);
+    frontiers::stored::read_frontier(window, place, w)
 }
 
 // Frontier i of the window stays: it is laid down as number m.
@@ -32,7 +32,7 @@ pub fn lay_staying(window: &[u8], scratch: &mut [u8], w: usize, i: usize, m: usi
     ensures { λ r. ⌜ frontiers w (now (scratch .exit)) (m + 1) ≡ frontiers w (now (scratch .entry)) m ++ (frontierAt w (now (window .entry)) i ∷ []) ⌝ }
 {
     let f = frontier_at(window, w, i);
-    crate::stored::lay_frontier(scratch, w, m, f);
+    frontiers::stored::lay_frontier(scratch, w, m, f);
 }
 
 // The event leads on from frontier j of the window: the new frontier is judged and laid down as number m. Gives where the look-ups ended.
@@ -72,6 +72,6 @@ pub fn lay_fresh(
         masks,
         values,
     };
-    crate::stored::lay_frontier(scratch, w, m, judged);
+    frontiers::stored::lay_frontier(scratch, w, m, judged);
     found.hints
 }

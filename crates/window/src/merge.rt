@@ -5,8 +5,8 @@ ghost use Prim.Native.Nat.{_+_, _*_, _≤_, _<_};
 ghost use mathlib.Core.Path.{_≡_};
 ghost use mathlib.Core.Bool.{true};
 ghost use lib.ListN.{length};
-ghost use Rattle.window.specs.Width.{Width};
-ghost use Rattle.window.specs.Bytes.{frontierLength, frontierAt, frontiers};
+ghost use Rattle.frontiers.specs.Width.{Width};
+ghost use Rattle.frontiers.specs.Bytes.{frontierLength, frontierAt, frontiers};
 ghost use Rattle.window.specs.Step.{keptAfter, stepped};
 ghost use Rattle.window.specs.StepCode.{Fitting, settingWith};
 ghost use Rattle.window.specs.Laying.{keeps, takes, restOf, freshAt};
@@ -75,7 +75,7 @@ pub fn fresh_first(window: &[u8], w: usize, n: usize, i: usize, j: usize, e: Eve
     let from = crate::kept::counts_at(window, w, j);
     let there = clocks::step::apply(e, from);
     let here = crate::kept::counts_at(window, w, i);
-    crate::order::counts_before(there, here)
+    frontiers::order::counts_before(there, here)
 }
 
 // Lays down in the scratch all frontiers that there are after the event.

@@ -5,8 +5,8 @@ ghost use Prim.Native.Nat.{_*_, _≤_};
 ghost use mathlib.Core.Path.{_≡_};
 ghost use lib.ListN.{length, take, replicate};
 ghost use lib.Seq.{sets};
-ghost use Rattle.window.specs.Width.{Width};
-ghost use Rattle.window.specs.Bytes.{frontierLength, frontiers, windowBytes};
+ghost use Rattle.frontiers.specs.Width.{Width};
+ghost use Rattle.frontiers.specs.Bytes.{frontierLength, frontiers, windowBytes};
 ghost use Rattle.window.specs.Step.{keptAfter, stepped};
 ghost use Rattle.window.specs.StepCode.{Fitting, settingWith};
 
@@ -43,7 +43,7 @@ pub fn copy_back(window: &mut [u8], scratch: &mut [u8], w: usize, m: usize)
     ensures { λ r. ⌜ now (scratch .exit) ≡ replicate (length (now (scratch .entry))) 0 ⌝ }
     ensures { λ r. ⌜ frontiers w (now (window .exit)) m ≡ frontiers w (now (scratch .entry)) m ⌝ }
 {
-    let count = crate::place::frontier_place(w, m);
+    let count = frontiers::place::frontier_place(w, m);
     copy_bytes(window, scratch, count);
     clear(&mut window[count..]);
     clear(scratch);

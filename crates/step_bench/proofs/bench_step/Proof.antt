@@ -2,7 +2,7 @@
 use native.Mathlib.Omega.{arith}
 use borrow.Author.Needs.{needs}
 use mathlib.Core.Path.{refl, ap, _∙_}
-use Rattle.window.specs.Bytes.{frontierLength}
+use Rattle.frontiers.specs.Bytes.{frontierLength}
 use Rattle.window.specs.StepCode.{Fitting}
 use Rattle.watch.specs.WordsLaws.{counts-fit, labels-fit}
 use Rattle.step_bench.proofs.bench_step.Statement.{statement}

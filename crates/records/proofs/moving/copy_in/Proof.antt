@@ -7,7 +7,7 @@ use lib.ListN.{length, take}
 use lib.Seq.{sets}
 use borrow.Author.Needs.{needs}
 use denote.Ref.{now}
-use Rattle.window.specs.StoreLaws.{sets-more}
+use Rattle.frontiers.specs.StoreLaws.{sets-more}
 use Rattle.records.proofs.moving.copy_in.Statement.{statement}
 
 abbrev Inv-loop : tie.InvT-loop

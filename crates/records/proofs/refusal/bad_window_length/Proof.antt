@@ -4,7 +4,7 @@ use Prim.Native.Nat.{_*_}
 use native.Mathlib.Omega.{arith}
 use borrow.Author.Needs.{needs}
 use borrow.Author.Tests.{lt-ltb, le-ltb}
-use Rattle.window.specs.Bytes.{frontierLength}
+use Rattle.frontiers.specs.Bytes.{frontierLength}
 use Rattle.records.proofs.refusal.bad_window_length.Statement.{statement}
 use Rattle.records.specs.Refusals.{badWindowLength}
 

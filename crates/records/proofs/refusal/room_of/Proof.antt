@@ -2,7 +2,7 @@
 use Rattle.records.proofs.refusal.room_of.Tie as tie
 use native.Mathlib.Omega.{arith}
 use borrow.Author.Needs.{needs}
-use Rattle.window.specs.Bytes.{frontierLength}
+use Rattle.frontiers.specs.Bytes.{frontierLength}
 use Rattle.records.proofs.refusal.room_of.Statement.{statement}
 use Rattle.records.specs.Refusals.{roomOf}
 

@@ -2,8 +2,8 @@
 use Rattle.records.proofs.update.write_counts_at.Tie as tie
 use borrow.Author.Needs.{needs}
 use denote.Ref.{now}
-use Rattle.window.specs.StoreLaws.{lent-tail}
-use Rattle.window.specs.Bytes.{countBytes}
+use Rattle.frontiers.specs.StoreLaws.{lent-tail}
+use Rattle.frontiers.specs.Bytes.{countBytes}
 use Rattle.records.proofs.update.write_counts_at.Statement.{statement}
 
 sub-write-counts : tie.Need-sub-write-counts

@@ -6,8 +6,8 @@ use mathlib.Core.Path.{_≡_, refl, sym, _∙_}
 use borrow.Author.Needs.{needs}
 use denote.Ref.{now}
 use Rattle.codec.specs.Bit.{bit}
-use Rattle.window.specs.BytesLaws.{count-within}
-use Rattle.window.specs.Bytes.{frontierLength, frontierAt, frontiers}
+use Rattle.frontiers.specs.BytesLaws.{count-within}
+use Rattle.frontiers.specs.Bytes.{frontierLength, frontierAt, frontiers}
 use Rattle.watch.proofs.find.find_first.Statement.{statement}
 use Rattle.watch.specs.FindSteps.{replyFrom, find-here, find-further, find-none}
 use Rattle.watch.specs.Find.{findFrom}

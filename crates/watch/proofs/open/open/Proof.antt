@@ -6,7 +6,7 @@ use mathlib.Core.Path.{_≡_, refl, sym, ap, _∙_}
 use lib.ListN.{length}
 use borrow.Author.Needs.{needs}
 use denote.Ref.{now}
-use Rattle.window.specs.Bytes.{frontierLength}
+use Rattle.frontiers.specs.Bytes.{frontierLength}
 use Rattle.watch.proofs.open.open.Statement.{statement}
 use Rattle.records.specs.Record.{recordLength}
 use Rattle.watch.specs.Open.{Opened}

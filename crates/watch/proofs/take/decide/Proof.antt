@@ -13,7 +13,7 @@ use Rattle.watch.proofs.take.decide.Statement.{statement}
 use Rattle.clocks.specs.declared.Event.{Event}
 use Rattle.clocks.specs.EventLaws.{true-T}
 use Rattle.window.specs.Step.{fits, keptAfter}
-use Rattle.window.specs.Bytes.{frontiers}
+use Rattle.frontiers.specs.Bytes.{frontiers}
 use Rattle.watch.specs.declared.Choice.the-variants.{Undecided, Chosen}
 use Rattle.records.specs.Record.{pendingAt, pendingEvents}
 use Rattle.watch.specs.Take.{Decision, settingIn, tried}

@@ -10,7 +10,7 @@ use denote.Ref.{now}
 use Rattle.watch.proofs.take.step_window.Statement.{statement}
 use Rattle.clocks.specs.Event.{apply}
 use Rattle.clocks.specs.Counts.{at, listOf}
-use Rattle.window.specs.Bytes.{frontiers}
+use Rattle.frontiers.specs.Bytes.{frontiers}
 use Rattle.window.specs.Step.{Setting, keptAfter}
 use Rattle.window.specs.StepCode.{settingWith}
 use Rattle.records.specs.Record.{takenCounts}

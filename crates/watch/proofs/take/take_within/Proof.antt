@@ -9,8 +9,8 @@ use mathlib.Core.List.{List}
 use lib.ListN.{replicate}
 use borrow.Author.Needs.{needs}
 use denote.Ref.{now}
-use Rattle.window.specs.declared.Frontier.{Frontier}
-use Rattle.window.specs.Bytes.{frontierLength, frontiers}
+use Rattle.frontiers.specs.declared.Frontier.{Frontier}
+use Rattle.frontiers.specs.Bytes.{frontierLength, frontiers}
 use Rattle.watch.proofs.take.take_within.Statement.{statement}
 use Rattle.watch.specs.Answer.{replyWord}
 use Rattle.watch.specs.ChoiceSteps.{within-by, choice-undecided, choice-falsified, choice-chosen}

@@ -7,8 +7,8 @@ use borrow.Author.Needs.{needs}
 use denote.Ref.{now}
 use Rattle.watch.proofs.take.verdict.Statement.{statement}
 use Rattle.codec.specs.Bit.{bit}
-use Rattle.window.specs.Bytes.{frontierLength, frontierAt}
-use Rattle.window.specs.BytesLaws.{count-within}
+use Rattle.frontiers.specs.Bytes.{frontierLength, frontierAt}
+use Rattle.frontiers.specs.BytesLaws.{count-within}
 use Rattle.watch.specs.TakenSteps.{last-values}
 
 sub-frontier-place : tie.Need-sub-frontier-place

@@ -9,10 +9,10 @@ use Rattle.window.proofs.gather.consider.Tie as tie
 use denote.Ref.{now}
 use mathlib.Core.Bool.{true}
 use borrow.Author.Tests.{not-true, not-false}
-use Rattle.window.specs.Bytes.{frontiers}
+use Rattle.frontiers.specs.Bytes.{frontiers}
 use Rattle.window.specs.Step.{valuesAt}
 use Rattle.window.specs.StepCode.{gatheredOf, soughtWith}
-use Rattle.window.specs.WindowLaws.{place-within}
+use Rattle.frontiers.specs.WindowLaws.{place-within}
 use Rattle.window.specs.GatherLaws.{consider-passed, consider-missing, consider-found, stands-within, values-at}
 use lib.Bits.{bitOr, bitAnd}
 

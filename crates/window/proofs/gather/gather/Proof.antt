@@ -5,7 +5,7 @@ use Prim.Native.Nat.{_≤_, _-_}
 use borrow.Author.Needs.{needs}
 use Rattle.window.proofs.gather.gather.Statement.{statement}
 use Rattle.window.proofs.gather.gather.Tie as tie
-use Rattle.window.specs.Bytes.{frontiers}
+use Rattle.frontiers.specs.Bytes.{frontiers}
 use Rattle.window.specs.Step.{Setting, gathered, consider}
 use Rattle.window.specs.StepCode.{gatheredOf}
 use Rattle.window.specs.GatherLaws.{gathered-none, gathered-more}

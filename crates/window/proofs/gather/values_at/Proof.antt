@@ -5,7 +5,7 @@ use borrow.Author.Needs.{needs}
 use Rattle.window.proofs.gather.values_at.Statement.{statement}
 use Rattle.window.proofs.gather.values_at.Tie as tie
 use denote.Ref.{now}
-use Rattle.window.specs.Bytes.{frontierAt, frontierFrom}
+use Rattle.frontiers.specs.Bytes.{frontierAt, frontierFrom}
 
 frontier-place-requires : tie.Need-frontier-place-requires
 frontier-place-requires c κs = search needs

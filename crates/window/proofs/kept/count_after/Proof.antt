@@ -7,8 +7,8 @@ use borrow.Author.Needs.{needs}
 use Rattle.window.proofs.kept.count_after.Statement.{statement}
 use Rattle.window.proofs.kept.count_after.Tie as tie
 use denote.Ref.{now}
-use Rattle.window.specs.WindowLaws.{place-within}
-use Rattle.window.specs.Bytes.{frontiers, frontierAt}
+use Rattle.frontiers.specs.WindowLaws.{place-within}
+use Rattle.frontiers.specs.Bytes.{frontiers, frontierAt}
 use Rattle.window.specs.Step.{keptAfter}
 use Rattle.window.specs.StepCode.{settingWith, keptOf}
 use Rattle.window.specs.StepCodeLaws.{keptAfter-none, keptAfter-more}

@@ -4,7 +4,7 @@ use Prim.Native.Nat.{ℕ}
 use borrow.Author.Needs.{needs}
 use Rattle.window.proofs.kept.counts_at.Statement.{statement}
 use Rattle.window.proofs.kept.counts_at.Tie as tie
-use Rattle.window.specs.Bytes.{frontierLength, frontierAt, frontierFrom}
+use Rattle.frontiers.specs.Bytes.{frontierLength, frontierAt, frontierFrom}
 use denote.Ref.{now}
 
 frontier-place-requires : tie.Need-frontier-place-requires

@@ -6,14 +6,14 @@ use borrow.Author.Needs.{needs}
 use Rattle.window.proofs.lay.lay_fresh.Statement.{statement}
 use Rattle.window.proofs.lay.lay_fresh.Tie as tie
 use denote.Ref.{now}
-use Rattle.window.specs.Bytes.{frontierAt, frontiers}
-use Rattle.window.specs.WindowLaws.{frontiers-stored}
-use Rattle.window.specs.Shaped.{Shaped}
+use Rattle.frontiers.specs.Bytes.{frontierAt, frontiers}
+use Rattle.frontiers.specs.WindowLaws.{frontiers-stored}
+use Rattle.frontiers.specs.Shaped.{Shaped}
 use Rattle.window.specs.ShapeLaws.{shaped-at, shaped-advanced}
 use lib.Dec.{T}
 use Rattle.clocks.specs.Counts.{at}
 use Rattle.clocks.specs.Tested.{ready}
-use Rattle.window.specs.declared.Frontier.{Frontier}
+use Rattle.frontiers.specs.declared.Frontier.{Frontier}
 use Rattle.window.specs.Step.{Setting, advanced}
 use Rattle.window.specs.StepCode.{settingWith}
 use Rattle.window.specs.GatherLaws.{hints-are, fresh-is}

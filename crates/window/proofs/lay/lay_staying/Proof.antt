@@ -7,11 +7,11 @@ use borrow.Author.Needs.{needs}
 use Rattle.window.proofs.lay.lay_staying.Statement.{statement}
 use Rattle.window.proofs.lay.lay_staying.Tie as tie
 use denote.Ref.{now}
-use Rattle.window.specs.Bytes.{frontierAt, frontiers, frontierLength}
-use Rattle.window.specs.WindowLaws.{frontiers-stored}
-use Rattle.window.specs.Shaped.{Shaped}
+use Rattle.frontiers.specs.Bytes.{frontierAt, frontiers, frontierLength}
+use Rattle.frontiers.specs.WindowLaws.{frontiers-stored}
+use Rattle.frontiers.specs.Shaped.{Shaped}
 use Rattle.window.specs.ShapeLaws.{shaped-at}
-use Rattle.window.specs.declared.Frontier.{Frontier}
+use Rattle.frontiers.specs.declared.Frontier.{Frontier}
 
 frontier-at-requires : tie.Need-frontier-at-requires
 frontier-at-requires c κs = search needs

@@ -8,14 +8,14 @@ use Rattle.window.proofs.merge.fresh_first.Statement.{statement}
 use Rattle.window.proofs.merge.fresh_first.Tie as tie
 use denote.Ref.{now}
 use borrow.Author.Tests.{lt-ltb, le-ltb}
-use Rattle.window.specs.WindowLaws.{place-within}
+use Rattle.frontiers.specs.WindowLaws.{place-within}
 use lib.Dec.{T}
 use Rattle.clocks.specs.Event.{apply}
 use Rattle.clocks.specs.EventLaws.{true-T}
 use Rattle.clocks.specs.Counts.{at, listOf}
 use Rattle.clocks.specs.Tested.{ready}
-use Rattle.window.specs.Bytes.{frontierAt}
-use Rattle.window.specs.Order.{before}
+use Rattle.frontiers.specs.Bytes.{frontierAt}
+use Rattle.frontiers.specs.Order.{before}
 
 returns : tie.Need-returns
 returns c = let a = c .before .before .args in rw (le-ltb (a .j) (a .n) (search needs))

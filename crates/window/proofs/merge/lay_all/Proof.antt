@@ -7,8 +7,8 @@ use borrow.Author.Needs.{needs}
 use Rattle.window.proofs.merge.lay_all.Statement.{statement}
 use Rattle.window.proofs.merge.lay_all.Tie as tie
 use denote.Ref.{now}
-use Rattle.window.specs.Bytes.{frontiers}
-use Rattle.window.specs.WindowLaws.{place-within}
+use Rattle.frontiers.specs.Bytes.{frontiers}
+use Rattle.frontiers.specs.WindowLaws.{place-within}
 use Rattle.window.specs.StepCode.{settingWith}
 use Rattle.window.specs.Step.{stays, enabledAt}
 use Rattle.window.specs.Laying.{Laying}

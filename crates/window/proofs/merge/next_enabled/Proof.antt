@@ -7,8 +7,8 @@ use borrow.Author.Needs.{needs}
 use Rattle.window.proofs.merge.next_enabled.Statement.{statement}
 use Rattle.window.proofs.merge.next_enabled.Tie as tie
 use denote.Ref.{now}
-use Rattle.window.specs.Bytes.{frontierAt}
-use Rattle.window.specs.WindowLaws.{place-within}
+use Rattle.frontiers.specs.Bytes.{frontierAt}
+use Rattle.frontiers.specs.WindowLaws.{place-within}
 use Rattle.window.specs.Laying.{takes, restOf}
 use Rattle.window.specs.LayingLaws.{rest-pass}
 use native.Mathlib.Nat.{le-refl}

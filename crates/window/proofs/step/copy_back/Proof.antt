@@ -8,10 +8,10 @@ use borrow.Author.Needs.{needs}
 use Rattle.window.proofs.step.copy_back.Statement.{statement}
 use Rattle.window.proofs.step.copy_back.Tie as tie
 use denote.Ref.{now}
-use Rattle.window.specs.StoreLaws.{copied-cleared}
-use Rattle.window.specs.Bytes.{frontiers, frontierLength}
+use Rattle.frontiers.specs.StoreLaws.{copied-cleared}
+use Rattle.frontiers.specs.Bytes.{frontiers, frontierLength}
 use borrow.Rule.Slice.PartMut.{putMid}
-use Rattle.window.specs.WindowLaws.{windowBytes-frontiers, read-back}
+use Rattle.frontiers.specs.WindowLaws.{windowBytes-frontiers, read-back}
 
 frontier-place-requires : tie.Need-frontier-place-requires
 frontier-place-requires c κs = search needs

@@ -9,7 +9,7 @@ use Rattle.window.proofs.step.copy_bytes.Statement.{statement}
 use Rattle.window.proofs.step.copy_bytes.Tie as tie
 use lib.Seq.{sets}
 use denote.Ref.{now}
-use Rattle.window.specs.StoreLaws.{copied-more}
+use Rattle.frontiers.specs.StoreLaws.{copied-more}
 
 abbrev Inv-loop : tie.InvT-loop
 Inv-loop to₀ from count i₀ to i = (i ≤ count) × (length to ≡ length to₀) × (to ≡ sets to₀ 0 (take i from))

@@ -6,7 +6,7 @@ use borrow.Author.Needs.{needs}
 use Rattle.window.proofs.step.step.Statement.{statement}
 use Rattle.window.proofs.step.step.Tie as tie
 use denote.Ref.{now}
-use Rattle.window.specs.Bytes.{windowBytes}
+use Rattle.frontiers.specs.Bytes.{windowBytes}
 
 lay-all-requires : tie.Need-lay-all-requires
 lay-all-requires c κs =

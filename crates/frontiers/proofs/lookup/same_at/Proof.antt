@@ -1,0 +1,89 @@
+-- Below p the counts are those of the key, so that the comparison is that of what follows.
+use Prim.Native.Nat.{_≤_, _-_, _+_, _*_}
+use native.Mathlib.Omega.{arith}
+use mathlib.Core.Path.{_≡_, sym, _∙_}
+use lib.ListN.{length, drop}
+use denote.Ref.{now}
+use borrow.Author.Needs.{needs}
+use Rattle.codec.specs.Little.{number}
+use Rattle.frontiers.specs.BytesLaws.{count-within}
+use Rattle.frontiers.specs.StoreLaws.{count-next}
+use Rattle.frontiers.specs.LookupLaws.{same-other, same-equal, same-end}
+use Rattle.frontiers.specs.Order.{same}
+use Rattle.frontiers.specs.Bytes.{frontierLength, frontierAt}
+use Rattle.frontiers.proofs.lookup.same_at.Statement.{statement}
+use Rattle.frontiers.proofs.lookup.same_at.Tie as tie
+
+abbrev Inv-loop : tie.InvT-loop
+Inv-loop s w i key next₀ p₀ next p = (p ≤ 8) × (next ≡ i * frontierLength w + p * w) × (length key ≡ 8) × (same (frontierAt w s i .counts) key ≡ same (drop p (frontierAt w s i .counts)) (drop p key))
+
+abbrev μ-loop : tie.MeasureT-loop
+μ-loop s w i key next₀ p₀ next p = 8 - p
+
+frontier-place-requires : tie.Need-frontier-place-requires Inv-loop μ-loop
+frontier-place-requires c κs = search needs
+
+loop-holds : tie.Need-loop-holds Inv-loop μ-loop
+loop-holds c = search needs
+
+read-count-requires : tie.Need-read-count-requires Inv-loop μ-loop
+unfolding frontierLength
+read-count-requires c κs =
+    let a = c .before .before .before .before .args in
+    (search needs, omega (arith, count-within (c .before .loop .p) 8 (a .w) (search needs)))
+
+mul-if1 : tie.Need-mul-if1 Inv-loop μ-loop
+mul-if1 c = search needs
+
+array-read-if1 : tie.Need-array-read-if1 Inv-loop μ-loop
+array-read-if1 c = search needs
+
+returns : tie.Need-returns Inv-loop μ-loop
+returns c =
+    let a = c .before .before .before .before .before .before .args in
+    let p = c .before .before .before .loop .p in
+    let read : c .before .read-count .result ≡ number (now (a .s)) (a .i * frontierLength (a .w) + p * a .w) (a .w) = cc in
+    cc (same-other (a .w) (now (a .s)) (a .i) (a .t4) p (search needs) (search needs) (λ q. c .if1 .taken (read ∙ q)))
+
+add-next : tie.Need-add-next Inv-loop μ-loop
+unfolding frontierLength
+add-next c =
+    let a = c .before .before .before .before .before .before .args in
+    record { fits = omega (arith, count-within (c .before .before .before .loop .p) 8 (a .w) (search needs)) }
+
+add-p : tie.Need-add-p Inv-loop μ-loop
+add-p c = search needs
+
+loop-less : tie.Need-loop-less Inv-loop μ-loop
+loop-less c = search needs
+
+loop-again : tie.Need-loop-again Inv-loop μ-loop
+loop-again c =
+    let a = c .before .before .before .before .before .before .args in
+    let p = c .before .before .before .loop .p in
+    let read : c .before .read-count .result ≡ number (now (a .s)) (a .i * frontierLength (a .w) + p * a .w) (a .w) = cc in
+    (search needs, omega (arith, count-next p (a .w)), search needs, cc (same-equal (a .w) (now (a .s)) (a .i) (a .t4) p (search needs) (search needs) (sym read ∙ c .if1 .left)))
+
+returns-2 : tie.Need-returns-2 Inv-loop μ-loop
+returns-2 c =
+    let a = c .before .before .before .before .args in
+    let all : c .before .loop .p ≡ 8 = omega arith in
+    cc (same-end (a .w) (now (a .s)) (a .i) (a .t4) (search needs))
+
+pub same-at-spec : {M : Type 1} → statement M
+same-at-spec =
+    tie.close
+    (tie.spec
+    Inv-loop
+    μ-loop
+    frontier-place-requires
+    loop-holds
+    read-count-requires
+    mul-if1
+    array-read-if1
+    returns
+    add-next
+    add-p
+    loop-less
+    loop-again
+    returns-2)

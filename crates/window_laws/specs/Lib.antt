@@ -1,0 +1,17 @@
+-- A window holds exactly the kept cuts, each line true exactly by PaCTL; a step keeps it so.
+
+-- What a reader has to believe: what a window holds, and the theorems
+pub mod Represents
+pub mod StartTheorem
+pub mod StepTheorem
+pub mod Unique
+pub mod Verdict
+-- What leads to them
+pub mod OrderCuts
+pub mod AscendingLaws
+pub mod MergeLaws
+pub mod FrontierLaws
+pub mod FoundLaid
+pub mod StoredCuts
+pub mod GatheredBits
+pub mod JudgingNew
