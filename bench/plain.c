@@ -176,7 +176,7 @@ static void lay_new(const struct step *s, const uint8_t *record, const uint8_t *
     for (unsigned rest = (uint8_t)~s->mask & ((1u << record[0]) - 1); rest != 0; rest &= rest - 1) {
         unsigned p = (unsigned)__builtin_ctz(rest), m = to[MASKS_AT + p], last = 1;
         struct counts key = c;
-        if (n == 0 || m == 0 || (m & s->mask) != 0 || (unsigned)__builtin_ctz(m) != p) continue;
+        if (n == 0 || m == 0 || (unsigned)__builtin_ctz(m) != p) continue;
         for (unsigned set = m; set != 0; set &= set - 1) {
             unsigned q = (unsigned)__builtin_ctz(set);
             last &= to[MASKS_AT + q] == m;

@@ -18,6 +18,9 @@ static void try_case(uint64_t seed, uint64_t number) {
     if (number % 400 == 7) {
         case_begins(seed, number, "a long walk");
         try_walk(&s, &one, between(&s, 20, 60), 3000);
+    } else if (number % 400 == 15) {
+        case_begins(seed, number, "late counts");
+        try_late(&s, &one);
     } else if (number % 8 < 4) {
         case_begins(seed, number, "a walk");
         try_walk(&s, &one, between(&s, 1, 14), 800);

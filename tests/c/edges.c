@@ -63,6 +63,26 @@ static void check_last_count(struct subject *s) {
     lend_room(s, 1);
 }
 
+/* Both processes together up to here, then five events of each alone: the order of counts where their bytes carry over. */
+static void check_grid(struct subject *s, unsigned from) {
+    start(s, 40, 2, RULE);
+    memset(s->scratch.bytes, 0, s->scratch.length);
+    for (unsigned n = 1; n <= from; n++) {
+        watch_offer(3, watch_counts((uint16_t)n, (uint16_t)n, 0, 0), 0, 0, s->record.bytes, s->record.length);
+        watch_take(s->record.bytes, s->record.length, s->window.bytes, s->window.length, s->scratch.bytes, s->scratch.length);
+    }
+    for (unsigned n = 1; n <= 5; n++) {
+        CHECK_REPLY(offer(s, 1, from + n, from, 0, 0, 0), held(1));
+        CHECK_REPLY(try_take(s), state(0, 2 * n));
+        CHECK_REPLY(offer(s, 2, from, from + n, 0, 0, 0), held(1));
+        CHECK_REPLY(try_take(s), state(0, 2 * n + 1));
+    }
+    for (unsigned i = 0; i < 11; i++) {
+        CHECK(watch_cut(s->window.bytes, i, 0) == from + (i < 5 ? i : 5));
+        CHECK(watch_cut(s->window.bytes, i, 1) == from + (i < 5 ? 5 : i - 5));
+    }
+}
+
 /* Two processes without a common event: 1,023 events of one, the window full to the last byte. */
 static void check_full_window(struct subject *s) {
     start(s, 1024, 2, RULE);
@@ -95,6 +115,8 @@ void test_edges(void) {
     check_null(&s);
     check_alignment(&s);
     check_last_count(&s);
+    check_grid(&s, 253);
+    check_grid(&s, 65530);
     check_full_window(&s);
     check_all_meet(&s);
     subject_free(&s);

@@ -30,8 +30,13 @@ static uint64_t random_mask(struct source *s, unsigned k, unsigned joint) {
 }
 
 struct execution random_execution(struct source *s, unsigned k, unsigned n, size_t most, unsigned joint) {
+    return later_execution(s, k, n, most, joint, 0, 0);
+}
+
+struct execution later_execution(struct source *s, unsigned k, unsigned n, size_t most, unsigned joint, unsigned alone, unsigned before) {
     struct execution x = {.k = k};
     unsigned last[PROCESSES][PROCESSES] = {{0}};
+    last[alone][alone] = before;
     while (x.n < n && x.n < EVENTS_MOST) {
         struct sent e = {.mask = random_mask(s, k, joint)};
         unsigned clock[PROCESSES] = {0};

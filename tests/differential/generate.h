@@ -31,6 +31,9 @@ struct execution {
  * events with more than one process. */
 struct execution random_execution(struct source *s, unsigned k, unsigned n, size_t most, unsigned joint);
 
+/* The same, after so many events that one process had alone. */
+struct execution later_execution(struct source *s, unsigned k, unsigned n, size_t most, unsigned joint, unsigned alone, unsigned before);
+
 /* The same event with something changed: labels, mask, a count, its clock made false. */
 struct sent twisted(struct source *s, struct sent e, unsigned k);
 

@@ -167,3 +167,17 @@ uint64_t twin_find(struct twin *t, uint64_t line) {
     }
     return reply;
 }
+
+void twin_forward(struct twin *t, struct sent e) {
+    struct event event = event_of(e.mask, e.low, e.high, e.labels);
+    lend(&t->scratch, t->window.length, 0);
+    watch_offer(e.mask, e.low, e.high, e.labels, t->record.bytes, RECORD);
+    watch_take(t->record.bytes, RECORD, t->window.bytes, t->window.length, t->scratch.bytes, t->window.length);
+    append(&t->model.history, &event);
+}
+
+void twin_catch_up(struct twin *t) {
+    note("%u events were taken\n", t->model.history.n);
+    lay_down(&t->model, t->record_bytes, t->window_bytes, t->window_length);
+    compare_watch(t);
+}

@@ -27,6 +27,10 @@ uint64_t twin_offer(struct twin *t, struct sent e);
 uint64_t twin_take(struct twin *t, struct source *s, size_t scratch_length);
 uint64_t twin_find(struct twin *t, uint64_t line);
 
+/* Takes an event that is ready and fits, without comparing anything: the model only notes it. Compared again after twin_catch_up. */
+void twin_forward(struct twin *t, struct sent e);
+void twin_catch_up(struct twin *t);
+
 /* What is being tried, for the message when something differs. */
 void case_begins(uint64_t seed, uint64_t number, const char *kind);
 void note(const char *format, ...);
@@ -43,6 +47,7 @@ void compare_bytes(const char *name, const uint8_t *library, const uint8_t *expe
 /* The kinds of cases. */
 void try_texts(struct source *s, struct twin *t);
 void try_walk(struct source *s, struct twin *t, unsigned events, size_t vectors);
+void try_late(struct source *s, struct twin *t); /* counts beyond one byte */
 void try_damage(struct source *s, struct twin *t);
 void try_orders(struct source *s, struct twin *t, struct twin *other, bool wide);
 

@@ -71,10 +71,10 @@ static void drain(struct source *s, struct twin *t) {
     }
 }
 
-static void start_watch(struct source *s, struct twin *t, unsigned k) {
+static void start_watch(struct source *s, struct twin *t, unsigned k, size_t room) {
     uint8_t text[TEXT_MOST];
     size_t length = random_rule(s, k, chance(s, 80) ? between(s, 1, 24) : between(s, 24, 64), text);
-    size_t window_length = FRONTIER * random_room(s);
+    size_t window_length = FRONTIER * room;
     fill_junk(s, t->record_bytes, RECORD);
     fill_junk(s, t->window_bytes, window_length);
     twin_lend(t, s, RECORD, window_length);
@@ -82,32 +82,52 @@ static void start_watch(struct source *s, struct twin *t, unsigned k) {
     memset(t->window_bytes + window_length, 0, WINDOW_MOST - window_length);
 }
 
-void try_walk(struct source *s, struct twin *t, unsigned events, size_t vectors) {
-    unsigned k = between(s, 1, 8), next = 0;
-    start_watch(s, t, k);
-    struct execution x = random_execution(s, k, events, vectors, chance(s, 50) ? 15 : 50);
-    bool orderly = chance(s, 30), hostile = chance(s, 60);
-    if (!orderly) shuffle(s, x.event, x.n, chance(s, 60));
-    while (next < x.n) {
+/* The execution's events and whatever comes between. */
+static void walk(struct source *s, struct twin *t, struct execution *x) {
+    unsigned next = 0;
+    bool hostile = chance(s, 60);
+    if (chance(s, 70)) shuffle(s, x->event, x->n, chance(s, 60));
+    while (next < x->n) {
         unsigned action = below(s, 100);
-        if (action < 40) twin_offer(t, x.event[next++]);
+        if (action < 40) twin_offer(t, x->event[next++]);
         else if (action < 65) twin_take(t, s, t->window_length);
-        else if (action < 75 && hostile) random_offer(s, t, &x);
+        else if (action < 75 && hostile) random_offer(s, t, x);
         else if (action < 80) random_find(s, t);
         else if (action < 85) lend_longer(s, t);
         else if (action < 88) wrong_lengths(s, t);
         else if (action < 91) damage_excursion(s, t, 3);
     }
     drain(s, t);
-    for (unsigned i = 0; i < x.n; i++) twin_offer(t, x.event[i]);
+    for (unsigned i = 0; i < x->n; i++) twin_offer(t, x->event[i]);
     drain(s, t);
     random_find(s, t);
     damage_excursion(s, t, 4);
 }
 
+void try_walk(struct source *s, struct twin *t, unsigned events, size_t vectors) {
+    unsigned k = between(s, 1, 8);
+    start_watch(s, t, k, random_room(s));
+    struct execution x = random_execution(s, k, events, vectors, chance(s, 50) ? 15 : 50);
+    walk(s, t, &x);
+}
+
+void try_late(struct source *s, struct twin *t) {
+    unsigned k = between(s, 2, 4), alone = below(s, k), before = between(s, 250, 257);
+    start_watch(s, t, k, ROOM);
+    for (unsigned i = 1; i <= before; i++) {
+        struct sent e = {.mask = (uint64_t)1 << alone};
+        e.labels = random_labels(s, e.mask);
+        set_sent_count(&e, alone, i);
+        twin_forward(t, e);
+    }
+    twin_catch_up(t);
+    struct execution x = later_execution(s, k, between(s, 4, 10), 5000, 15, alone, before);
+    walk(s, t, &x);
+}
+
 void try_damage(struct source *s, struct twin *t) {
     unsigned k = between(s, 1, 8);
-    start_watch(s, t, k);
+    start_watch(s, t, k, random_room(s));
     struct execution x = random_execution(s, k, between(s, 1, 10), 600, 30);
     shuffle(s, x.event, x.n, chance(s, 50));
     for (unsigned i = 0; i < x.n; i++) {

@@ -45,7 +45,7 @@ unsigned refused_event(uint64_t k, uint64_t mask, uint64_t clock_low, uint64_t c
 }
 
 /* Record and window from the model, and the answer to an opened watch or a taken event. Its flag is the rule's truth as a form. */
-static uint64_t lay_down(const struct model *m, uint8_t *record, uint8_t *window, size_t window_len) {
+uint64_t lay_down(const struct model *m, uint8_t *record, uint8_t *window, size_t window_len) {
     struct cuts all = all_cuts(&m->history);
     judge_cuts(&all, &m->history, &m->rule, m->start);
     size_t number = kept_number(&all, m->k);
@@ -81,7 +81,7 @@ static bool meets(const struct event *e, const struct event *f) {
 
 static unsigned refused_by_state(const struct model *m, const struct event *e) {
     for (unsigned p = 0; p < PROCESSES; p++)
-        if (involved(e, p) && e->clock[p] <= taken(&m->history, p)) return 31;
+        if (involved(e, p) && e->clock[p] <= m->history.taken[p]) return 31;
     for (unsigned i = 0; i < m->pending_number; i++)
         if (meets(e, &m->pending[i])) return 32;
     return m->pending_number == PENDING ? 33 : 0;
@@ -122,8 +122,7 @@ static void leave(struct model *m, unsigned place) {
 
 static bool fits(const struct model *m, const struct event *e, size_t window_len) {
     struct history longer = m->history;
-    if (longer.n == HISTORY) abort();
-    longer.event[longer.n++] = *e;
+    append(&longer, e);
     return frontiers(&longer, m->k) * FRONTIER <= window_len;
 }
 
@@ -131,12 +130,11 @@ uint64_t model_take(struct model *m, uint8_t *record, size_t record_len, uint8_t
                     uint8_t *scratch, size_t scratch_len) {
     if (record_len != RECORD || !window_length(window_len) || scratch_len != window_len) return refused(6);
     if (frontiers(&m->history, m->k) * FRONTIER > window_len) return refused(34);
-    unsigned counts[PROCESSES], answer = 0;
-    for (unsigned p = 0; p < PROCESSES; p++) counts[p] = taken(&m->history, p);
+    unsigned answer = 0;
     memset(scratch, 0, scratch_len);
     for (unsigned i = 0; i < m->pending_number; i++) {
         struct event e = m->pending[i];
-        if (!ready(&e, counts)) continue;
+        if (!ready(&e, m->history.taken)) continue;
         answer = 36;
         if (!true_clock(&e, &m->history)) {
             leave(m, i);
@@ -145,7 +143,7 @@ uint64_t model_take(struct model *m, uint8_t *record, size_t record_len, uint8_t
         }
         if (fits(m, &e, window_len)) {
             leave(m, i);
-            m->history.event[m->history.n++] = e;
+            append(&m->history, &e);
             return lay_down(m, record, window, window_len);
         }
     }

@@ -23,7 +23,7 @@ static void count_on(unsigned *counts, const unsigned *top) {
 struct cuts all_cuts(const struct history *h) {
     struct cuts all = {.n = 1};
     for (unsigned p = 0; p < PROCESSES; p++) {
-        all.top[p] = taken(h, p);
+        all.top[p] = h->taken[p];
         all.n *= all.top[p] + 1;
     }
     all.cut = calloc(all.n, sizeof *all.cut);

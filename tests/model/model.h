@@ -21,12 +21,14 @@ struct event {
 
 struct history {
     unsigned n;
-    struct event event[HISTORY]; /* in the order in which they were taken */
+    struct event event[HISTORY];          /* in the order in which they were taken */
+    unsigned taken[PROCESSES];
+    unsigned places[PROCESSES][HISTORY];  /* of each process's events, in that order */
 };
 
 bool involved(const struct event *e, unsigned p);
 unsigned lowest_process(const struct event *e);
-unsigned taken(const struct history *h, unsigned p);
+void append(struct history *h, const struct event *e);
 const struct event *numbered(const struct history *h, unsigned p, unsigned n); /* p's event number n, from 1; NULL if there is none */
 bool ready(const struct event *e, const unsigned *counts);
 bool true_clock(const struct event *e, const struct history *h);
@@ -89,6 +91,7 @@ struct model {
     struct event pending[PENDING]; /* by lowest process and its count */
 };
 
+uint64_t lay_down(const struct model *m, uint8_t *record, uint8_t *window, size_t window_len); /* both, and the answer of a taken event */
 void write_record(const struct model *m, size_t kept_frontiers, uint8_t *record);
 void write_window(const struct model *m, const struct cuts *judged, uint8_t *window, size_t window_len);
 

@@ -28,9 +28,9 @@ void write_record(const struct model *m, size_t kept_frontiers, uint8_t *record)
     at = put(at, m->pending_number, 1);
     at = put(at, 0, 1);
     at = put(at, kept_frontiers, 4);
-    for (unsigned p = 0; p < PROCESSES; p++) at = put(at, taken(&m->history, p), 2);
+    for (unsigned p = 0; p < PROCESSES; p++) at = put(at, m->history.taken[p], 2);
     for (unsigned p = 0; p < PROCESSES; p++) {
-        const struct event *last = numbered(&m->history, p, taken(&m->history, p));
+        const struct event *last = numbered(&m->history, p, m->history.taken[p]);
         at = put_counts(at, last != NULL ? last->clock : zeros);
     }
     at = put_bytes(at, m->rule.line[0], sizeof m->rule.line);
