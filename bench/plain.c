@@ -203,8 +203,8 @@ static void merge(const struct step *s, uint8_t *window, const uint8_t *laid) {
     uint32_t old = s->staying, new = s->grown;
     while (new > 0) {
         uint8_t *to = window + FRONTIER * (old + new - 1);
-        const uint8_t *x = window + FRONTIER * (old - 1), *y = laid + FRONTIER * (new - 1);
-        if (old > 0 && compare(x, y) > 0) memcpy(to, x, FRONTIER), old--;
+        const uint8_t *y = laid + FRONTIER * (new - 1);
+        if (old > 0 && compare(window + FRONTIER * (old - 1), y) > 0) memcpy(to, window + FRONTIER * --old, FRONTIER);
         else memcpy(to, y, FRONTIER), new--;
     }
 }

@@ -50,6 +50,7 @@ int main(int argc, char **argv) {
     uint64_t limit = strtoull(argv[2], NULL, 10), first = !timed && argc == 4 ? strtoull(argv[3], NULL, 10) : 0;
     printf("differential: seed %llu\n", (unsigned long long)seed);
     fflush(stdout);
+    lent_on_fault(print_case);
     twin_new(&one);
     twin_new(&two);
     for (uint64_t number = first; timed ? (uint64_t)(time(NULL) - start) < limit : number < first + limit; number++) try_case(seed, number);

@@ -2,6 +2,8 @@
 #define _DEFAULT_SOURCE
 #include "lent.h"
 
+#include <signal.h>
+#include <stdio.h>
 #include <stdlib.h>
 #include <string.h>
 #include <sys/mman.h>
@@ -57,4 +59,21 @@ bool lent_intact(const struct lent *l) {
 
 bool all_zero(const uint8_t *bytes, size_t length) {
     return all_are(bytes, length, 0);
+}
+
+static void (*on_fault)(void);
+
+static void fault(int signal_number) {
+    (void)signal_number;
+    printf("memory was touched outside the lent buffers\n");
+    on_fault();
+    fflush(stdout);
+    _exit(1);
+}
+
+void lent_on_fault(void (*report)(void)) {
+    struct sigaction action = {.sa_handler = fault};
+    on_fault = report;
+    sigaction(SIGSEGV, &action, NULL);
+    sigaction(SIGBUS, &action, NULL);
 }

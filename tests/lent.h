@@ -27,6 +27,9 @@ void lend_again(struct lent *l, size_t length, size_t before_end);
 /* No byte of the slab outside the buffer has changed. */
 bool lent_intact(const struct lent *l);
 
+/* What to do when a forbidden page is touched: print where we are. The program then ends with 1. */
+void lent_on_fault(void (*report)(void));
+
 bool all_zero(const uint8_t *bytes, size_t length);
 
 #endif

@@ -41,5 +41,6 @@ void test_refusals(void);
 void test_orders(void);
 void test_examples(void);
 void test_edges(void);
+void test_stack(void);
 
 #endif

@@ -53,8 +53,9 @@ static void list_open(struct list *l, const uint8_t *text, size_t length, unsign
     report(l, twin_open(l->twin, text, length, k, labels));
 }
 
-static void lend_more(struct list *l) {
+static bool lend_more(struct list *l) {
     struct twin *t = l->twin;
+    if (t->window.length == FRONTIER * ROOM) return false;
     size_t longer = t->window.length + FRONTIER * between(l->source, 1, 30);
     if (longer > FRONTIER * ROOM) longer = FRONTIER * ROOM;
     if (l->wide) {
@@ -63,6 +64,7 @@ static void lend_more(struct list *l) {
     } else {
         twin_lend(t, l->source, RECORD, longer);
     }
+    return true;
 }
 
 /* Takes until nothing is ready; false if not even the longest window fits. */
@@ -70,18 +72,24 @@ static bool list_drain(struct list *l) {
     for (;;) {
         uint64_t reply = list_take(l);
         if (reply == 0) return true;
-        if (reply != 36) continue;
-        if (l->twin->window.length == FRONTIER * ROOM) return false;
-        lend_more(l);
+        if (reply == 36 && !lend_more(l)) return false;
     }
 }
 
-/* Each event is offered until it is accepted; the false ones are sent a second time at the end. */
+/* Offers an event until it is accepted; false if 32 are pending and none of them can be taken. */
+static bool list_accept(struct list *l, struct sent e) {
+    while (list_offer(l, e) == 33) {
+        uint64_t reply = list_take(l);
+        if (reply == 0 || (reply == 36 && !lend_more(l))) return false;
+    }
+    return true;
+}
+
+/* The false events are sent a second time at the end. False if the list does not get as far as "nothing ready". */
 static bool list_run(struct list *l, const struct sent *events, unsigned n, const struct sent *wrong, unsigned wrong_number) {
     unsigned habit = below(l->source, 3) * 40;
     for (unsigned i = 0; i < n; i++) {
-        while (list_offer(l, events[i]) == 33)
-            if (list_take(l) == 36) lend_more(l);
+        if (!list_accept(l, events[i])) return false;
         while (chance(l->source, habit))
             if (list_take(l) == 0) break;
     }

@@ -31,10 +31,14 @@ void note(const char *format, ...) {
     if (written > 0 && (size_t)written < left) current.length += (size_t)written;
 }
 
-void differs(const char *format, ...) {
-    va_list arguments;
+void print_case(void) {
     printf("differential: seed %llu, case %llu (%s), calls of this case:\n%.*s", (unsigned long long)current.seed,
            (unsigned long long)current.number, current.kind, (int)current.length, current.calls);
+}
+
+void differs(const char *format, ...) {
+    va_list arguments;
+    print_case();
     printf("differs: ");
     va_start(arguments, format);
     vprintf(format, arguments);

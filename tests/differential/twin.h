@@ -34,6 +34,7 @@ void twin_catch_up(struct twin *t);
 /* What is being tried, for the message when something differs. */
 void case_begins(uint64_t seed, uint64_t number, const char *kind);
 void note(const char *format, ...);
+void print_case(void);
 void differs(const char *format, ...); /* prints the case, its calls and what differs, and ends the program with 1 */
 
 /* How often each call gave each answer. */
