@@ -13,11 +13,12 @@ static struct twin one, two;
 static unsigned long cases;
 
 static void try_case(uint64_t seed, uint64_t number) {
-    struct source s = {seed * 0x2545f4914f6cdd1du + number * 0x9e3779b97f4a7c15u};
-    draw(&s);
-    if (number % 400 == 7) {
+    struct source s = {seed};
+    s.state = draw(&s) ^ number;
+    s.state = draw(&s);
+    if (number % 200 == 7) {
         case_begins(seed, number, "a long walk");
-        try_walk(&s, &one, between(&s, 20, 60), 3000);
+        try_walk(&s, &one, between(&s, 20, 60), 6000);
     } else if (number % 400 == 15) {
         case_begins(seed, number, "late counts");
         try_late(&s, &one);

@@ -48,10 +48,12 @@ void differs(const char *format, ...) {
 }
 
 static unsigned long tallied[CALLS][256], nothing_ready;
+static unsigned widest;
 
 uint64_t tally(enum call call, uint64_t reply) {
     if (call == TAKE && reply == 0) nothing_ready++;
     else tallied[call][watch_number(reply)]++;
+    if (call == TAKE && watch_value(reply) > widest) widest = watch_value(reply);
     return reply;
 }
 
@@ -64,6 +66,7 @@ void print_tally(void) {
             if (tallied[call][number] != 0) printf(", %u: %lu", number, tallied[call][number]);
         printf("\n");
     }
+    printf("  at most %u frontiers kept\n", widest);
 }
 
 void fill_junk(struct source *s, uint8_t *bytes, size_t length) {
