@@ -183,6 +183,22 @@ static void check_passed_over(struct subject *s) {
     CHECK_REPLY(try_take(s), NOTHING_READY);
 }
 
+/* Pending events stand by lowest process and then its count, whatever their masks; one that knows of an event not taken yet waits. */
+static void check_waiting(struct subject *s) {
+    static const unsigned masks[] = {5, 1, 2, 6};
+    start(s, 8, 3, RULE);
+    CHECK_REPLY(offer(s, 2, 1, 1, 0, 0, 0), held(1));
+    CHECK_REPLY(try_take(s), NOTHING_READY);
+    CHECK_REPLY(offer(s, 6, 0, 300, 300, 0, 0), held(2));
+    CHECK_REPLY(offer(s, 1, 256, 0, 0, 0, 0), held(3));
+    CHECK_REPLY(offer(s, 5, 1, 0, 1, 0, 0), held(4));
+    for (unsigned i = 0; i < 4; i++) CHECK(s->record.bytes[344 + 32 * i] == masks[i]);
+    CHECK_REPLY(try_take(s), state(0, 2));
+    CHECK_REPLY(try_take(s), refused(35));
+    CHECK_REPLY(try_take(s), NOTHING_READY);
+    CHECK(watch_pending(s->record.bytes) == 2 && s->record.bytes[344] == 1 && s->record.bytes[376] == 6);
+}
+
 void test_refusals(void) {
     struct subject s = subject_new();
     check_lengths(&s);
@@ -194,5 +210,6 @@ void test_refusals(void) {
     check_find(&s);
     check_take(&s);
     check_passed_over(&s);
+    check_waiting(&s);
     subject_free(&s);
 }
