@@ -50,8 +50,10 @@ fuzz: $(LIBRARY)
 bench: target/bench_calls
 	target/bench_calls
 
-target/bench_calls: bench/calls.c bench/plain.c bench/plain_rule.c bench/plain.h include/watch.h $(LIBRARY)
-	$(CC) -O2 -std=c11 -Wall -Wextra -Werror -pedantic bench/calls.c bench/plain.c bench/plain_rule.c $(LIBRARY) -o $@
+PLAIN = bench/plain.c bench/plain_rule.c bench/plain_step.c
+
+target/bench_calls: bench/calls.c $(PLAIN) bench/plain.h bench/plain_inner.h include/watch.h $(LIBRARY)
+	$(CC) -O2 -std=c11 -Wall -Wextra -Werror -pedantic bench/calls.c $(PLAIN) $(LIBRARY) -o $@
 
 clean:
 	rm -rf target/tests target/bench_calls target/watch.pc

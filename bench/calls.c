@@ -50,18 +50,19 @@ static void seen(struct side *s, uint64_t reply) {
 }
 
 static uint64_t open_watch(struct side *s) {
-    uint64_t reply = s->open((const uint8_t *)saved.rule, strlen(saved.rule), saved.k, 0, s->record, sizeof s->record, s->window, saved.length);
+    const uint8_t *rule = (const uint8_t *)saved.rule;
+    uint64_t reply = s->open(rule, strlen(saved.rule), saved.k, 0, s->record, sizeof s->record, s->window, saved.length);
     seen(s, reply);
     return reply;
 }
 
-/* An event of the mask's processes, each with this many counts. */
+/* An event of the mask's processes with this clock and labels made from it. */
 static uint64_t offer_event(struct side *s, unsigned mask, const uint16_t *counts) {
     uint64_t labels = 0, reply;
     for (unsigned p = 0; p < 8; p++)
         if (mask >> p & 1) labels |= (uint64_t)(counts[p] * 37u % 251 & 255) << 8 * p;
-    reply = s->offer(mask, watch_counts(counts[0], counts[1], counts[2], counts[3]), watch_counts(counts[4], counts[5], counts[6], counts[7]),
-                     labels, s->record, sizeof s->record);
+    reply = s->offer(mask, watch_counts(counts[0], counts[1], counts[2], counts[3]),
+                     watch_counts(counts[4], counts[5], counts[6], counts[7]), labels, s->record, sizeof s->record);
     seen(s, reply);
     return reply;
 }

@@ -13,10 +13,4 @@ uint64_t plain_take(uint8_t *record, size_t record_len, uint8_t *window, size_t 
                     uint8_t *scratch, size_t scratch_len);
 uint64_t plain_find(uint64_t line, const uint8_t *record, size_t record_len, const uint8_t *window, size_t window_len);
 
-/* Reads a rule into 192 bytes of table, which is written only if the answer is 0. */
-struct plain_rule {
-    uint32_t fault, place, lines;
-};
-struct plain_rule plain_read_rule(const uint8_t *text, size_t length, unsigned k, uint8_t *table);
-
 #endif

@@ -1,9 +1,7 @@
 /* The reader of rules of the plain C version: one pass, lines laid down as the brackets close. */
-#include <string.h>
+#include "plain_inner.h"
 
-#include "plain.h"
-
-enum { DEPTH = 32, LINES = 64, LAID = 200, FAULT = LAID };
+enum { DEPTH = 32, LAID = 200, FAULT = LAID };
 
 enum word { AT, NOT, AND, EY, ES, AS, TRUE, FALSE, OR, EP, AP, AY, EH, AH, WORDS };
 static const char text_of[WORDS][6] = {"at", "not", "and", "ey", "es", "as", "true", "false", "or", "ep", "ap", "ay", "eh", "ah"};

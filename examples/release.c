@@ -114,7 +114,8 @@ static bool offer(struct watch *w, const struct report *r) {
 static void watch_day(const char *name, const struct report *reports, size_t n) {
     struct watch w = {.room = 0};
     lend_longer(&w, 1);
-    uint64_t reply = watch_open((const uint8_t *)rule, sizeof rule - 1, DESKS, 0, w.record, sizeof w.record, w.window, WATCH_WINDOW_BYTES(1));
+    uint64_t reply = watch_open((const uint8_t *)rule, sizeof rule - 1, DESKS, 0, w.record, sizeof w.record, w.window,
+                                WATCH_WINDOW_BYTES(w.room));
     if (watch_number(reply) != 0) fail("open", reply);
     printf("%s\n", name);
     for (size_t i = 0; i < n; i++) {

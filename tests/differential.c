@@ -1,7 +1,7 @@
 /* The library against the model on random cases.
  *   differential SEED COUNT [FIRST]      cases FIRST (0) up to FIRST + COUNT - 1
  *   differential --seconds N [SEED]      as many as there is time for
- * A case depends on the seed and its number only. The first difference is printed with the calls that led to it, and ends the run with 1. */
+ * A case depends on the seed and its number only. The first difference is printed with the calls before it, and ends the run with 1. */
 #include <stdio.h>
 #include <stdlib.h>
 #include <string.h>
@@ -54,9 +54,11 @@ int main(int argc, char **argv) {
     lent_on_fault(print_case);
     twin_new(&one);
     twin_new(&two);
-    for (uint64_t number = first; timed ? (uint64_t)(time(NULL) - start) < limit : number < first + limit; number++) try_case(seed, number);
+    for (uint64_t number = first; timed ? (uint64_t)(time(NULL) - start) < limit : number < first + limit; number++)
+        try_case(seed, number);
     print_tally();
-    printf("differential: %lu cases, %llu calls compared with the model, no difference\n", cases, (unsigned long long)(one.calls + two.calls));
+    unsigned long long calls = one.calls + two.calls;
+    printf("differential: %lu cases, %llu calls compared with the model, no difference\n", cases, calls);
     twin_free(&one);
     twin_free(&two);
     return 0;

@@ -56,7 +56,8 @@ static void check_open(struct subject *s) {
 
 static void check_event_faults(struct subject *s) {
     start(s, 8, 2, RULE);
-    static const uint64_t wrong[] = {0, 4, 5, 128, 256, 257, 259, (uint64_t)1 << 16, (uint64_t)1 << 32 | 1, (uint64_t)1 << 63, (uint64_t)1 << 63 | 3, UINT64_MAX};
+    static const uint64_t wrong[] = {0, 4, 5, 128, 256, 257, 259, (uint64_t)1 << 16, (uint64_t)1 << 32 | 1,
+                                     (uint64_t)1 << 63, (uint64_t)1 << 63 | 3, UINT64_MAX};
     for (size_t i = 0; i < sizeof wrong / sizeof wrong[0]; i++)
         CHECK_REPLY(try_offer(s, wrong[i], watch_counts(1, 1, 0, 0), 0, 0), refused(7));
     CHECK_REPLY(offer(s, 1, 0, 0, 0, 0, 0), refused(8));

@@ -27,8 +27,8 @@ static void do_offer(void) {
 }
 
 static void do_take(void) {
-    answer = watch_take(at_work->record.bytes, at_work->record.length, at_work->window.bytes, at_work->window.length, at_work->scratch.bytes,
-                        at_work->scratch.length);
+    answer = watch_take(at_work->record.bytes, at_work->record.length, at_work->window.bytes, at_work->window.length,
+                        at_work->scratch.bytes, at_work->scratch.length);
 }
 
 static void do_find(void) {
@@ -68,7 +68,10 @@ void test_stack(void) {
     CHECK(watch_number(answer) == 0 && watch_value(answer) == 301);
     used[3] = depth(do_find);
     CHECK(watch_number(answer) == 0);
-    for (unsigned i = 0; i < 4; i++) CHECK(used[i] - nothing <= WATCH_STACK_BYTES);
-    printf("stack: open %zu, offer %zu, take %zu, find %zu bytes\n", used[0] - nothing, used[1] - nothing, used[2] - nothing, used[3] - nothing);
+    for (unsigned i = 0; i < 4; i++) {
+        used[i] -= nothing;
+        CHECK(used[i] <= WATCH_STACK_BYTES);
+    }
+    printf("stack: open %zu, offer %zu, take %zu, find %zu bytes\n", used[0], used[1], used[2], used[3]);
     subject_free(&s);
 }

@@ -139,6 +139,7 @@ void damage_excursion(struct source *s, const struct twin *t, unsigned calls) {
         if (action < 4) damaged_offer(s, d, t->model.k);
         else if (action < 5) damaged_find(s, d);
         else damaged_take(s, d);
-        if (!lent_intact(&d->record) || !lent_intact(&d->window) || !lent_intact(&d->scratch)) differs("a byte outside the buffers changed");
+        if (!lent_intact(&d->record) || !lent_intact(&d->window) || !lent_intact(&d->scratch))
+            differs("a byte outside the buffers changed");
     }
 }

@@ -127,9 +127,10 @@ uint64_t twin_open(struct twin *t, const uint8_t *rule, size_t length, uint64_t 
          (const char *)rule);
     lend(&t->text, length, 0);
     memcpy(t->text.bytes, rule, length);
-    uint64_t reply = tally(OPEN, watch_open(t->text.bytes, length, k, labels, t->record.bytes, t->record.length, t->window.bytes, t->window.length));
-    uint64_t expected = model_open(&t->model, rule, length, k, labels, t->record_bytes, t->record.length, t->window_bytes, t->window_length);
-    compare_replies(reply, expected);
+    uint64_t reply = watch_open(t->text.bytes, length, k, labels, t->record.bytes, t->record.length, t->window.bytes, t->window.length);
+    uint64_t expected = model_open(&t->model, rule, length, k, labels, t->record_bytes, t->record.length, t->window_bytes,
+                                   t->window_length);
+    compare_replies(tally(OPEN, reply), expected);
     compare_watch(t);
     if (!lent_intact(&t->text) || memcmp(t->text.bytes, rule, length) != 0) differs("the rule's text changed");
     return reply;
@@ -149,10 +150,10 @@ uint64_t twin_take(struct twin *t, struct source *s, size_t scratch_length) {
     lend(&t->scratch, scratch_length, before_end(s));
     fill_junk(s, t->scratch.bytes, scratch_length);
     memcpy(t->scratch_bytes, t->scratch.bytes, scratch_length);
-    uint64_t reply = tally(TAKE, watch_take(t->record.bytes, t->record.length, t->window.bytes, t->window.length, t->scratch.bytes, scratch_length));
+    uint64_t reply = watch_take(t->record.bytes, t->record.length, t->window.bytes, t->window.length, t->scratch.bytes, scratch_length);
     uint64_t expected = model_take(&t->model, t->record_bytes, t->record.length, t->window_bytes, t->window_length, t->scratch_bytes,
                                    scratch_length);
-    compare_replies(reply, expected);
+    compare_replies(tally(TAKE, reply), expected);
     compare_watch(t);
     compare_bytes("scratch", t->scratch.bytes, t->scratch_bytes, scratch_length);
     if (!lent_intact(&t->scratch)) differs("a byte outside the scratch changed");

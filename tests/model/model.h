@@ -72,7 +72,7 @@ struct cuts {
 
 struct cuts all_cuts(const struct history *h);
 size_t cut_place(const struct cuts *all, const unsigned *counts); /* the counts must not be above the top */
-bool precedes(const struct cuts *all, const struct event *e, const struct cut *s, size_t *place); /* the place of s less e, if e leads to s */
+bool precedes(const struct cuts *all, const struct event *e, const struct cut *s, size_t *place); /* e leads from the cut there to s */
 bool kept(const struct cuts *all, const struct cut *s, unsigned k);
 size_t kept_number(const struct cuts *all, unsigned k);
 void free_cuts(struct cuts *all);
@@ -91,9 +91,11 @@ struct model {
     struct event pending[PENDING]; /* by lowest process and its count */
 };
 
-uint64_t lay_down(const struct model *m, uint8_t *record, uint8_t *window, size_t window_len); /* both, and the answer of a taken event */
 void write_record(const struct model *m, size_t kept_frontiers, uint8_t *record);
 void write_window(const struct model *m, const struct cuts *judged, uint8_t *window, size_t window_len);
+
+/* Writes both and answers as for a taken event. */
+uint64_t lay_down(const struct model *m, uint8_t *record, uint8_t *window, size_t window_len);
 
 uint64_t reply_word(unsigned number, unsigned flag, uint64_t value, uint64_t place);
 
