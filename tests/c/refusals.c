@@ -191,8 +191,8 @@ static void check_waiting(struct subject *s) {
     CHECK_REPLY(offer(s, 2, 1, 1, 0, 0, 0), held(1));
     CHECK_REPLY(try_take(s), NOTHING_READY);
     CHECK_REPLY(offer(s, 6, 0, 300, 300, 0, 0), held(2));
-    CHECK_REPLY(offer(s, 1, 256, 0, 0, 0, 0), held(3));
-    CHECK_REPLY(offer(s, 5, 1, 0, 1, 0, 0), held(4));
+    CHECK_REPLY(offer(s, 5, 1, 0, 1, 0, 0), held(3));
+    CHECK_REPLY(offer(s, 1, 256, 0, 0, 0, 0), held(4));
     for (unsigned i = 0; i < 4; i++) CHECK(s->record.bytes[344 + 32 * i] == masks[i]);
     CHECK_REPLY(try_take(s), state(0, 2));
     CHECK_REPLY(try_take(s), refused(35));
