@@ -1,0 +1,61 @@
+# The library, its header and its tests. Needs the Rattle kit (rt) on the PATH and a C compiler.
+#   make                    builds the library, which proves everything in it first
+#   make install PREFIX=..  library, header, pkg-config file
+#   make test               the gate
+#   make tests              the tests in C, against the library
+#   make differential       the library against the model: SEED, COUNT
+#   make fuzz SECONDS=n     the same for so long, from a new seed
+#   make bench              the calls beside plain C ones
+
+VERSION = 0.1.0
+PREFIX = /usr/local
+DESTDIR =
+CC = cc
+SEED = 1
+COUNT = 60000
+SECONDS = 60
+
+LIBRARY = target/staticlib/libwatch.a
+# The program and its manual page, once they exist.
+PROGRAM =
+MANUAL =
+
+all: $(LIBRARY) $(PROGRAM)
+
+$(LIBRARY): crates.txt $(shell find crates -type f -not -path '*/must-fail/*')
+	rt staticlib watch
+	@touch $@
+
+install: all
+	sed -e 's|@PREFIX@|$(PREFIX)|' -e 's|@VERSION@|$(VERSION)|' watch.pc.in > target/watch.pc
+	install -d $(DESTDIR)$(PREFIX)/lib/pkgconfig $(DESTDIR)$(PREFIX)/include
+	install -m 644 $(LIBRARY) $(DESTDIR)$(PREFIX)/lib/libwatch.a
+	install -m 644 include/watch.h $(DESTDIR)$(PREFIX)/include/watch.h
+	install -m 644 target/watch.pc $(DESTDIR)$(PREFIX)/lib/pkgconfig/watch.pc
+	$(if $(PROGRAM),install -d $(DESTDIR)$(PREFIX)/bin && install -m 755 $(PROGRAM) $(DESTDIR)$(PREFIX)/bin/watch)
+	$(if $(MANUAL),install -d $(DESTDIR)$(PREFIX)/share/man/man1 && install -m 644 $(MANUAL) $(DESTDIR)$(PREFIX)/share/man/man1/watch.1)
+
+test:
+	.ci/run
+
+tests: $(LIBRARY)
+	SEED=$(SEED) COUNT=$(COUNT) CC='$(CC)' tests/run $(LIBRARY)
+
+differential: $(LIBRARY)
+	CC='$(CC)' tests/run $(LIBRARY) differential $(SEED) $(COUNT)
+
+fuzz: $(LIBRARY)
+	CC='$(CC)' tests/run $(LIBRARY) fuzz $(SECONDS)
+
+bench: target/bench_calls
+	target/bench_calls
+
+PLAIN = bench/plain.c bench/plain_rule.c bench/plain_step.c
+
+target/bench_calls: bench/calls.c $(PLAIN) bench/plain.h bench/plain_inner.h include/watch.h $(LIBRARY)
+	$(CC) -O2 -std=c11 -Wall -Wextra -Werror -pedantic bench/calls.c $(PLAIN) $(LIBRARY) -o $@
+
+clean:
+	rm -rf target/tests target/bench_calls target/watch.pc
+
+.PHONY: all install test tests differential fuzz bench clean

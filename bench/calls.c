@@ -1,0 +1,247 @@
+/* The library's calls beside plain C ones (plain.c), the same work in the same run: medians, and their ratio. Prints a table in markdown.
+ * Both sides' replies and bytes are compared after each piece of work; a difference ends the run with 1. Build and run: make bench */
+#define _POSIX_C_SOURCE 199309L
+#include <stdbool.h>
+#include <stdio.h>
+#include <stdlib.h>
+#include <string.h>
+#include <time.h>
+
+#include "../include/watch.h"
+#include "plain.h"
+
+#define RULE_8 "(ey (and (es (at 0 0) (at 1 0)) (as (at 0 1) (at 1 1))))"
+#define RULE_64                                                                                                                       \
+    "(not (and (ep (at 1 7)) (and (or (at 0 6) (at 1 6)) (and (ep (and (at 0 0) (at 1 0))) (and (ah (at 0 1)) (and (eh (at 1 1)) (and " \
+    "(ap (at 0 2)) (and (ay (at 1 2)) (and (ey (at 0 3)) (and (es (at 0 4) (at 1 4)) (as (at 0 5) (at 1 5))))))))))))"
+
+enum { ROUNDS = 301, WINDOW = WATCH_FRONTIER_BYTES * WATCH_ROOM };
+
+/* One side: its four calls, its watch, and a digest of its replies. */
+struct side {
+    uint64_t (*open)(const uint8_t *, size_t, uint64_t, uint64_t, uint8_t *, size_t, uint8_t *, size_t);
+    uint64_t (*offer)(uint64_t, uint64_t, uint64_t, uint64_t, uint8_t *, size_t);
+    uint64_t (*take)(uint8_t *, size_t, uint8_t *, size_t, uint8_t *, size_t);
+    uint64_t (*find)(uint64_t, const uint8_t *, size_t, const uint8_t *, size_t);
+    uint8_t record[WATCH_RECORD_BYTES], window[WINDOW], scratch[WINDOW];
+    uint64_t digest;
+    double times[ROUNDS];
+};
+
+static struct side proved = {.open = watch_open, .offer = watch_offer, .take = watch_take, .find = watch_find};
+static struct side plain = {.open = plain_open, .offer = plain_offer, .take = plain_take, .find = plain_find};
+
+/* A piece of work starts each time from these bytes. */
+static struct {
+    uint8_t record[WATCH_RECORD_BYTES], window[WINDOW];
+    size_t length; /* of the window that is lent */
+    unsigned k;
+    const char *rule;
+} saved;
+
+static double now(void) {
+    struct timespec t;
+    clock_gettime(CLOCK_MONOTONIC, &t);
+    return (double)t.tv_sec * 1e6 + (double)t.tv_nsec / 1e3;
+}
+
+static void seen(struct side *s, uint64_t reply) {
+    s->digest = (s->digest ^ reply) * 0x100000001b3u;
+}
+
+static uint64_t open_watch(struct side *s) {
+    const uint8_t *rule = (const uint8_t *)saved.rule;
+    uint64_t reply = s->open(rule, strlen(saved.rule), saved.k, 0, s->record, sizeof s->record, s->window, saved.length);
+    seen(s, reply);
+    return reply;
+}
+
+/* An event of the mask's processes with this clock and labels made from it. */
+static uint64_t offer_event(struct side *s, unsigned mask, const uint16_t *counts) {
+    uint64_t labels = 0, reply;
+    for (unsigned p = 0; p < 8; p++)
+        if (mask >> p & 1) labels |= (uint64_t)(counts[p] * 37u % 251 & 255) << 8 * p;
+    reply = s->offer(mask, watch_counts(counts[0], counts[1], counts[2], counts[3]),
+                     watch_counts(counts[4], counts[5], counts[6], counts[7]), labels, s->record, sizeof s->record);
+    seen(s, reply);
+    return reply;
+}
+
+static uint64_t take_event(struct side *s) {
+    uint64_t reply = s->take(s->record, sizeof s->record, s->window, saved.length, s->scratch, saved.length);
+    seen(s, reply);
+    return reply;
+}
+
+/* ---- measuring ---- */
+
+typedef void work(struct side *s);
+
+static void start_over(struct side *s) {
+    memcpy(s->record, saved.record, sizeof saved.record);
+    memcpy(s->window, saved.window, saved.length);
+    s->digest = 0;
+}
+
+static double run_once(struct side *s, work *w) {
+    start_over(s);
+    double start = now();
+    w(s);
+    return now() - start;
+}
+
+static int ascending(const void *x, const void *y) {
+    double a = *(const double *)x, b = *(const double *)y;
+    return a < b ? -1 : a > b;
+}
+
+static double median(double *times, unsigned n) {
+    qsort(times, n, sizeof *times, ascending);
+    return times[n / 2];
+}
+
+static void compare_sides(const char *name) {
+    if (proved.digest == plain.digest && memcmp(proved.record, plain.record, sizeof plain.record) == 0 &&
+        memcmp(proved.window, plain.window, saved.length) == 0 && memcmp(proved.scratch, plain.scratch, saved.length) == 0)
+        return;
+    printf("the two sides differ after: %s\n", name);
+    exit(1);
+}
+
+/* Both sides in turn; units: how many calls the work has, for the time of one. */
+static void measure(const char *name, work *w, unsigned units, unsigned rounds) {
+    for (unsigned i = 0; i < rounds; i++) {
+        struct side *first = i % 2 == 0 ? &proved : &plain, *second = i % 2 == 0 ? &plain : &proved;
+        first->times[i] = run_once(first, w);
+        second->times[i] = run_once(second, w);
+    }
+    compare_sides(name);
+    double a = median(proved.times, rounds) / units, b = median(plain.times, rounds) / units;
+    printf("| %s | %u | %.2f | %.2f | %.2f |\n", name, watch_kept(plain.record), a, b, a / b);
+    fflush(stdout);
+}
+
+/* ---- wide windows ---- */
+
+static void one_take(struct side *s) { take_event(s); }
+
+static void save(const struct side *s) {
+    memcpy(saved.record, s->record, sizeof saved.record);
+    memcpy(saved.window, s->window, saved.length);
+}
+
+/* Free events of k processes in turn. Measured: each take that first reaches so many frontiers, and the last one before the room ends. */
+static void wide(unsigned k, const char *rule, const char *lines, bool curve) {
+    uint16_t reached[8] = {0};
+    unsigned shown = 8;
+    char name[80];
+    saved.k = k, saved.rule = rule, saved.length = WINDOW;
+    start_over(&plain);
+    open_watch(&plain);
+    for (unsigned turn = 0;; turn++) {
+        unsigned p = turn % k;
+        uint16_t clock[8] = {0};
+        clock[p] = ++reached[p];
+        offer_event(&plain, 1u << p, clock);
+        uint8_t before[WATCH_RECORD_BYTES];
+        static uint8_t window_before[WINDOW];
+        memcpy(before, saved.record, sizeof before);
+        memcpy(window_before, saved.window, sizeof window_before);
+        save(&plain);
+        uint64_t reply = take_event(&plain);
+        if (watch_number(reply) == WATCH_NO_ROOM) {
+            memcpy(saved.record, before, sizeof before);
+            memcpy(saved.window, window_before, sizeof window_before);
+            break;
+        }
+        if (curve && watch_value(reply) >= shown) {
+            snprintf(name, sizeof name, "take, %u processes, %s lines", k, lines);
+            measure(name, one_take, 1, ROUNDS);
+            while (shown <= watch_value(reply)) shown *= 2;
+            start_over(&plain);
+            take_event(&plain);
+        }
+    }
+    snprintf(name, sizeof name, "take, %u processes, %s lines, nearly full", k, lines);
+    if (!curve || shown <= WATCH_ROOM) measure(name, one_take, 1, ROUNDS);
+}
+
+/* ---- narrow streams ---- */
+
+enum { STREAM = 2000 };
+
+/* Twice process 0, twice process 1, then both: two to five frontiers, then one. */
+static void stream(struct side *s) {
+    uint16_t met[8] = {0}, reached[8] = {0};
+    open_watch(s);
+    for (unsigned i = 0; i < STREAM; i++) {
+        unsigned turn = i % 5, mask = turn < 2 ? 1 : turn < 4 ? 2 : 3;
+        uint16_t clock[8];
+        memcpy(clock, met, sizeof clock);
+        for (unsigned p = 0; p < 2; p++)
+            if (mask >> p & 1) clock[p] = ++reached[p];
+        if (mask == 3) memcpy(met, clock, sizeof met);
+        offer_event(s, mask, clock);
+        take_event(s);
+    }
+}
+
+/* ---- pending events, find, open ---- */
+
+enum { BATCHES = 20, FINDS = 20, OPENS = 20 };
+
+static void reversed(struct side *s) {
+    open_watch(s);
+    for (uint16_t batch = 0; batch < BATCHES; batch++) {
+        for (uint16_t i = 32; i > 0; i--) offer_event(s, 1, (uint16_t[8]){(uint16_t)(32 * batch + i)});
+        for (unsigned i = 0; i < 32; i++) take_event(s);
+    }
+}
+
+/* A line that holds nowhere, so that every frontier is looked at. */
+static void find_none(struct side *s) {
+    for (unsigned i = 0; i < FINDS; i++) seen(s, s->find(2, s->record, sizeof s->record, s->window, saved.length));
+}
+
+static void open_often(struct side *s) {
+    for (unsigned i = 0; i < OPENS; i++) open_watch(s);
+}
+
+static void nothing_ready(struct side *s) {
+    for (unsigned i = 0; i < FINDS; i++) take_event(s);
+}
+
+static void small_pieces(void) {
+    static const size_t rooms[] = {16, 1024};
+    char name[80];
+    for (unsigned i = 0; i < 2; i++) {
+        saved.k = 2, saved.rule = RULE_8, saved.length = WATCH_WINDOW_BYTES(rooms[i]);
+        snprintf(name, sizeof name, "offer and take, stream of 1 to 5 frontiers, room %zu", rooms[i]);
+        measure(name, stream, STREAM, 51);
+        saved.k = 1, saved.rule = "(ep (at 0 0))";
+        snprintf(name, sizeof name, "offer and take, 32 pending in reversed order, room %zu", rooms[i]);
+        measure(name, reversed, 32 * BATCHES, 51);
+        saved.k = 2, saved.rule = RULE_64;
+        snprintf(name, sizeof name, "open, 64 lines, room %zu", rooms[i]);
+        measure(name, open_often, OPENS, 151);
+        save(&plain);
+        snprintf(name, sizeof name, "take, nothing ready, 64 lines, room %zu", rooms[i]);
+        measure(name, nothing_ready, FINDS, 151);
+    }
+}
+
+int main(void) {
+    printf("| work | frontiers after | proved (us a call) | plain C (us) | ratio |\n|---|---|---|---|---|\n");
+    wide(2, RULE_8, "8", true);
+    wide(4, RULE_8, "8", true);
+    wide(8, RULE_8, "8", true);
+    wide(2, RULE_64, "64", false);
+    wide(4, RULE_64, "64", false);
+    wide(8, RULE_64, "64", false);
+    saved.k = 2, saved.rule = "(ep (at 1 7))";
+    wide(2, saved.rule, "6", false);
+    save(&plain);
+    measure("find, full window, line true nowhere", find_none, FINDS, ROUNDS);
+    small_pieces();
+    return 0;
+}

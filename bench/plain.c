@@ -1,0 +1,170 @@
+/* The four calls in plain C, written for speed: see plain.h. */
+#include "plain_inner.h"
+
+static uint64_t accepted(uint64_t flag, uint64_t value) {
+    return flag << 8 | value << 16;
+}
+
+/* ---- refusals ---- */
+
+static bool wrong_window(size_t length) {
+    return length < FRONTIER || length > FRONTIER * ROOM || length % FRONTIER != 0;
+}
+
+static bool bad_line(const uint8_t *line, unsigned i, unsigned k) {
+    unsigned a = line[1], b = line[2];
+    switch (line[0]) {
+    case 0: return a >= k || b > 7;
+    case 1: case 3: return a >= i || b != 0;
+    case 2: case 4: case 5: return a >= i || b >= i;
+    default: return true;
+    }
+}
+
+static bool damaged(const uint8_t *record, size_t room) {
+    unsigned k = record[0], lines = record[1];
+    uint32_t kept = load_kept(record);
+    if (k - 1 >= PROCESSES || lines - 1 >= LINES || record[2] > PENDING || kept - 1 >= room) return true;
+    for (unsigned i = 0; i < lines; i++)
+        if (bad_line(record + TABLE_AT + 3 * i, i, k)) return true;
+    return false;
+}
+
+/* ---- pending events ---- */
+
+static bool ready(const uint8_t *event, const struct counts *taken) {
+    struct counts c = load(event + 8);
+    for (int p = 0; p < PROCESSES; p++) {
+        unsigned in = event[0] >> p & 1;
+        if (in ? c.at[p] != taken->at[p] + 1u : c.at[p] > taken->at[p]) return false;
+    }
+    return true;
+}
+
+static bool true_clock(const uint8_t *event, const uint8_t *record) {
+    struct counts c = load(event + 8), join = {{0}};
+    for (unsigned set = event[0]; set != 0; set &= set - 1) {
+        unsigned p = (unsigned)__builtin_ctz(set);
+        struct counts last = load(record + CLOCKS_AT + 16 * p);
+        for (int q = 0; q < PROCESSES; q++) join.at[q] = join.at[q] < last.at[q] ? last.at[q] : join.at[q];
+    }
+    for (int q = 0; q < PROCESSES; q++)
+        if (c.at[q] != join.at[q] + (event[0] >> q & 1u)) return false;
+    return true;
+}
+
+static void leave(uint8_t *record, unsigned i) {
+    uint8_t *at = record + PENDING_AT + EVENT * i;
+    unsigned behind = --record[2] - i;
+    memmove(at, at + EVENT, EVENT * behind);
+    memset(at + EVENT * behind, 0, EVENT);
+}
+
+static uint64_t take_event(struct step *s, unsigned i, uint8_t *record, uint8_t *window, uint8_t *scratch) {
+    uint32_t after = s->staying + s->grown;
+    plain_step(s, record, window, scratch);
+    memcpy(record + TAKEN_AT, &s->reached, sizeof s->reached);
+    for (unsigned p = 0; p < PROCESSES; p++)
+        if (s->mask >> p & 1) memcpy(record + CLOCKS_AT + 16 * p, &s->clock, sizeof s->clock);
+    leave(record, i);
+    store_kept(record, after);
+    return accepted(load_word(window + FRONTIER * (after - 1) + VALUES_AT) >> (record[1] - 1) & 1, after);
+}
+
+/* ---- the calls ---- */
+
+uint64_t plain_open(const uint8_t *rule, size_t rule_len, uint64_t k, uint64_t start_labels,
+                    uint8_t *record, size_t record_len, uint8_t *window, size_t window_len) {
+    uint8_t table[3 * LINES];
+    if (record_len != RECORD || wrong_window(window_len)) return 6;
+    if (k - 1 >= PROCESSES) return 5;
+    if (k < PROCESSES && start_labels >> 8 * k != 0) return 9;
+    struct plain_rule read = plain_read_rule(rule, rule_len, (unsigned)k, table);
+    if (read.fault != 0) return read.fault | (uint64_t)read.place << 32;
+    memset(record, 0, RECORD);
+    record[0] = (uint8_t)k;
+    record[1] = (uint8_t)read.lines;
+    store_kept(record, 1);
+    memcpy(record + TABLE_AT, table, sizeof table);
+    memset(window, 0, window_len);
+    uint64_t values = plain_judge(table, read.lines, start_labels, 0, 0);
+    store_word(window + LABELS_AT, start_labels);
+    store_word(window + VALUES_AT, values);
+    return accepted(values >> (read.lines - 1) & 1, 1);
+}
+
+static unsigned refused_event(uint64_t k, uint64_t mask, const struct counts *clock, uint64_t labels) {
+    if (mask == 0 || mask >> k != 0) return 7;
+    for (unsigned p = 0; p < PROCESSES; p++)
+        if (mask >> p & 1 ? clock->at[p] == 0 : p >= k && clock->at[p] != 0) return 8;
+    for (unsigned p = 0; p < PROCESSES; p++)
+        if (!(mask >> p & 1) && (labels >> 8 * p & 255) != 0) return 9;
+    return 0;
+}
+
+uint64_t plain_offer(uint64_t mask, uint64_t clock_low, uint64_t clock_high, uint64_t labels,
+                     uint8_t *record, size_t record_len) {
+    uint8_t event[EVENT] = {(uint8_t)mask};
+    if (record_len != RECORD) return 6;
+    if (damaged(record, ROOM)) return 34;
+    store_word(event + 8, clock_low);
+    store_word(event + 16, clock_high);
+    store_word(event + 24, labels);
+    struct counts clock = load(event + 8), reached = load(record + TAKEN_AT);
+    unsigned number = refused_event(record[0], mask, &clock, labels), held = record[2];
+    if (number != 0) return number;
+    for (unsigned p = 0; p < PROCESSES; p++)
+        if (mask >> p & 1 && clock.at[p] <= reached.at[p]) return 31;
+    uint8_t *pending = record + PENDING_AT;
+    unsigned lowest = (unsigned)__builtin_ctzll(mask), place = held;
+    for (unsigned i = 0; i < held; i++) {
+        const uint8_t *other = pending + EVENT * i;
+        struct counts c = load(other + 8);
+        for (unsigned common = other[0] & (unsigned)mask; common != 0; common &= common - 1)
+            if (c.at[__builtin_ctz(common)] == clock.at[__builtin_ctz(common)]) return 32;
+        unsigned p = other[0] != 0 ? (unsigned)__builtin_ctz(other[0]) : PROCESSES;
+        if (place == held && (p > lowest || (p == lowest && c.at[p] > clock.at[p]))) place = i;
+    }
+    if (held == PENDING) return 33;
+    memmove(pending + EVENT * (place + 1), pending + EVENT * place, EVENT * (held - place));
+    memcpy(pending + EVENT * place, event, EVENT);
+    record[2]++;
+    return accepted(0, held + 1);
+}
+
+uint64_t plain_take(uint8_t *record, size_t record_len, uint8_t *window, size_t window_len,
+                    uint8_t *scratch, size_t scratch_len) {
+    struct step s;
+    uint64_t answer = 0;
+    size_t room = window_len / FRONTIER;
+    if (record_len != RECORD || wrong_window(window_len) || scratch_len != window_len) return 6;
+    if (damaged(record, room)) return 34;
+    struct counts taken = load(record + TAKEN_AT);
+    for (unsigned i = 0; i < record[2]; i++) {
+        const uint8_t *event = record + PENDING_AT + EVENT * i;
+        if (!ready(event, &taken)) continue;
+        if (!true_clock(event, record)) {
+            leave(record, i);
+            answer = 35;
+            break;
+        }
+        plain_mark(&s, event, record, window);
+        if (s.staying + s.grown > 0 && s.staying + s.grown <= room) {
+            answer = take_event(&s, i, record, window, scratch);
+            break;
+        }
+        answer = 36;
+    }
+    memset(scratch, 0, scratch_len);
+    return answer;
+}
+
+uint64_t plain_find(uint64_t line, const uint8_t *record, size_t record_len, const uint8_t *window, size_t window_len) {
+    if (record_len != RECORD || wrong_window(window_len)) return 6;
+    if (damaged(record, window_len / FRONTIER)) return 34;
+    if (line >= record[1]) return 11;
+    uint32_t kept = load_kept(record);
+    for (uint32_t i = 0; i < kept; i++)
+        if (load_word(window + FRONTIER * i + VALUES_AT) >> line & 1) return accepted(1, i);
+    return accepted(0, 0);
+}

@@ -1,0 +1,16 @@
+/* A fast C version of the four calls, for comparison: the arguments, replies and bytes of include/watch.h. Nothing in it is proved. */
+#ifndef PLAIN_H
+#define PLAIN_H
+
+#include <stddef.h>
+#include <stdint.h>
+
+uint64_t plain_open(const uint8_t *rule, size_t rule_len, uint64_t k, uint64_t start_labels,
+                    uint8_t *record, size_t record_len, uint8_t *window, size_t window_len);
+uint64_t plain_offer(uint64_t mask, uint64_t clock_low, uint64_t clock_high, uint64_t labels,
+                     uint8_t *record, size_t record_len);
+uint64_t plain_take(uint8_t *record, size_t record_len, uint8_t *window, size_t window_len,
+                    uint8_t *scratch, size_t scratch_len);
+uint64_t plain_find(uint64_t line, const uint8_t *record, size_t record_len, const uint8_t *window, size_t window_len);
+
+#endif

@@ -1,0 +1,112 @@
+/* The vault watcher's four calls: open a watch, offer it events, take them, find a frontier.
+ *
+ * A watch is two buffers of the caller's: a record of WATCH_RECORD_BYTES and a window of 40 to 40,960 bytes, a multiple of 40 (one frontier
+ * has 40). Take borrows a third, the scratch, as long as the window. The library has no heap, no global state and no files: what it knows
+ * of a watch stands in these bytes, so a watch may be copied, stored and moved, and different watches may be used from different threads.
+ *
+ * What a caller has to keep, of every call:
+ *   - each pointer is valid for the length given with it; where the length is 0 it may be anything, also NULL;
+ *   - no two lent buffers of one call overlap;
+ *   - nobody else reads or writes them until the call returns. The library keeps no pointer after that.
+ * No alignment is asked. Nothing else is required: any number and any bytes are fine, and what cannot be used is refused by a number.
+ * Every call ends, writes nothing outside the buffers it was lent, and needs little stack (WATCH_STACK_BYTES). x86-64 only.
+ *
+ * Processes are numbered from 0, at most eight. A word of labels has process p's byte at bits 8p to 8p + 7, of which bit b says whether
+ * proposition b holds there. A clock is two words: counts of processes 0 to 3 and of 4 to 7, 16 bits each, the lower process lower. */
+#ifndef WATCH_H
+#define WATCH_H
+
+#include <stddef.h>
+#include <stdint.h>
+
+#ifdef __cplusplus
+extern "C" {
+#endif
+
+#define WATCH_PROCESSES 8        /* at most so many processes */
+#define WATCH_LINES 64           /* a rule has at most so many lines */
+#define WATCH_PENDING 32         /* a watch holds at most so many events that are not taken yet */
+#define WATCH_ROOM 1024          /* a window has room for at most so many frontiers */
+#define WATCH_FRONTIER_BYTES 40
+#define WATCH_WINDOW_BYTES(room) ((size_t)(room) * WATCH_FRONTIER_BYTES)
+#define WATCH_RECORD_BYTES 1368
+#define WATCH_STACK_BYTES 16384  /* no call uses more stack */
+
+/* Why a call was refused. But for WATCH_CLOCK_FALSE nothing in record or window has changed then, not a byte. */
+enum {
+    WATCH_TEXT = 1,         /* rule: a byte that no rule has there, or the text ends too early (place: its length) */
+    WATCH_DEPTH = 2,        /* rule: a 33rd nested bracket */
+    WATCH_LONG = 3,         /* rule: over 64 lines at this closing bracket */
+    WATCH_RANGE = 4,        /* rule: in (at p b), p not below the number of processes, or b above 7 */
+    WATCH_COUNT = 5,        /* the number of processes is not 1 to 8 */
+    WATCH_LENGTH = 6,       /* a buffer of a wrong length */
+    WATCH_MASK = 7,         /* the event's mask is 0 or names a process that the watch has not */
+    WATCH_CLOCK = 8,        /* count 0 at an involved process, or not 0 at one that the watch has not */
+    WATCH_LABELS = 9,       /* labels not 0 at an uninvolved process; at open, at one that the watch has not */
+    WATCH_NO_LINE = 11,     /* find: the rule has no such line */
+    WATCH_TAKEN = 31,       /* offer: at an involved process an event of that count was taken already */
+    WATCH_CONFLICT = 32,    /* offer: a pending event has the same count at a common process */
+    WATCH_FULL = 33,        /* offer: 32 events are pending: take, or wait for what is missing */
+    WATCH_DAMAGED = 34,     /* the record is none, or it says more frontiers than the lent window has */
+    WATCH_CLOCK_FALSE = 35, /* take: an event's clock cannot be; that event, and nothing else, is gone */
+    WATCH_NO_ROOM = 36      /* take: events are ready but none fits; lend a longer window */
+};
+
+/* A reply is one word: number, flag, value and place. The number is 0 if the call was accepted, else the refusal; a refusal has flag 0,
+ * value 0 and the place of the fault in the rule's text (0 where there is none). */
+static inline unsigned watch_number(uint64_t reply) { return (unsigned)(reply & 255); }
+static inline unsigned watch_flag(uint64_t reply) { return (unsigned)(reply >> 8 & 255); }
+static inline unsigned watch_value(uint64_t reply) { return (unsigned)(reply >> 16 & 65535); }
+static inline uint32_t watch_place(uint64_t reply) { return (uint32_t)(reply >> 32); }
+
+/* Opens a watch of k processes with a rule and each process's labels at the start. Writes every byte of record and window.
+ * Accepted: flag is the rule's truth at the start, value 1 (one frontier).
+ * Refused, in this order: 6 record or window, 5, 9, then the first fault of the text, 1 to 4, with its place. Writes nothing then.
+ * A rule: (at p b) (not F) (and F F) (or F F) (true) (false) (ey F) (ay F) (ep F) (ap F) (eh F) (ah F) (es F F) (as F F). */
+uint64_t watch_open(const uint8_t *rule, size_t rule_len, uint64_t k, uint64_t start_labels,
+                    uint8_t *record, size_t record_len, uint8_t *window, size_t window_len);
+
+/* Offers an event: bit p of the mask says that process p took part, its clock counts each process's events in its history, itself
+ * included, its labels hold afterwards. In any order: an event that comes early is pending until take can take it.
+ * Accepted: value is the number of pending events, this one among them. Writes the record only.
+ * Refused, in this order: 6 record, 34, 7, 8, 9, 31, 32, 33. Writes nothing then. */
+uint64_t watch_offer(uint64_t mask, uint64_t clock_low, uint64_t clock_high, uint64_t labels,
+                     uint8_t *record, size_t record_len);
+
+/* Takes one pending event that is ready, the one of the lowest process first, of those whose frontiers fit into the window.
+ * Accepted: flag is the rule's truth at the largest cut, value the number of frontiers kept (never 0); the counts that the verdict is
+ * for are the record's (watch_taken). The whole reply is 0 if nothing is ready: record and window are as they were.
+ * Refused: 6 any buffer, or 34: nothing is written. 35: the event left, window and counts are as they were. 36: nothing changed.
+ * The window may be longer than at the call before, if the new bytes are 0. The scratch may hold anything and is all 0 afterwards, unless
+ * the refusal was 6 or 34. */
+uint64_t watch_take(uint8_t *record, size_t record_len, uint8_t *window, size_t window_len,
+                    uint8_t *scratch, size_t scratch_len);
+
+/* Finds a kept frontier at which a line of the rule holds. Lines count from 0, the last is the rule (watch_lines - 1). Writes nothing.
+ * Accepted: flag 1 and the frontier's place in the window as value, or flag 0 if there is none.
+ * Refused, in this order: 6 record or window, 34, 11. */
+uint64_t watch_find(uint64_t line, const uint8_t *record, size_t record_len,
+                    const uint8_t *window, size_t window_len);
+
+static inline unsigned watch_bytes2(const uint8_t *at) { return at[0] | (unsigned)at[1] << 8; }
+
+/* Of a record that open wrote: lines of the rule, pending events, frontiers kept, and how many events of process p (0 to 7) were taken. */
+static inline unsigned watch_lines(const uint8_t *record) { return record[1]; }
+static inline unsigned watch_pending(const uint8_t *record) { return record[2]; }
+static inline unsigned watch_kept(const uint8_t *record) { return watch_bytes2(record + 4); }
+static inline unsigned watch_taken(const uint8_t *record, unsigned p) { return watch_bytes2(record + 8 + 2 * p); }
+
+/* Of the frontier at a place below watch_kept: process p's count in that cut. */
+static inline unsigned watch_cut(const uint8_t *window, size_t place, unsigned p) {
+    return watch_bytes2(window + WATCH_FRONTIER_BYTES * place + 2 * p);
+}
+
+/* Four counts as one word of a clock. */
+static inline uint64_t watch_counts(uint16_t a, uint16_t b, uint16_t c, uint16_t d) {
+    return (uint64_t)a | (uint64_t)b << 16 | (uint64_t)c << 32 | (uint64_t)d << 48;
+}
+
+#ifdef __cplusplus
+}
+#endif
+#endif

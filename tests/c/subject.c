@@ -1,0 +1,116 @@
+/* See subject.h. */
+#include "subject.h"
+
+#include <stdlib.h>
+#include <string.h>
+
+enum { TEXT = 8192 };
+
+struct subject subject_new(void) {
+    struct subject s = {lent_new(TEXT), lent_new(2 * WATCH_RECORD_BYTES), lent_new(WATCH_WINDOW_BYTES(WATCH_ROOM + 1)),
+                        lent_new(WATCH_WINDOW_BYTES(WATCH_ROOM + 1))};
+    lend(&s.record, WATCH_RECORD_BYTES, 0);
+    lend_room(&s, WATCH_ROOM);
+    return s;
+}
+
+void subject_free(struct subject *s) {
+    lent_free(&s->text);
+    lent_free(&s->record);
+    lent_free(&s->window);
+    lent_free(&s->scratch);
+}
+
+void lend_junk(struct subject *s, size_t length) {
+    lend(&s->scratch, length, 0);
+    for (size_t i = 0; i < length; i++) s->scratch.bytes[i] = (uint8_t)(7 * i + 1);
+}
+
+void lend_room(struct subject *s, size_t room) {
+    lend_again(&s->window, WATCH_WINDOW_BYTES(room), room % 8);
+    lend_junk(s, WATCH_WINDOW_BYTES(room));
+}
+
+static uint8_t *copy(const struct lent *l) {
+    uint8_t *bytes = malloc(l->length + 1);
+    if (bytes == NULL) abort();
+    memcpy(bytes, l->bytes, l->length);
+    return bytes;
+}
+
+static int same(const struct lent *l, uint8_t *before) {
+    int equal = memcmp(l->bytes, before, l->length) == 0;
+    free(before);
+    return equal;
+}
+
+static void check_guards(const struct subject *s) {
+    CHECK(lent_intact(&s->text) && lent_intact(&s->record) && lent_intact(&s->window) && lent_intact(&s->scratch));
+}
+
+static void check_refusal(uint64_t reply) {
+    CHECK(watch_number(reply) == 0 || (reply & 0xffffff00) == 0);
+    CHECK(watch_number(reply) <= 4 || watch_place(reply) == 0);
+}
+
+uint64_t try_open_bytes(struct subject *s, const uint8_t *rule, size_t length, uint64_t k, uint64_t labels) {
+    lend(&s->text, length, 0);
+    memcpy(s->text.bytes, rule, length);
+    uint8_t *record = copy(&s->record), *window = copy(&s->window);
+    uint64_t reply = watch_open(s->text.bytes, length, k, labels, s->record.bytes, s->record.length, s->window.bytes, s->window.length);
+    int same_record = same(&s->record, record), same_window = same(&s->window, window);
+    CHECK(watch_number(reply) == 0 || (same_record && same_window));
+    CHECK(memcmp(s->text.bytes, rule, length) == 0);
+    check_refusal(reply);
+    check_guards(s);
+    return reply;
+}
+
+uint64_t try_open(struct subject *s, const char *rule, uint64_t k, uint64_t labels) {
+    return try_open_bytes(s, (const uint8_t *)rule, strlen(rule), k, labels);
+}
+
+uint64_t try_offer(struct subject *s, uint64_t mask, uint64_t low, uint64_t high, uint64_t labels) {
+    uint8_t *record = copy(&s->record);
+    uint64_t reply = watch_offer(mask, low, high, labels, s->record.bytes, s->record.length);
+    int same_record = same(&s->record, record);
+    CHECK(watch_number(reply) == 0 || same_record);
+    check_refusal(reply);
+    check_guards(s);
+    return reply;
+}
+
+uint64_t try_take(struct subject *s) {
+    uint8_t *record = copy(&s->record), *window = copy(&s->window), *scratch = copy(&s->scratch);
+    uint64_t reply = watch_take(s->record.bytes, s->record.length, s->window.bytes, s->window.length, s->scratch.bytes, s->scratch.length);
+    unsigned number = watch_number(reply);
+    int same_record = same(&s->record, record), same_window = same(&s->window, window), same_scratch = same(&s->scratch, scratch);
+    CHECK(same_window || (number == 0 && reply != NOTHING_READY));
+    CHECK(same_record || number == 35 || (number == 0 && reply != NOTHING_READY));
+    CHECK(number == 6 || number == 34 ? same_scratch : all_zero(s->scratch.bytes, s->scratch.length));
+    check_refusal(reply);
+    check_guards(s);
+    if (number != 6 && number != 34) lend_junk(s, s->scratch.length);
+    return reply;
+}
+
+uint64_t try_find(struct subject *s, uint64_t line) {
+    uint8_t *record = copy(&s->record), *window = copy(&s->window);
+    uint64_t reply = watch_find(line, s->record.bytes, s->record.length, s->window.bytes, s->window.length);
+    int same_record = same(&s->record, record), same_window = same(&s->window, window);
+    CHECK(same_record && same_window);
+    check_refusal(reply);
+    check_guards(s);
+    return reply;
+}
+
+void start(struct subject *s, size_t room, uint64_t k, const char *rule) {
+    lend(&s->record, WATCH_RECORD_BYTES, 0);
+    lend_room(s, room);
+    uint64_t reply = try_open(s, rule, k, 0);
+    CHECK(watch_number(reply) == 0 && watch_value(reply) == 1);
+}
+
+uint64_t offer(struct subject *s, unsigned mask, unsigned a, unsigned b, unsigned c, unsigned d, uint64_t labels) {
+    return try_offer(s, mask, watch_counts((uint16_t)a, (uint16_t)b, (uint16_t)c, (uint16_t)d), 0, labels);
+}

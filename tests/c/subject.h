@@ -1,0 +1,46 @@
+/* A watch under test. Each call is made on guarded buffers, and what holds of every call is checked with it: bytes around the buffers, and
+ * the bytes that a refusal must leave. */
+#ifndef SUBJECT_H
+#define SUBJECT_H
+
+#include "../../include/watch.h"
+#include "../lent.h"
+#include "check.h"
+
+struct subject {
+    struct lent text, record, window, scratch;
+};
+
+struct subject subject_new(void);
+void subject_free(struct subject *s);
+
+/* Lends a window of so many frontiers and a scratch full of junk; the window keeps its bytes. */
+void lend_room(struct subject *s, size_t room);
+void lend_junk(struct subject *s, size_t length);
+
+uint64_t try_open(struct subject *s, const char *rule, uint64_t k, uint64_t labels);
+uint64_t try_open_bytes(struct subject *s, const uint8_t *rule, size_t length, uint64_t k, uint64_t labels);
+uint64_t try_offer(struct subject *s, uint64_t mask, uint64_t low, uint64_t high, uint64_t labels);
+uint64_t try_take(struct subject *s);
+uint64_t try_find(struct subject *s, uint64_t line);
+
+/* A watch of k processes with this rule, labels 0, room for so many frontiers. */
+void start(struct subject *s, size_t room, uint64_t k, const char *rule);
+
+/* An event of the mask's processes, with counts of processes 0 to 3. */
+uint64_t offer(struct subject *s, unsigned mask, unsigned a, unsigned b, unsigned c, unsigned d, uint64_t labels);
+
+static inline uint64_t refused(unsigned number) { return number; }
+static inline uint64_t refused_at(unsigned number, uint64_t place) { return number | place << 32; }
+static inline uint64_t state(unsigned truth, unsigned kept) { return (uint64_t)truth << 8 | (uint64_t)kept << 16; }
+static inline uint64_t held(unsigned number) { return (uint64_t)number << 16; }
+#define NOTHING_READY ((uint64_t)0)
+
+void test_texts(void);
+void test_refusals(void);
+void test_orders(void);
+void test_examples(void);
+void test_edges(void);
+void test_stack(void);
+
+#endif

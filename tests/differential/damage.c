@@ -1,0 +1,145 @@
+/* Calls on records and windows that no list of calls leaves. What the paper fixes there is compared, what it leaves free is not. */
+#include <stdlib.h>
+#include <string.h>
+
+#include "../../include/watch.h"
+#include "twin.h"
+
+enum { HEADER = 8, TAKEN_AT = 8, CLOCKS_AT = 24, TABLE_AT = 152, PENDING_AT = 344, EVENT = 32 };
+
+struct damaged {
+    struct lent record, window, scratch;
+    uint8_t record_before[2 * RECORD], window_before[WINDOW_MOST], scratch_before[WINDOW_MOST];
+};
+
+static void damage_byte(struct source *s, uint8_t *byte) {
+    switch (below(s, 4)) {
+    case 0: *byte = (uint8_t)draw(s); break;
+    case 1: *byte ^= (uint8_t)(1u << below(s, 8)); break;
+    case 2: *byte = (uint8_t)below(s, 10); break;
+    default: *byte = (uint8_t)(*byte + (chance(s, 50) ? 1 : 255));
+    }
+}
+
+/* One of the parts of a record, so that each is hit often. */
+static void damage_record(struct source *s, uint8_t *record) {
+    unsigned held = record[2] <= PENDING ? record[2] : PENDING;
+    switch (below(s, 8)) {
+    case 0: damage_byte(s, record + below(s, HEADER)); break;
+    case 1: damage_byte(s, record + TAKEN_AT + below(s, 16)); break;
+    case 2: damage_byte(s, record + CLOCKS_AT + below(s, 128)); break;
+    case 3: damage_byte(s, record + TABLE_AT + below(s, 3u * (record[1] % 65) + 3)); break;
+    case 4: damage_byte(s, record + PENDING_AT + EVENT * below(s, held + 1 < PENDING ? held + 1 : PENDING)); break;
+    case 5: damage_byte(s, record + PENDING_AT + below(s, EVENT * PENDING)); break;
+    case 6: record[2] = (uint8_t)below(s, PENDING + 2); break;
+    default: damage_byte(s, record + below(s, RECORD));
+    }
+}
+
+/* Pending places filled with events of small counts, in no order. */
+static void scatter_pending(struct source *s, uint8_t *record) {
+    record[2] = (uint8_t)below(s, PENDING + 1);
+    for (unsigned i = 0; i < record[2]; i++) {
+        uint8_t *at = record + PENDING_AT + EVENT * i;
+        at[0] = (uint8_t)(1u << below(s, 8));
+        if (chance(s, 30)) at[0] |= (uint8_t)(draw(s) & draw(s));
+        for (unsigned p = 0; p < PROCESSES; p++) at[8 + 2 * p] = (uint8_t)below(s, 5);
+    }
+}
+
+static void damage(struct source *s, struct damaged *d) {
+    unsigned times = between(s, 1, 4);
+    for (unsigned i = 0; i < times; i++) damage_record(s, d->record.bytes);
+    if (chance(s, 15)) scatter_pending(s, d->record.bytes);
+    if (chance(s, 5)) fill_junk(s, d->record.bytes + HEADER, 16);
+    if (chance(s, 5)) fill_junk(s, d->record.bytes + PENDING_AT, EVENT * PENDING);
+    if (chance(s, 3)) fill_junk(s, d->record.bytes, RECORD);
+    if (chance(s, 50))
+        for (unsigned i = 0; i < times; i++) damage_byte(s, d->window.bytes + below(s, (unsigned)d->window.length));
+    if (chance(s, 5)) fill_junk(s, d->window.bytes, d->window.length);
+    if (chance(s, 20)) d->record.bytes[4] = (uint8_t)below(s, (unsigned)(d->window.length / FRONTIER) + 2);
+}
+
+static void remember(struct damaged *d) {
+    memcpy(d->record_before, d->record.bytes, d->record.length);
+    memcpy(d->window_before, d->window.bytes, d->window.length);
+    memcpy(d->scratch_before, d->scratch.bytes, d->scratch.length);
+}
+
+static void unchanged(const char *name, const struct lent *l, const uint8_t *before) {
+    compare_bytes(name, l->bytes, before, l->length);
+}
+
+static void compare_number(uint64_t reply, unsigned expected) {
+    if (watch_number(reply) != expected) differs("on damaged bytes the number is %u, expected %u", watch_number(reply), expected);
+    if (expected != 0 && reply != expected) differs("refusal %u with flag, value or place", expected);
+}
+
+static void damaged_offer(struct source *s, struct damaged *d, unsigned k) {
+    struct sent e = random_sent(s, k);
+    remember(d);
+    note("offer mask %llx clock %llx %llx labels %llx to damaged bytes\n", (unsigned long long)e.mask, (unsigned long long)e.low,
+         (unsigned long long)e.high, (unsigned long long)e.labels);
+    unsigned expected = bytes_offer(e.mask, e.low, e.high, e.labels, d->record_before, d->record.length);
+    compare_number(tally(OFFER, watch_offer(e.mask, e.low, e.high, e.labels, d->record.bytes, d->record.length)), expected);
+    unchanged("record", &d->record, d->record_before);
+}
+
+static void damaged_find(struct source *s, struct damaged *d) {
+    uint64_t line = chance(s, 90) ? below(s, 66) : draw(s);
+    remember(d);
+    note("find line %llu on damaged bytes\n", (unsigned long long)line);
+    unsigned expected = bytes_find(line, d->record.bytes, d->record.length, d->window.length);
+    compare_number(tally(FIND, watch_find(line, d->record.bytes, d->record.length, d->window.bytes, d->window.length)), expected);
+    unchanged("record", &d->record, d->record_before);
+    unchanged("window", &d->window, d->window_before);
+}
+
+static void damaged_take(struct source *s, struct damaged *d) {
+    fill_junk(s, d->scratch.bytes, d->scratch.length);
+    remember(d);
+    note("take on damaged bytes, window %zu\n", d->window.length);
+    struct possible can = bytes_take(d->record.bytes, d->record.length, d->window.length, d->scratch.length);
+    uint64_t reply = watch_take(d->record.bytes, d->record.length, d->window.bytes, d->window.length, d->scratch.bytes, d->scratch.length);
+    unsigned number = watch_number(tally(TAKE, reply));
+    if (can.refused != 0) {
+        compare_number(reply, can.refused);
+        unchanged("scratch", &d->scratch, d->scratch_before);
+    } else if (!(reply == 0 ? can.nothing_ready : number == 0 ? can.taken : reply == 35 ? can.false_clock : reply == 36 && can.no_room)) {
+        differs("take on damaged bytes answers number %u value %u; possible: nothing ready %d, taken %d, 35 %d, 36 %d", number,
+                watch_value(reply), can.nothing_ready, can.taken, can.false_clock, can.no_room);
+    }
+    if (can.refused != 0 || reply == 0 || reply == 36) {
+        unchanged("record", &d->record, d->record_before);
+        unchanged("window", &d->window, d->window_before);
+        if (can.refused == 0 && !all_zero(d->scratch.bytes, d->scratch.length)) differs("the scratch is not all 0");
+    }
+}
+
+void damage_excursion(struct source *s, const struct twin *t, unsigned calls) {
+    static struct damaged *d;
+    if (d == NULL) {
+        d = calloc(1, sizeof *d);
+        if (d == NULL) abort();
+        d->record = lent_new(2 * RECORD);
+        d->window = lent_new(WINDOW_MOST);
+        d->scratch = lent_new(WINDOW_MOST);
+    }
+    size_t room = chance(s, 70) ? t->window_length / FRONTIER : between(s, 1, 40);
+    size_t record_length = chance(s, 95) ? RECORD : below(s, 2 * RECORD);
+    size_t scratch_length = chance(s, 95) ? FRONTIER * room : below(s, WINDOW_MOST);
+    lend(&d->record, record_length, below(s, 8));
+    lend(&d->window, FRONTIER * room, below(s, 8));
+    lend(&d->scratch, scratch_length, below(s, 8));
+    memcpy(d->record.bytes, t->record_bytes, d->record.length < RECORD ? d->record.length : RECORD);
+    memcpy(d->window.bytes, t->window_bytes, FRONTIER * room);
+    if (d->record.length == RECORD) damage(s, d);
+    for (unsigned i = 0; i < calls; i++) {
+        unsigned action = below(s, 10);
+        if (action < 4) damaged_offer(s, d, t->model.k);
+        else if (action < 5) damaged_find(s, d);
+        else damaged_take(s, d);
+        if (!lent_intact(&d->record) || !lent_intact(&d->window) || !lent_intact(&d->scratch))
+            differs("a byte outside the buffers changed");
+    }
+}

@@ -1,0 +1,138 @@
+/* Random calls on one watch: an execution's events in some order, sent again, twisted, with numbers that are none; windows that are too
+ * short and then longer; buffers of wrong lengths. */
+#include <string.h>
+
+#include "twin.h"
+
+static size_t random_room(struct source *s) {
+    return chance(s, 60) ? between(s, 1, 12) : chance(s, 80) ? between(s, 10, 200) : between(s, 1, ROOM);
+}
+
+void try_texts(struct source *s, struct twin *t) {
+    uint8_t text[TEXT_MOST];
+    for (unsigned i = 0; i < 25; i++) {
+        unsigned k = between(s, 1, 8);
+        size_t record_length = RECORD, window_length = FRONTIER * random_room(s);
+        if (chance(s, 3)) record_length = chance(s, 50) ? RECORD - 1 - below(s, 5) : RECORD + below(s, 9);
+        if (chance(s, 3)) window_length = below(s, WINDOW_MOST + 1);
+        uint64_t labels = random_labels(s, (1u << k) - 1), processes = k;
+        if (chance(s, 3)) labels |= (uint64_t)1 << below(s, 64);
+        if (chance(s, 3)) processes = chance(s, 50) ? below(s, 12) : sized(s);
+        size_t length = chance(s, 25) ? random_rule(s, k, between(s, 1, 64), text) : spoiled_rule(s, k, text);
+        fill_junk(s, t->record_bytes, RECORD);
+        fill_junk(s, t->window_bytes, window_length);
+        twin_lend(t, s, record_length, window_length);
+        twin_open(t, text, length, processes, labels);
+    }
+}
+
+/* A call with one buffer of a wrong length, or a window too short for what is kept; then everything is lent as before. */
+static void wrong_lengths(struct source *s, struct twin *t) {
+    size_t window_length = t->window_length, record_length = RECORD, wrong = window_length, scratch_length;
+    size_t kept_length = FRONTIER * (t->record_bytes[4] + 256u * t->record_bytes[5]);
+    unsigned choice = below(s, 4);
+    if (choice == 0) record_length = chance(s, 50) ? below(s, RECORD) : RECORD + 1 + below(s, 100);
+    if (choice == 1) wrong = chance(s, 50) ? window_length + 1 + below(s, 39) : FRONTIER * (ROOM + 1);
+    if (choice == 1 && wrong > WINDOW_MOST) wrong = 0;
+    if (choice == 2 && kept_length > FRONTIER) wrong = kept_length - FRONTIER;
+    scratch_length = choice == 3 ? FRONTIER * random_room(s) : wrong;
+    if (record_length == RECORD && wrong == window_length && scratch_length == wrong) return;
+    twin_lend(t, s, record_length, wrong);
+    if (wrong != window_length || record_length != RECORD) twin_find(t, below(s, 10));
+    if (record_length != RECORD) twin_offer(t, random_sent(s, t->model.k));
+    twin_take(t, s, scratch_length);
+    twin_lend(t, s, RECORD, window_length);
+}
+
+static void lend_longer(struct source *s, struct twin *t) {
+    size_t room = t->window_length / FRONTIER, longer = room + (chance(s, 70) ? between(s, 1, 4) : random_room(s));
+    twin_lend(t, s, RECORD, FRONTIER * (longer < ROOM ? longer : ROOM));
+}
+
+static void random_find(struct source *s, struct twin *t) {
+    unsigned lines = t->model.rule.lines;
+    twin_find(t, chance(s, 90) ? below(s, lines + 1) : chance(s, 50) ? lines - 1 : sized(s));
+}
+
+static void random_offer(struct source *s, struct twin *t, const struct execution *x) {
+    struct sent e = random_sent(s, x->k);
+    if (x->n > 0 && chance(s, 70)) e = x->event[below(s, x->n)];
+    if (x->n > 0 && chance(s, 50)) e = twisted(s, x->event[below(s, x->n)], x->k);
+    twin_offer(t, e);
+}
+
+/* Takes, with a longer window at 36, until nothing is ready. */
+static void drain(struct source *s, struct twin *t) {
+    for (;;) {
+        uint64_t reply = twin_take(t, s, t->window_length);
+        if (reply == 0) return;
+        if (reply == 36 && t->window_length == FRONTIER * ROOM) return;
+        if (reply == 36) lend_longer(s, t);
+    }
+}
+
+static void start_watch(struct source *s, struct twin *t, unsigned k, size_t room) {
+    uint8_t text[TEXT_MOST];
+    size_t length = random_rule(s, k, chance(s, 80) ? between(s, 1, 24) : between(s, 24, 64), text);
+    size_t window_length = FRONTIER * room;
+    fill_junk(s, t->record_bytes, RECORD);
+    fill_junk(s, t->window_bytes, window_length);
+    twin_lend(t, s, RECORD, window_length);
+    twin_open(t, text, length, k, random_labels(s, (1u << k) - 1));
+    memset(t->window_bytes + window_length, 0, WINDOW_MOST - window_length);
+}
+
+/* The execution's events and whatever comes between. */
+static void walk(struct source *s, struct twin *t, struct execution *x) {
+    unsigned next = 0;
+    bool hostile = chance(s, 60);
+    if (chance(s, 70)) shuffle(s, x->event, x->n, chance(s, 60));
+    while (next < x->n) {
+        unsigned action = below(s, 100);
+        if (action < 40) twin_offer(t, x->event[next++]);
+        else if (action < 65) twin_take(t, s, t->window_length);
+        else if (action < 75 && hostile) random_offer(s, t, x);
+        else if (action < 80) random_find(s, t);
+        else if (action < 85) lend_longer(s, t);
+        else if (action < 88) wrong_lengths(s, t);
+        else if (action < 91) damage_excursion(s, t, 3);
+    }
+    drain(s, t);
+    for (unsigned i = 0; i < x->n; i++) twin_offer(t, x->event[i]);
+    drain(s, t);
+    random_find(s, t);
+    damage_excursion(s, t, 4);
+}
+
+void try_walk(struct source *s, struct twin *t, unsigned events, size_t vectors) {
+    unsigned k = between(s, 1, 8);
+    start_watch(s, t, k, random_room(s));
+    struct execution x = random_execution(s, k, events, vectors, chance(s, 50) ? 15 : 50);
+    walk(s, t, &x);
+}
+
+void try_late(struct source *s, struct twin *t) {
+    unsigned k = between(s, 2, 4), alone = below(s, k), before = between(s, 250, 257);
+    start_watch(s, t, k, ROOM);
+    for (unsigned i = 1; i <= before; i++) {
+        struct sent e = {.mask = (uint64_t)1 << alone};
+        e.labels = random_labels(s, e.mask);
+        set_sent_count(&e, alone, i);
+        twin_forward(t, e);
+    }
+    twin_catch_up(t);
+    struct execution x = later_execution(s, k, between(s, 4, 10), 5000, 15, alone, before);
+    walk(s, t, &x);
+}
+
+void try_damage(struct source *s, struct twin *t) {
+    unsigned k = between(s, 1, 8);
+    start_watch(s, t, k, random_room(s));
+    struct execution x = random_execution(s, k, between(s, 1, 10), 600, 30);
+    shuffle(s, x.event, x.n, chance(s, 50));
+    for (unsigned i = 0; i < x.n; i++) {
+        twin_offer(t, x.event[i]);
+        if (chance(s, 50)) twin_take(t, s, t->window_length);
+    }
+    for (unsigned i = 0; i < 12; i++) damage_excursion(s, t, 5);
+}

@@ -1,0 +1,128 @@
+/* Records and windows of any bytes, as no list of calls may have left them: refusals and "nothing ready" are exact there too, and so is
+ * what an accepted offer writes; whether a window fits, and what take writes when an event leaves, are free. */
+#include <string.h>
+
+#include "model.h"
+
+enum { TAKEN_AT = 8, CLOCKS_AT = 24, TABLE_AT = 152, PENDING_AT = 344, EVENT = 32 };
+
+static unsigned get2(const uint8_t *at) {
+    return at[0] + 256u * at[1];
+}
+
+static uint32_t get4(const uint8_t *at) {
+    return get2(at) + 65536u * get2(at + 2);
+}
+
+static bool bad_line(const uint8_t *line, unsigned i, unsigned k) {
+    unsigned kind = line[0], a = line[1], b = line[2];
+    if (kind > 5) return true;
+    if (kind == 0) return a >= k || b > 7;
+    if (a >= i) return true;
+    return kind == 1 || kind == 3 ? b != 0 : b >= i;
+}
+
+/* 34. Offer is lent no window: there the room is 1,024. */
+static bool damaged(const uint8_t *record, size_t room) {
+    unsigned k = record[0], lines = record[1];
+    uint32_t kept_frontiers = get4(record + 4);
+    if (k < 1 || k > PROCESSES || record[2] > PENDING || lines < 1 || lines > LINES) return true;
+    if (kept_frontiers < 1 || kept_frontiers > ROOM || kept_frontiers > room) return true;
+    for (unsigned i = 0; i < lines; i++)
+        if (bad_line(record + TABLE_AT + 3 * i, i, k)) return true;
+    return false;
+}
+
+static struct event pending_at(const uint8_t *record, unsigned i) {
+    const uint8_t *at = record + PENDING_AT + EVENT * i;
+    struct event e = {.mask = at[0]};
+    for (unsigned p = 0; p < PROCESSES; p++) {
+        e.clock[p] = get2(at + 8 + 2 * p);
+        e.labels[p] = at[24 + p];
+    }
+    return e;
+}
+
+/* By lowest process and then its count; a mask of 0 has process 8 and count 0. */
+static bool key_above(const struct event *e, const struct event *f) {
+    unsigned p = lowest_process(e), q = lowest_process(f);
+    if (p != q) return p > q;
+    return p < PROCESSES && e->clock[p] > f->clock[q];
+}
+
+static unsigned refused_by_record(const struct event *e, const uint8_t *record) {
+    for (unsigned p = 0; p < PROCESSES; p++)
+        if (involved(e, p) && e->clock[p] <= get2(record + TAKEN_AT + 2 * p)) return 31;
+    for (unsigned i = 0; i < record[2]; i++) {
+        struct event f = pending_at(record, i);
+        for (unsigned p = 0; p < PROCESSES; p++)
+            if (involved(e, p) && involved(&f, p) && e->clock[p] == f.clock[p]) return 32;
+    }
+    return record[2] == PENDING ? 33 : 0;
+}
+
+/* In front of the first pending event with a larger key; those behind move up as they are. */
+static void insert(const struct event *e, uint8_t *record) {
+    unsigned place = 0;
+    struct event f;
+    while (place < record[2] && (f = pending_at(record, place), !key_above(&f, e))) place++;
+    uint8_t *at = record + PENDING_AT + EVENT * place;
+    memmove(at + EVENT, at, EVENT * (record[2] - place));
+    memset(at, 0, EVENT);
+    at[0] = e->mask;
+    for (unsigned p = 0; p < PROCESSES; p++) {
+        at[8 + 2 * p] = (uint8_t)e->clock[p];
+        at[9 + 2 * p] = (uint8_t)(e->clock[p] >> 8);
+        at[24 + p] = e->labels[p];
+    }
+    record[2]++;
+}
+
+unsigned bytes_offer(uint64_t mask, uint64_t clock_low, uint64_t clock_high, uint64_t labels, uint8_t *record, size_t record_len) {
+    if (record_len != RECORD) return 6;
+    if (damaged(record, ROOM)) return 34;
+    struct event e = event_of(mask, clock_low, clock_high, labels);
+    unsigned number = refused_event(record[0], mask, clock_low, clock_high, labels);
+    if (number == 0) number = refused_by_record(&e, record);
+    if (number == 0) insert(&e, record);
+    return number;
+}
+
+unsigned bytes_find(uint64_t line, const uint8_t *record, size_t record_len, size_t window_len) {
+    if (record_len != RECORD || !window_length(window_len)) return 6;
+    if (damaged(record, window_len / FRONTIER)) return 34;
+    return line < record[1] ? 0 : 11;
+}
+
+/* The largest of the last clocks of the involved processes, plus 1 at those, by the record's bytes. */
+static bool true_by_record(const struct event *e, const uint8_t *record) {
+    for (unsigned q = 0; q < PROCESSES; q++) {
+        unsigned largest = 0;
+        for (unsigned p = 0; p < PROCESSES; p++) {
+            unsigned count = get2(record + CLOCKS_AT + 16 * p + 2 * q);
+            if (involved(e, p) && count > largest) largest = count;
+        }
+        if (e->clock[q] != largest + involved(e, q)) return false;
+    }
+    return true;
+}
+
+struct possible bytes_take(const uint8_t *record, size_t record_len, size_t window_len, size_t scratch_len) {
+    struct possible can = {.nothing_ready = true};
+    if (record_len != RECORD || !window_length(window_len) || scratch_len != window_len) return (struct possible){.refused = 6};
+    if (damaged(record, window_len / FRONTIER)) return (struct possible){.refused = 34};
+    unsigned counts[PROCESSES];
+    for (unsigned p = 0; p < PROCESSES; p++) counts[p] = get2(record + TAKEN_AT + 2 * p);
+    for (unsigned i = 0; i < record[2]; i++) {
+        struct event e = pending_at(record, i);
+        if (!ready(&e, counts)) continue;
+        can.nothing_ready = false;
+        if (!true_by_record(&e, record)) {
+            can.false_clock = true;
+            can.no_room = false;
+            return can;
+        }
+        can.taken = can.no_room = true;
+    }
+    return can;
+}

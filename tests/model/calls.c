@@ -1,0 +1,163 @@
+/* The four calls on a watch that is written by these calls only: sections "The calls" and "Turned back". */
+#include <stdlib.h>
+#include <string.h>
+
+#include "model.h"
+
+uint64_t reply_word(unsigned number, unsigned flag, uint64_t value, uint64_t place) {
+    return number + ((uint64_t)flag << 8) + (value << 16) + (place << 32);
+}
+
+static uint64_t refused(unsigned number) {
+    return reply_word(number, 0, 0, 0);
+}
+
+bool window_length(size_t length) {
+    return length >= FRONTIER && length <= FRONTIER * ROOM && length % FRONTIER == 0;
+}
+
+static uint8_t byte_of(uint64_t word, unsigned p) {
+    return (uint8_t)(word >> 8 * p);
+}
+
+static unsigned count_of(uint64_t low, uint64_t high, unsigned p) {
+    return (p < 4 ? low >> 16 * p : high >> 16 * (p - 4)) & 65535;
+}
+
+struct event event_of(uint64_t mask, uint64_t clock_low, uint64_t clock_high, uint64_t labels) {
+    struct event e = {.mask = (uint8_t)mask};
+    for (unsigned p = 0; p < PROCESSES; p++) {
+        e.clock[p] = count_of(clock_low, clock_high, p);
+        e.labels[p] = byte_of(labels, p);
+    }
+    return e;
+}
+
+/* 7, 8, 9. The mask is judged as a whole word. */
+unsigned refused_event(uint64_t k, uint64_t mask, uint64_t clock_low, uint64_t clock_high, uint64_t labels) {
+    struct event e = event_of(mask, clock_low, clock_high, labels);
+    if (mask == 0 || mask >> k != 0) return 7;
+    for (unsigned p = 0; p < PROCESSES; p++)
+        if ((involved(&e, p) && e.clock[p] == 0) || (p >= k && e.clock[p] != 0)) return 8;
+    for (unsigned p = 0; p < PROCESSES; p++)
+        if (!involved(&e, p) && e.labels[p] != 0) return 9;
+    return 0;
+}
+
+/* Record and window from the model, and the answer to an opened watch or a taken event. Its flag is the rule's truth as a form. */
+uint64_t lay_down(const struct model *m, uint8_t *record, uint8_t *window, size_t window_len) {
+    struct cuts all = all_cuts(&m->history);
+    judge_cuts(&all, &m->history, &m->rule, m->start);
+    size_t number = kept_number(&all, m->k);
+    const struct cut *largest = &all.cut[cut_place(&all, all.top)];
+    unsigned truth = largest->forms >> (m->rule.forms - 1) & 1;
+    write_record(m, number, record);
+    write_window(m, &all, window, window_len);
+    free_cuts(&all);
+    return reply_word(0, truth, number, 0);
+}
+
+uint64_t model_open(struct model *m, const uint8_t *rule, size_t rule_len, uint64_t k, uint64_t start_labels,
+                    uint8_t *record, size_t record_len, uint8_t *window, size_t window_len) {
+    struct rule read;
+    if (record_len != RECORD || !window_length(window_len)) return refused(6);
+    if (k < 1 || k > PROCESSES) return refused(5);
+    for (unsigned p = (unsigned)k; p < PROCESSES; p++)
+        if (byte_of(start_labels, p) != 0) return refused(9);
+    struct fault fault = read_rule(rule, rule_len, k, &read);
+    if (fault.number != 0) return reply_word(fault.number, 0, 0, fault.place);
+    memset(m, 0, sizeof *m);
+    m->k = (unsigned)k;
+    m->rule = read;
+    for (unsigned p = 0; p < PROCESSES; p++) m->start[p] = byte_of(start_labels, p);
+    return lay_down(m, record, window, window_len);
+}
+
+static bool meets(const struct event *e, const struct event *f) {
+    for (unsigned p = 0; p < PROCESSES; p++)
+        if (involved(e, p) && involved(f, p) && e->clock[p] == f->clock[p]) return true;
+    return false;
+}
+
+static unsigned refused_by_state(const struct model *m, const struct event *e) {
+    for (unsigned p = 0; p < PROCESSES; p++)
+        if (involved(e, p) && e->clock[p] <= m->history.taken[p]) return 31;
+    for (unsigned i = 0; i < m->pending_number; i++)
+        if (meets(e, &m->pending[i])) return 32;
+    return m->pending_number == PENDING ? 33 : 0;
+}
+
+static int by_key(const void *x, const void *y) {
+    const struct event *e = x, *f = y;
+    unsigned p = lowest_process(e), q = lowest_process(f);
+    if (p != q) return p < q ? -1 : 1;
+    return e->clock[p] < f->clock[p] ? -1 : e->clock[p] > f->clock[p];
+}
+
+static size_t frontiers(const struct history *h, unsigned k) {
+    struct cuts all = all_cuts(h);
+    size_t number = kept_number(&all, k);
+    free_cuts(&all);
+    return number;
+}
+
+uint64_t model_offer(struct model *m, uint64_t mask, uint64_t clock_low, uint64_t clock_high, uint64_t labels,
+                     uint8_t *record, size_t record_len) {
+    if (record_len != RECORD) return refused(6);
+    unsigned number = refused_event(m->k, mask, clock_low, clock_high, labels);
+    if (number != 0) return refused(number);
+    struct event e = event_of(mask, clock_low, clock_high, labels);
+    number = refused_by_state(m, &e);
+    if (number != 0) return refused(number);
+    m->pending[m->pending_number++] = e;
+    qsort(m->pending, m->pending_number, sizeof e, by_key);
+    write_record(m, frontiers(&m->history, m->k), record);
+    return reply_word(0, 0, m->pending_number, 0);
+}
+
+static void leave(struct model *m, unsigned place) {
+    m->pending_number--;
+    for (unsigned i = place; i < m->pending_number; i++) m->pending[i] = m->pending[i + 1];
+}
+
+static bool fits(const struct model *m, const struct event *e, size_t window_len) {
+    struct history longer = m->history;
+    append(&longer, e);
+    return frontiers(&longer, m->k) * FRONTIER <= window_len;
+}
+
+uint64_t model_take(struct model *m, uint8_t *record, size_t record_len, uint8_t *window, size_t window_len,
+                    uint8_t *scratch, size_t scratch_len) {
+    if (record_len != RECORD || !window_length(window_len) || scratch_len != window_len) return refused(6);
+    if (frontiers(&m->history, m->k) * FRONTIER > window_len) return refused(34);
+    unsigned answer = 0;
+    memset(scratch, 0, scratch_len);
+    for (unsigned i = 0; i < m->pending_number; i++) {
+        struct event e = m->pending[i];
+        if (!ready(&e, m->history.taken)) continue;
+        answer = 36;
+        if (!true_clock(&e, &m->history)) {
+            leave(m, i);
+            write_record(m, frontiers(&m->history, m->k), record);
+            return refused(35);
+        }
+        if (fits(m, &e, window_len)) {
+            leave(m, i);
+            append(&m->history, &e);
+            return lay_down(m, record, window, window_len);
+        }
+    }
+    return refused(answer);
+}
+
+uint64_t model_find(const struct model *m, uint64_t line, size_t record_len, size_t window_len) {
+    if (record_len != RECORD || !window_length(window_len)) return refused(6);
+    struct cuts all = all_cuts(&m->history);
+    bool short_window = kept_number(&all, m->k) * FRONTIER > window_len, found = false;
+    judge_cuts(&all, &m->history, &m->rule, m->start);
+    for (size_t i = 0; line < m->rule.lines && i < all.n; i++)
+        if (kept(&all, &all.cut[i], m->k) && all.cut[i].lines >> line & 1) found = true;
+    free_cuts(&all);
+    if (short_window) return refused(34);
+    return line < m->rule.lines ? reply_word(0, found, 0, 0) : refused(11);
+}

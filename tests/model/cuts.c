@@ -1,0 +1,71 @@
+/* Consistent cuts, what precedes what, and what is dropped: sections "Clocks and cuts" and "The window". */
+#include <stdlib.h>
+#include <string.h>
+
+#include "model.h"
+
+static bool consistent(const struct history *h, const unsigned *counts) {
+    for (unsigned p = 0; p < PROCESSES; p++) {
+        const struct event *last = numbered(h, p, counts[p]);
+        for (unsigned q = 0; last != NULL && q < PROCESSES; q++)
+            if (last->clock[q] > counts[q]) return false;
+    }
+    return true;
+}
+
+/* The next vector up to the top: the last process counts fastest. */
+static void count_on(unsigned *counts, const unsigned *top) {
+    unsigned p = PROCESSES;
+    while (p > 0 && counts[p - 1] == top[p - 1]) counts[--p] = 0;
+    if (p > 0) counts[p - 1]++;
+}
+
+struct cuts all_cuts(const struct history *h) {
+    struct cuts all = {.n = 1};
+    for (unsigned p = 0; p < PROCESSES; p++) {
+        all.top[p] = h->taken[p];
+        all.n *= all.top[p] + 1;
+    }
+    all.cut = calloc(all.n, sizeof *all.cut);
+    if (all.cut == NULL) abort();
+    unsigned counts[PROCESSES] = {0};
+    for (size_t i = 0; i < all.n; i++) {
+        memcpy(all.cut[i].counts, counts, sizeof counts);
+        all.cut[i].consistent = consistent(h, counts);
+        count_on(counts, all.top);
+    }
+    return all;
+}
+
+size_t cut_place(const struct cuts *all, const unsigned *counts) {
+    size_t place = 0;
+    for (unsigned p = 0; p < PROCESSES; p++) place = place * (all->top[p] + 1) + counts[p];
+    return place;
+}
+
+bool precedes(const struct cuts *all, const struct event *e, const struct cut *s, size_t *place) {
+    unsigned before[PROCESSES];
+    for (unsigned p = 0; p < PROCESSES; p++) {
+        if (involved(e, p) && s->counts[p] == 0) return false;
+        before[p] = s->counts[p] - involved(e, p);
+    }
+    *place = cut_place(all, before);
+    return all->cut[*place].consistent && ready(e, before);
+}
+
+bool kept(const struct cuts *all, const struct cut *s, unsigned k) {
+    for (unsigned p = 0; p < k; p++)
+        if (s->counts[p] == all->top[p]) return s->consistent;
+    return false;
+}
+
+size_t kept_number(const struct cuts *all, unsigned k) {
+    size_t number = 0;
+    for (size_t i = 0; i < all->n; i++) number += kept(all, &all->cut[i], k);
+    return number;
+}
+
+void free_cuts(struct cuts *all) {
+    free(all->cut);
+    all->cut = NULL;
+}

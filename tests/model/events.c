@@ -1,0 +1,45 @@
+/* Events and histories: section "Clocks and cuts" of the scope. */
+#include <stdlib.h>
+
+#include "model.h"
+
+bool involved(const struct event *e, unsigned p) {
+    return e->mask >> p & 1;
+}
+
+unsigned lowest_process(const struct event *e) {
+    unsigned p = 0;
+    while (p < PROCESSES && !involved(e, p)) p++;
+    return p;
+}
+
+void append(struct history *h, const struct event *e) {
+    if (h->n == HISTORY) abort();
+    for (unsigned p = 0; p < PROCESSES; p++)
+        if (involved(e, p)) h->places[p][h->taken[p]++] = h->n;
+    h->event[h->n++] = *e;
+}
+
+const struct event *numbered(const struct history *h, unsigned p, unsigned n) {
+    return n > 0 && n <= h->taken[p] ? &h->event[h->places[p][n - 1]] : NULL;
+}
+
+bool ready(const struct event *e, const unsigned *counts) {
+    for (unsigned p = 0; p < PROCESSES; p++) {
+        if (involved(e, p) && e->clock[p] != counts[p] + 1) return false;
+        if (!involved(e, p) && e->clock[p] > counts[p]) return false;
+    }
+    return true;
+}
+
+bool true_clock(const struct event *e, const struct history *h) {
+    for (unsigned q = 0; q < PROCESSES; q++) {
+        unsigned largest = 0;
+        for (unsigned p = 0; p < PROCESSES; p++) {
+            const struct event *last = numbered(h, p, h->taken[p]);
+            if (involved(e, p) && last != NULL && last->clock[q] > largest) largest = last->clock[q];
+        }
+        if (e->clock[q] != largest + involved(e, q)) return false;
+    }
+    return true;
+}
