@@ -4,7 +4,8 @@ use crate::Found;
 use frontiers::Frontier;
 ghost use Prim.Native.Nat.{_+_, _*_, _≤_, _<_};
 ghost use mathlib.Core.Path.{_≡_};
-ghost use lib.ListN.{length};
+ghost use mathlib.Core.Bool.{true};
+ghost use lib.ListN.{length, getD};
 ghost use Rattle.frontiers.specs.Width.{Width};
 ghost use Rattle.frontiers.specs.Bytes.{frontierLength, frontierAt, frontiers};
 ghost use Rattle.window.specs.Step.{Setting, consider as considered, gathered};
@@ -36,7 +37,7 @@ fn values_at(s: &[u8], w: usize, i: usize) -> u64
     frontiers::stored::read_values(s, place, w)
 }
 
-// Process p is considered: looked up from its hint among the m frontiers laid down, and counted in where it is found.
+// Process p, which is sought, is considered: looked up from its hint among the m frontiers laid down, and counted in where it is found.
 fn consider(
     scratch: &[u8],
     w: usize,
@@ -50,13 +51,11 @@ fn consider(
     requires { ⌜ m ≤ 1024 ⌝ }
     requires { ⌜ m * frontierLength w ≤ length (now scratch) ⌝ }
     requires { ⌜ p < 8 ⌝ }
+    requires { ⌜ soughtWith mask (getD (g .masks) p 0) p ≡ true ⌝ }
     ensures { λ r. ⌜ ((s : Setting) → s .stored ≡ 8 → s .event .mask ≡ mask → gatheredOf r ≡ considered s (frontiers w (now (scratch .entry)) m) g p (gatheredOf prior)) ⌝ }
 {
     let i = p as usize;
     let last = g.masks[i];
-    if !is_sought(mask, last, p) {
-        return prior;
-    }
     let counts = g.counts;
     let key = clocks::step::minus(last, counts);
     let mut hints = prior.hints;
@@ -75,7 +74,7 @@ fn consider(
     }
 }
 
-// All eight processes are considered; the frontier that g came from precedes it always.
+// All processes that are sought are considered; the frontier that g came from precedes it always.
 pub fn gather(scratch: &[u8], w: usize, m: usize, mask: u8, g: Frontier, hints: [usize; 8]) -> Found
     requires { ⌜ Width w ⌝ }
     requires { ⌜ m ≤ 1024 ⌝ }
@@ -87,10 +86,15 @@ pub fn gather(scratch: &[u8], w: usize, m: usize, mask: u8, g: Frontier, hints: 
         ands: g.values,
         hints,
     };
+    let masks = g.masks;
     let mut p: u32 = 0;
     while p < 8 {
-        let next = consider(scratch, w, m, mask, g, p, found);
-        found = next;
+        let i = p as usize;
+        let last = masks[i];
+        if is_sought(mask, last, p) {
+            let next = consider(scratch, w, m, mask, g, p, found);
+            found = next;
+        }
         p = p + 1;
     }
     found

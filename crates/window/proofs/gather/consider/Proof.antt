@@ -19,13 +19,6 @@ use lib.Bits.{bitOr, bitAnd}
 element-copy-out-last : tie.Need-element-copy-out-last
 element-copy-out-last c = search needs
 
-is-sought-requires : tie.Need-is-sought-requires
-is-sought-requires c κs = search needs
-
-returns : tie.Need-returns
-returns c = λ s h v. let a = c .before .before .before .before .args in
-    sym (consider-passed s (a .mask) h v (frontiers (a .w) (now (a .scratch)) (a .m)) (a .t5) (a .p) (gatheredOf (a .prior)) (sym (c .before .is-sought .ensures) ∙ not-true _ (c .if1 .taken)))
-
 minus-requires : tie.Need-minus-requires
 minus-requires c κs = search needs
 
@@ -47,23 +40,19 @@ array-write-hints c = search needs
 stands-at-requires : tie.Need-stands-at-requires
 stands-at-requires c κs = search needs
 
--- What is known where the look-up has ended: process p is sought.
-sought-here : (c : tie.After-stands-at) → soughtWith (c .before .before .before .before .before .before .before .before .before .args .mask) (getD (c .before .before .before .before .before .before .before .before .before .args .t5 .masks) (c .before .before .before .before .before .before .before .before .before .args .p) 0) (c .before .before .before .before .before .before .before .before .before .args .p) ≡ true
-sought-here c = let d = c .before .before .before .before .before in sym (d .before .is-sought .ensures) ∙ not-false _ (d .if1 .left)
-
-returns-2 : tie.Need-returns-2
-returns-2 c = λ s h v. let d = c .before .before .before .before in
-    let a = d .before .before .before .before .before .before .args in
+returns : tie.Need-returns
+returns c = λ s h v. let d = c .before .before .before .before in
+    let a = d .before .before .before .before .args in
     sym (consider-missing s (a .mask) h v (frontiers (a .w) (now (a .scratch)) (a .m)) (a .t5) (a .p) (gatheredOf (a .prior))
-    (sought-here (c .before))
-    (d .minus .result) (d .minus .ensures) (c .before .before .seek .result) (c .before .before .seek .ensures) (sym (c .before .stands-at .ensures) ∙ not-true _ (c .if2 .taken)))
+    (d .before .before .before .before .pre .1 .1 .1 .1)
+    (d .minus .result) (d .minus .ensures) (c .before .before .seek .result) (c .before .before .seek .ensures) (sym (c .before .stands-at .ensures) ∙ not-true _ (c .if1 .taken)))
 
 values-at-requires : tie.Need-values-at-requires
 values-at-requires c κs =
     let d = c .before .before .before .before in
-    let a = d .before .before .before .before .before .before .args in
+    let a = d .before .before .before .before .args in
     let i = c .before .before .seek .result in
-    let within : i < a .m = stands-within (a .w) (now (a .scratch)) (a .m) (d .minus .result) i (sym (c .before .stands-at .ensures) ∙ not-false _ (c .if2 .left)) in
+    let within : i < a .m = stands-within (a .w) (now (a .scratch)) (a .m) (d .minus .result) i (sym (c .before .stands-at .ensures) ∙ not-false _ (c .if1 .left)) in
     (search needs, (omega arith, omega (arith, place-within i (a .m) (a .w) within)))
 
 or-words-requires : tie.Need-or-words-requires
@@ -72,18 +61,18 @@ or-words-requires c κs = search needs
 and-words-requires : tie.Need-and-words-requires
 and-words-requires c κs = search needs
 
-returns-3 : tie.Need-returns-3
-returns-3 c = λ s h v. let b = c .before .before .before in
+returns-2 : tie.Need-returns-2
+returns-2 c = λ s h v. let b = c .before .before .before in
     let d = b .before .before .before .before in
-    let a = d .before .before .before .before .before .before .args in
+    let a = d .before .before .before .before .args in
     let i = b .before .before .seek .result in
-    let stands = sym (b .before .stands-at .ensures) ∙ not-false _ (b .if2 .left) in
+    let stands = sym (b .before .stands-at .ensures) ∙ not-false _ (b .if1 .left) in
     let within : i < a .m = stands-within (a .w) (now (a .scratch)) (a .m) (d .minus .result) i stands in
     let laid = frontiers (a .w) (now (a .scratch)) (a .m) in
     let e : valuesAt laid i ≡ c .before .before .values-at .result = values-at (a .w) (now (a .scratch)) (a .m) i within ∙ sym (c .before .before .values-at .ensures) in
     let o : c .before .or-words .result ≡ bitOr (a .prior .ors) (valuesAt laid i) = c .before .or-words .ensures ∙ ap (bitOr (a .prior .ors)) (sym e) in
     let n : c .and-words .result ≡ bitAnd (a .prior .ands) (valuesAt laid i) = c .and-words .ensures ∙ ap (bitAnd (a .prior .ands)) (sym e) in
-    rw (o, n) (sym (consider-found s (a .mask) h v laid (a .t5) (a .p) (gatheredOf (a .prior)) (sought-here (b .before))
+    rw (o, n) (sym (consider-found s (a .mask) h v laid (a .t5) (a .p) (gatheredOf (a .prior)) (d .before .before .before .before .pre .1 .1 .1 .1)
     (d .minus .result) (d .minus .ensures) i (b .before .before .seek .ensures) stands))
 
 pub consider-spec : {M : Type 1} → statement M
@@ -91,8 +80,6 @@ consider-spec =
     tie.close
     (tie.spec
     element-copy-out-last
-    is-sought-requires
-    returns
     minus-requires
     mul-seek
     array-read-seek
@@ -100,8 +87,8 @@ consider-spec =
     mul-hints
     array-write-hints
     stands-at-requires
-    returns-2
+    returns
     values-at-requires
     or-words-requires
     and-words-requires
-    returns-3)
+    returns-2)
