@@ -36,7 +36,7 @@ use Rattle.records.specs.Record.{keptCount, removed}
 use Rattle.records.specs.Refusals.{badRecordLength, badWindowLength, roomOf, badState}
 use Rattle.watch.specs.Answer.{turnedBack}
 use Rattle.watch.specs.Deciding.{Outcome, outcome, none-decides, falsifies, chooses}
-use Rattle.demands.specs.TakeLaws.{falsified-watching, taken-watching}
+use Rattle.demands.specs.TakeLaws.{falsified-watching, taken-watching, taken-window}
 use Rattle.demands.specs.Status.{removeAt}
 
 -- ---- A watch and its ledger
@@ -176,9 +176,10 @@ module _ (w k : ℕ) (table : List Line) (start : Cut) (R : Rule w k table start
         go (chooses j l q r v f x) =
             let i : 0 + j ≡ j = omega arith in
             let many : length (gs j l) ≤ roomOf w (length lent) = fits-room j l f in
-            rw (q, i, says-event w k table start R L bytes lent X j noEvent l, setting-in w k table start R L bytes lent X (getD (L .pending) j noEvent))
+            let fit = room-iff w (length (gs j l)) (length lent) .0 many in
+            rw (q, i, says-event w k table start R L bytes lent X j noEvent l, setting-in w k table start R L bytes lent X (getD (L .pending) j noEvent), taken-window w k table start R L bytes lent X j noEvent l (is-ready j l r) (is-valid j l v) fit)
             (taken-watching w k table start R L bytes lent X j noEvent l (is-ready j l r) (is-valid j l v) (length lent)
-            (room-iff w (length (gs j l)) (length lent) .0 many) (le-trans many (room-1024 h)))
+            fit (le-trans many (room-1024 h)))
 
   -- ---- Theorem
   pub after-right : (W : Watch) → WatchRight w k table start W → (c : Call) → Passed w c → WatchRight w k table start (after w c W)

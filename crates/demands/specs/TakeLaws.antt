@@ -10,10 +10,10 @@ use lib.ListN.{length, getD}
 use Rattle.rules.specs.declared.Line.{Line}
 use Rattle.clocks.specs.declared.Event.{Event}
 use Rattle.codec.specs.BitLaws.{bit-zero}
-use Rattle.frontiers.specs.WindowLaws.{length-windowBytes}
+use Rattle.frontiers.specs.WindowLaws.{length-windowBytes, replaced-windowBytes}
 use Rattle.window_laws.specs.Represents.{World, openIn, Proper, Represents, settingOf}
 use Rattle.frontiers.specs.ListLaws.{place-member}
-use Rattle.frontiers.specs.Bytes.{windowBytes, frontierLength}
+use Rattle.frontiers.specs.Bytes.{windowBytes, replaced, frontierLength}
 use Rattle.rules.specs.Reader.{formed}
 use Rattle.clocks.specs.History.{taken, clockOf, lastClock, In, Causal}
 use Rattle.clocks.specs.Event.{Cut, Ready, count, involved, apply}
@@ -129,6 +129,12 @@ module _ (w k : ℕ) (table : List Line) (start : Cut) (R : Rule w k table start
 
       shaped : AllShaped w gs
       shaped = all-shaped w (e ∷ ts) causal storable-later k table start (R .short) (R .labels-fit) gs stepped-right
+
+      -- the bytes behind the old frontiers were 0, so those behind the new ones are
+      pub taken-window : length gs * frontierLength w ≤ length window → replaced w window (length (X .kept)) gs ≡ windowBytes w (length window) gs
+      taken-window g =
+          ap (λ (v : List ℕ). replaced w v (length (X .kept)) gs) (X .window-is)
+          ∙ replaced-windowBytes w (length window) (X .kept) gs (kept-shaped w k table start R L bytes window X) shaped (X .room) g
 
       -- pending events that are left have other counts than the one taken
       still-untaken : (f : Event) → List·Memᴰ f (removeAt i (L .pending)) → (p : ℕ) → involved f p ≡ true → taken (e ∷ ts) p < count f p

@@ -2,6 +2,7 @@
 use Prim.Native.Nat.{ℕ, _+_, _-_, _*_}
 use mathlib.Core.List.{List, [], _∷_, _++_}
 use lib.ListN.{length, take, drop, replicate}
+use lib.Seq.{sets}
 use Rattle.codec.specs.Little.{bytesOf, number}
 use Rattle.clocks.specs.Counts.{at, listOf}
 use Rattle.frontiers.specs.declared.Frontier.{Frontier}
@@ -43,3 +44,7 @@ framed w (f ∷ fs) = frontierBytes w f ++ framed w fs
 -- A window of so many bytes: its frontiers, then zeros (01: bytes after the last are 0).
 unfoldable pub windowBytes : ℕ → ℕ → List Frontier → List ℕ
 windowBytes w total fs = framed w fs ++ replicate (total - length fs * frontierLength w) 0
+
+-- A window in which others stand in place of its first n frontiers: zeros where there were more of them, and the rest as it was.
+unfoldable pub replaced : ℕ → List ℕ → ℕ → List Frontier → List ℕ
+replaced w s n fs = sets (sets s 0 (framed w fs)) (length fs * frontierLength w) (replicate ((n - length fs) * frontierLength w) 0)

@@ -13,4 +13,5 @@ pub mod Shaped
 pub mod BytesLaws
 pub mod WindowLaws
 pub mod StoreLaws
+pub mod MovingSteps
 pub mod LookupLaws

@@ -77,19 +77,3 @@ part-filled s a n l h e f =
     let long : length (take n (drop a s)) ≡ n = length-take-le n (drop a s) (simp length-drop (omega arith)) in
     ext-getD 0 l (take n (drop a s)) (e ∙ sym long)
     (λ q m. let m′ : q < n = omega arith in f q m′ ∙ sym (getD-take n (drop a s) q 0 m′ ∙ getD-drop a s q 0))
-
--- ---- Bytes copied to the front, and cleared bytes
-
--- The next byte, copied behind the first p.
-pub copied-more : (s bs : List ℕ) (p : ℕ) → p < length bs → set (sets s 0 (take p bs)) p (getD bs p 0) ≡ sets s 0 (take (p + 1) bs)
-copied-more s bs p l = rw (zero-add p) at (sets-more s 0 bs p l)
-
--- Bytes copied to the front, and a cleared tail that was lent behind them.
-pub copied-cleared : (s bs : List ℕ) (n : ℕ) → n ≤ length s → n ≤ length bs
-    → take n (sets s 0 (take n bs)) ++ (replicate (length (take (length (sets s 0 (take n bs)) - n) (drop n (sets s 0 (take n bs))))) 0 ++ drop (length (sets s 0 (take n bs)) - n) (drop n (sets s 0 (take n bs)))) ≡ take n bs ++ replicate (length s - n) 0
-copied-cleared s bs n h k =
-    let long : length (sets s 0 (take n bs)) ≡ length s = length-sets s 0 (take n bs) in
-    let part : length (take n bs) ≡ n = length-take-le n bs k in
-    let rest : length (drop n (sets s 0 (take n bs))) ≡ length s - n = rw (length-drop, long) in
-    let front : take n (sets s 0 (take n bs)) ≡ take n bs = rw part at (part-sets s 0 (take n bs) (omega arith)) in
-    rw (long, front, take-all (length s - n) (drop n (sets s 0 (take n bs))) (omega arith), rest, drop-of-length-le (drop n (sets s 0 (take n bs))) {i = length s - n} (omega arith), append-nil)

@@ -2,19 +2,19 @@
 use Prim.Native.Nat.{ℕ, zero, suc, _+_, _-_, _*_, _≤_, _<_}
 use native.Mathlib.Omega.{arith}
 use native.Mathlib.Numerals.{add-one}
-use native.Mathlib.Nat.{zero-mul, suc-mul, le-of-suc-le-suc, le-refl}
+use native.Mathlib.Nat.{zero-mul, suc-mul, mul-comm, mul-sub, le-of-suc-le-suc, le-refl}
 use mathlib.Core.Path.{_≡_, refl, sym, _∙_, ap}
 use mathlib.Core.List.{List, [], _∷_, _++_, List·Memᴰ·head, List·Memᴰ·tail, append-assoc, append-nil}
-use lib.ListN.{length, getD, take, replicate, length-append, length-replicate, drop, length-map, List·getD-map}
-use lib.Seq.{sets, drop-at, length-take-le, take-add, sets-eq}
+use lib.ListN.{length, getD, take, replicate, length-append, length-replicate, drop, length-map, List·getD-map, replicate-append-replicate}
+use lib.Seq.{sets, drop-at, drop-append-add, length-take-le, take-add, sets-eq}
 use Rattle.codec.specs.Little.{Bytes, number}
 use Rattle.clocks.specs.Counts.{listOf, at}
-use Rattle.codec.specs.SetsLaws.{take-sets}
+use Rattle.codec.specs.SetsLaws.{take-sets, part-sets, sets-append}
 use Rattle.clocks.specs.CountsLaws.{length-listOf, getD-listOf, filled, listOf-same}
 use Rattle.frontiers.specs.declared.Frontier.{Frontier}
 use Rattle.frontiers.specs.Shaped.{Shaped, AllShaped}
 use Rattle.frontiers.specs.BytesLaws.{count-within, length-frontierBytes, frontierFrom-drop, frontierFrom-bytes, frontierFrom-alike, frontierBytes-from, shaped-from}
-use Rattle.frontiers.specs.Bytes.{frontierLength, frontierBytes, frontierAt, frontiers, framed, windowBytes, frontierFrom}
+use Rattle.frontiers.specs.Bytes.{frontierLength, frontierBytes, frontierAt, frontiers, framed, windowBytes, replaced, frontierFrom}
 use Rattle.frontiers.specs.ListLaws.{member-place, listOf-more, part-alike}
 use Rattle.frontiers.specs.OrderLaws.{last}
 use Rattle.frontiers.specs.Seek.{keysOf}
@@ -163,14 +163,73 @@ module _ (w : ℕ) (s : List ℕ) (n : ℕ) (f : Frontier) (h : Shaped w f) (roo
   frontiers-stored =
       rw (add-one, frontiers-more w _ n, frontierAt-stored, frontiers-alike w (sets s (n * frontierLength w) (frontierBytes w f)) s n (take-sets (n * frontierLength w) s (n * frontierLength w) (frontierBytes w f) (le-refl _)))
 
--- The bytes of the first n frontiers, then zeros, are their window.
-pub windowBytes-frontiers : (w : ℕ) (s : List ℕ) (n total far : ℕ) → Bytes s → n * frontierLength w ≤ length s → far ≡ n * frontierLength w
-    → take far s ++ replicate (total - far) 0 ≡ windowBytes w total (frontiers w s n)
-unfolding windowBytes
-windowBytes-frontiers w s n total far b h e = rw (framed-frontiers w s n b h, length-frontiers w s n, e)
+-- ---- Frontiers replaced
 
--- What was copied over a window is read back from it.
-pub read-back : (w : ℕ) (s : List ℕ) (n total : ℕ) → Bytes s → n * frontierLength w ≤ length s → frontiers w (windowBytes w total (frontiers w s n)) n ≡ frontiers w s n
-read-back w s n total b l =
-    ap (frontiers w (windowBytes w total (frontiers w s n))) (sym (length-frontiers w s n))
-    ∙ frontiers-windowBytes w total (frontiers w s n) (shaped-frontiers w s n b l)
+-- What is left of n frontiers behind m others lies within the window.
+pub left-within : (F m n total : ℕ) → m * F ≤ total → n * F ≤ total → m * F + (n - m) * F ≤ total
+left-within F m n total h k = rw (mul-comm (n - m) F, mul-sub F n m, mul-comm F n, mul-comm F m) (omega arith)
+
+-- The bytes of m frontiers copied, and what is left of the old ones cleared.
+pub copied-replaced : (w : ℕ) (s bs : List ℕ) (n m far left : ℕ) → Bytes bs → m * frontierLength w ≤ length bs → far ≡ m * frontierLength w → left ≡ (n - m) * frontierLength w
+    → sets (sets s 0 (take far bs)) far (replicate left 0) ≡ replaced w s n (frontiers w bs m)
+unfolding replaced
+copied-replaced w s bs n m far left b h e l = rw (framed-frontiers w bs m b h, length-frontiers w bs m, e, l)
+
+-- They are read back.
+pub read-back : (w : ℕ) (s bs : List ℕ) (n m : ℕ) → Bytes bs → m * frontierLength w ≤ length bs → m * frontierLength w ≤ length s
+    → frontiers w (replaced w s n (frontiers w bs m)) m ≡ frontiers w bs m
+unfolding replaced
+read-back w s bs n m b h k =
+    let far : ℕ = m * frontierLength w in
+    let long : length (take far bs) ≡ far = length-take-le far bs h in
+    let front : take far (sets s 0 (take far bs)) ≡ take far bs = rw long at (part-sets s 0 (take far bs) (omega arith)) in
+    rw (framed-frontiers w bs m b h, length-frontiers w bs m)
+    (frontiers-alike w (sets (sets s 0 (take far bs)) far (replicate ((n - m) * frontierLength w) 0)) bs m
+    (take-sets far (sets s 0 (take far bs)) far (replicate ((n - m) * frontierLength w) 0) (le-refl far) ∙ front))
+
+-- ---- A window's frontiers replaced
+
+abbrev zeros : ℕ → List ℕ
+zeros n = replicate n 0
+
+-- Zeros less some are zeros.
+drop-zeros : (d n : ℕ) → d ≤ n → drop d (zeros n) ≡ zeros (n - d)
+drop-zeros d n l =
+    let whole : n ≡ d + (n - d) = omega arith in
+    ap (λ (m : ℕ). drop d (zeros m)) whole
+    ∙ ap (drop d) (sym (replicate-append-replicate d (n - d) 0))
+    ∙ drop-at (zeros d) (zeros (n - d)) d (length-replicate d 0)
+
+-- Bytes stored over others and zeros, and zeros over what is left of those.
+over-zeros : (olds news : List ℕ) (total : ℕ) → length olds ≤ total → length news ≤ total
+    → sets (sets (olds ++ zeros (total - length olds)) 0 news) (length news) (zeros (length olds - length news)) ≡ news ++ zeros (total - length news)
+over-zeros olds news total h k =
+    let left : ℕ = length olds - length news in
+    let more : ℕ = length news - length olds in
+    let rest : List ℕ = zeros (total - length olds) in
+    let stored : List ℕ = news ++ zeros left in
+    let long : length stored ≡ length olds + more = rw (length-append, length-replicate) (omega arith) in
+    let whole : length (olds ++ rest) ≡ total = rw (length-append, length-replicate) (omega arith) in
+    let start : length news ≡ 0 + length news = omega arith in
+    let once : sets (sets (olds ++ rest) 0 news) (length news) (zeros left) ≡ sets (olds ++ rest) 0 stored =
+    ap (λ (n : ℕ). sets (sets (olds ++ rest) 0 news) n (zeros left)) start ∙ sets-append (olds ++ rest) 0 news (zeros left) in
+    let far : 0 + length stored ≡ length olds + more = omega arith in
+    let zeros-left : left + (total - length olds - more) ≡ total - length news = omega arith in
+    let behind : drop (0 + length stored) (olds ++ rest) ≡ zeros (total - length olds - more) =
+    ap (λ (n : ℕ). drop n (olds ++ rest)) far ∙ drop-append-add olds rest more ∙ drop-zeros more (total - length olds) (omega arith) in
+    once
+    ∙ sets-eq stored (olds ++ rest) 0 (omega arith)
+    ∙ ap (λ (l : List ℕ). stored ++ l) behind
+    ∙ append-assoc news (zeros left) (zeros (total - length olds - more))
+    ∙ ap (λ (l : List ℕ). news ++ l) (replicate-append-replicate left (total - length olds - more) 0 ∙ ap zeros zeros-left)
+
+-- Where the bytes behind the old frontiers are 0, those behind the new ones are.
+pub replaced-windowBytes : (w total : ℕ) (fs gs : List Frontier) → AllShaped w fs → AllShaped w gs
+    → length fs * frontierLength w ≤ total → length gs * frontierLength w ≤ total → replaced w (windowBytes w total fs) (length fs) gs ≡ windowBytes w total gs
+unfolding replaced windowBytes
+replaced-windowBytes w total fs gs f g h k =
+    let F : ℕ = frontierLength w in
+    let a : length (framed w fs) ≡ length fs * F = length-framed w fs f in
+    let b : length (framed w gs) ≡ length gs * F = length-framed w gs g in
+    let left : (length fs - length gs) * F ≡ length fs * F - length gs * F = rw (mul-comm (length fs - length gs) F, mul-sub F (length fs) (length gs), mul-comm F (length fs), mul-comm F (length gs)) in
+    rw (left, ← a, ← b) (over-zeros (framed w fs) (framed w gs) total (omega arith) (omega arith))

@@ -2,6 +2,7 @@
 
 pub mod counts;
 pub mod lookup;
+pub mod moving;
 pub mod order;
 pub mod place;
 pub mod stored;

@@ -5,7 +5,6 @@ pub mod Record
 pub mod Refusals
 -- What the code's proofs cite
 pub mod ListSteps
-pub mod MovingSteps
 pub mod RecordSteps
 pub mod UpdateSteps
 pub mod RefusalSteps

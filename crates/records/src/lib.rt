@@ -2,8 +2,6 @@
 
 // The record's fields, read.
 pub mod fields;
-// Bytes moved within a slice, or cleared.
-pub mod moving;
 // The record's bytes, changed.
 pub mod update;
 // What a call is turned back for.

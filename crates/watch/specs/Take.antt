@@ -9,7 +9,7 @@ use Rattle.frontiers.specs.declared.Frontier.{Frontier}
 use Rattle.clocks.specs.declared.Event.{Event}
 use Rattle.codec.specs.Bit.{bit}
 use Rattle.window.specs.Step.{Setting, stepped, fits}
-use Rattle.frontiers.specs.Bytes.{frontiers, windowBytes}
+use Rattle.frontiers.specs.Bytes.{frontiers, replaced}
 use Rattle.clocks.specs.History.{event}
 use Rattle.clocks.specs.Event.{apply}
 use Rattle.clocks.specs.Counts.{at, listOf}
@@ -65,7 +65,7 @@ decided w s window fs (chosen i) =
     record {
       answer = stateOf (lineTotal s) (listOf 8 (apply e (at (takenCounts w s)))) gs;
       bytes = counted w (removed w s i) e (length gs);
-      window = windowBytes w (length window) gs;
+      window = replaced w window (length fs) gs;
       scratch = replicate (length window) 0;
     }
 

@@ -3,8 +3,8 @@
 use crate::reply::state_word;
 use crate::reply::turned_word;
 use frontiers::Frontier;
-use records::moving::clear;
-use records::moving::copy_in;
+use frontiers::moving::clear;
+use frontiers::moving::copy_in;
 use records::refusal::bad_processes;
 use records::refusal::bad_record_length;
 use records::refusal::bad_window_length;

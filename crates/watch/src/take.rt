@@ -26,7 +26,7 @@ ghost use lib.ListN.{length, getD, replicate};
 ghost use Rattle.codec.specs.Bit.{bit};
 ghost use Rattle.clocks.specs.Counts.{at};
 ghost use Rattle.frontiers.specs.Width.{Width};
-ghost use Rattle.frontiers.specs.Bytes.{frontierLength, frontiers, windowBytes};
+ghost use Rattle.frontiers.specs.Bytes.{frontierLength, frontiers, replaced};
 ghost use Rattle.window.specs.Step.{keptAfter, stepped};
 ghost use Rattle.window.specs.StepCode.{Fitting};
 ghost use Rattle.records.specs.Record.{recordLength, processCount, lineTotal, pendingCount, keptCount, pendingAt, pendingEvents, removed, counted};
@@ -113,7 +113,7 @@ fn step_window(
     requires { ⌜ Fitting w e ⌝ }
     requires { ⌜ T (readyIn w (now s) e) ⌝ }
     requires { ⌜ kept ≡ keptAfter (settingIn w (now s) e) (frontiers w (now window) n) ⌝ }
-    ensures window { λ r. ⌜ now (window .exit) ≡ windowBytes w (length (now (window .entry))) (stepped (settingIn w (now (s .entry)) e) (frontiers w (now (window .entry)) n)) ⌝ }
+    ensures window { λ r. ⌜ now (window .exit) ≡ replaced w (now (window .entry)) n (stepped (settingIn w (now (s .entry)) e) (frontiers w (now (window .entry)) n)) ⌝ }
     ensures scratch { λ r. ⌜ now (scratch .exit) ≡ replicate (length (now (scratch .entry))) 0 ⌝ }
     ensures frontiers { λ r. ⌜ frontiers w (now (window .exit)) kept ≡ stepped (settingIn w (now (s .entry)) e) (frontiers w (now (window .entry)) n) ⌝ }
 {

@@ -1,26 +1,13 @@
 // A window's step for an event: its frontiers are laid down in the scratch, and copied back.
 
 use clocks::Event;
-ghost use Prim.Native.Nat.{_*_, _≤_};
+ghost use Prim.Native.Nat.{_*_, _-_, _≤_};
 ghost use mathlib.Core.Path.{_≡_};
-ghost use lib.ListN.{length, take, replicate};
-ghost use lib.Seq.{sets};
+ghost use lib.ListN.{length, replicate};
 ghost use Rattle.frontiers.specs.Width.{Width};
-ghost use Rattle.frontiers.specs.Bytes.{frontierLength, frontiers, windowBytes};
+ghost use Rattle.frontiers.specs.Bytes.{frontierLength, frontiers, replaced};
 ghost use Rattle.window.specs.Step.{keptAfter, stepped};
 ghost use Rattle.window.specs.StepCode.{Fitting, settingWith};
-
-// Copies the first bytes of one slice over those of another.
-fn copy_bytes(to: &mut [u8], from: &[u8], count: usize)
-    requires { ⌜ (count ≤ length (now to)) × (count ≤ length (now from)) ⌝ }
-    ensures { λ r. ⌜ now (to .exit) ≡ sets (now (to .entry)) 0 (take count (now (from .entry))) ⌝ }
-{
-    let mut i = 0;
-    while i < count {
-        to[i] = from[i];
-        i = i + 1;
-    }
-}
 
 // Makes every byte 0.
 pub fn clear(s: &mut [u8])
@@ -33,19 +20,31 @@ pub fn clear(s: &mut [u8])
     }
 }
 
-// The first m frontiers of the scratch become the window; the rest of the window and the scratch are cleared.
-pub fn copy_back(window: &mut [u8], scratch: &mut [u8], w: usize, m: usize)
+// How many bytes are left of n frontiers behind m others.
+fn left_over(w: usize, n: usize, m: usize) -> usize
     requires { ⌜ Width w ⌝ }
-    requires { ⌜ m ≤ 1024 ⌝ }
-    requires { ⌜ m * frontierLength w ≤ length (now window) ⌝ }
+    requires { ⌜ n ≤ 1024 ⌝ }
+    ensures { λ r. ⌜ r ≡ (n - m) * frontierLength w ⌝ }
+{
+    if n <= m {
+        return 0;
+    }
+    frontiers::place::frontier_place(w, n - m)
+}
+
+// The first m frontiers of the scratch take the place of the window's n; what is left of those and the scratch are cleared.
+pub fn copy_back(window: &mut [u8], scratch: &mut [u8], w: usize, n: usize, m: usize)
+    requires { ⌜ Width w ⌝ }
+    requires { ⌜ (n ≤ 1024) × (n * frontierLength w ≤ length (now window)) ⌝ }
+    requires { ⌜ (m ≤ 1024) × (m * frontierLength w ≤ length (now window)) ⌝ }
     requires { ⌜ m * frontierLength w ≤ length (now scratch) ⌝ }
-    ensures { λ r. ⌜ now (window .exit) ≡ windowBytes w (length (now (window .entry))) (frontiers w (now (scratch .entry)) m) ⌝ }
+    ensures { λ r. ⌜ now (window .exit) ≡ replaced w (now (window .entry)) n (frontiers w (now (scratch .entry)) m) ⌝ }
     ensures { λ r. ⌜ now (scratch .exit) ≡ replicate (length (now (scratch .entry))) 0 ⌝ }
     ensures { λ r. ⌜ frontiers w (now (window .exit)) m ≡ frontiers w (now (scratch .entry)) m ⌝ }
 {
     let count = frontiers::place::frontier_place(w, m);
-    copy_bytes(window, scratch, count);
-    clear(&mut window[count..]);
+    frontiers::moving::copy_in(window, 0, scratch, count);
+    frontiers::moving::clear(window, count, left_over(w, n, m));
     clear(scratch);
 }
 
@@ -71,7 +70,7 @@ pub fn step(
     requires { ⌜ (lines ≤ 64) × (3 * lines ≤ length (now table)) ⌝ }
     requires { ⌜ k ≤ 8 ⌝ }
     requires { ⌜ kept ≡ keptAfter (settingWith k closed (now table) lines e reached) (frontiers w (now window) n) ⌝ }
-    ensures { λ r. ⌜ now (window .exit) ≡ windowBytes w (length (now (window .entry))) (stepped (settingWith k closed (now (table .entry)) lines e reached) (frontiers w (now (window .entry)) n)) ⌝ }
+    ensures { λ r. ⌜ now (window .exit) ≡ replaced w (now (window .entry)) n (stepped (settingWith k closed (now (table .entry)) lines e reached) (frontiers w (now (window .entry)) n)) ⌝ }
     ensures { λ r. ⌜ now (scratch .exit) ≡ replicate (length (now (scratch .entry))) 0 ⌝ }
     ensures { λ r. ⌜ frontiers w (now (window .exit)) kept ≡ stepped (settingWith k closed (now (table .entry)) lines e reached) (frontiers w (now (window .entry)) n) ⌝ }
 {
@@ -88,5 +87,5 @@ pub fn step(
         table,
         lines,
     );
-    copy_back(window, scratch, w, kept);
+    copy_back(window, scratch, w, n, kept);
 }

@@ -7,6 +7,7 @@ use mathlib.Core.Path.{_≡_, ap, _∙_}
 use borrow.Author.Needs.{needs}
 use denote.Ref.{now}
 use Rattle.watch.proofs.take.take_event.Statement.{statement}
+use Rattle.frontiers.specs.WindowLaws.{length-frontiers}
 use Rattle.watch.specs.Take.{decided}
 use Rattle.watch.specs.TakenSteps.{pending-fits, taken-answer, taken-bytes}
 
@@ -63,7 +64,7 @@ returns c =
     let event = c .before .before .before .before .before .before .before .before .before .before .before .before .before .before .before .before .before .pending-event .ensures in
     let step = c .before .before .before .before .before .before .before .before .before .before .before .step-window .ensures in (
       taken-answer (a .w) (now (a .s)) (now (a .window)) (a .n) (a .i) (a .kept) kept (c .before .before .before .before .before .before .before .before .before .before .before .step-window .last .1 .1 .0) _ _ _ (rw event at (step .1 .1)) (c .before .before .before .before .before .before .before .before .before .before .before .before .before .before .before .line-total .ensures .0) (c .before .verdict .ensures) (c .state-word .ensures),
-      (taken-bytes (a .w) (now (a .s)) (now (a .window)) (a .n) (a .i) (a .kept) kept _ _ event (c .before .before .before .before .before .count-event .ensures), (rw event at (step .0), step .1 .0 ∙ ap (λ (m : ℕ). replicate m 0) (asked .1 .1 .1 .1 .1 .0))),
+      (taken-bytes (a .w) (now (a .s)) (now (a .window)) (a .n) (a .i) (a .kept) kept _ _ event (c .before .before .before .before .before .count-event .ensures), (rw (length-frontiers (a .w) (now (a .window)) (a .n)) (rw event at (step .0)), step .1 .0 ∙ ap (λ (m : ℕ). replicate m 0) (asked .1 .1 .1 .1 .1 .0))),
     )
 
 pub take-event-spec : {M : Type 1} → statement M

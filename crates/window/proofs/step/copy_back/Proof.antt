@@ -1,35 +1,31 @@
--- The bytes of the frontiers, then zeros: the laws `copied-cleared` and `framed-frontiers`.
+-- The bytes of the frontiers, then zeros where there were more: the laws `copied-replaced` and `read-back`.
+use Rattle.window.proofs.step.copy_back.Tie as tie
+use Prim.Native.Nat.{ℕ, _-_, _*_, _<_}
 use native.Mathlib.Omega.{arith}
 use mathlib.Core.Path.{_≡_, ap, _∙_}
-use Prim.Native.Nat.{ℕ, _-_, _*_, _<_}
 use mathlib.Core.List.{List}
-use lib.ListN.{getD, length, take, drop, replicate}
+use lib.ListN.{getD, length, take, replicate}
+use lib.Seq.{sets}
 use borrow.Author.Needs.{needs}
-use Rattle.window.proofs.step.copy_back.Statement.{statement}
-use Rattle.window.proofs.step.copy_back.Tie as tie
 use denote.Ref.{now}
-use Rattle.frontiers.specs.StoreLaws.{copied-cleared}
 use Rattle.frontiers.specs.Bytes.{frontiers, frontierLength}
-use borrow.Rule.Slice.PartMut.{putMid}
-use Rattle.frontiers.specs.WindowLaws.{windowBytes-frontiers, read-back}
+use Rattle.frontiers.specs.WindowLaws.{left-within, copied-replaced, read-back}
+use Rattle.window.proofs.step.copy_back.Statement.{statement}
 
 frontier-place-requires : tie.Need-frontier-place-requires
 frontier-place-requires c κs = search needs
 
-copy-bytes-requires : tie.Need-copy-bytes-requires
-copy-bytes-requires c κs = search needs
+copy-in-requires : tie.Need-copy-in-requires
+copy-in-requires c κs = search needs
 
-sub-clear : tie.Need-sub-clear
-sub-clear c = search needs
-
-part-clear-start : tie.Need-part-clear-start
-part-clear-start c = search needs
-
-part-clear-end : tie.Need-part-clear-end
-part-clear-end c = search needs
+left-over-requires : tie.Need-left-over-requires
+left-over-requires c κs = search needs
 
 clear-requires : tie.Need-clear-requires
-clear-requires c κs = search needs
+clear-requires c κs =
+    let a = c .before .before .before .before .before .before .before .before .before .before .args in
+    let asked = c .before .before .before .before .before .before .before .before .before .before .pre in
+    omega (arith, left-within (frontierLength (a .w)) (a .m) (a .n) (length (now (a .window))) (asked .1 .1 .0 .1) (asked .1 .0 .1))
 
 clear-requires-2 : tie.Need-clear-requires-2
 clear-requires-2 c κs = search needs
@@ -42,27 +38,24 @@ same-length-2 c = search needs
 
 returns : tie.Need-returns
 returns c =
-    let a = c .before .before .before .before .before .before .before .before .before .before .before .before .before .before .before .before .args in
-    let n = c .before .before .before .before .before .before .before .before .before .before .before .before .before .frontier-place .result in
-    let e : n ≡ a .m * frontierLength (a .w) = c .before .before .before .before .before .before .before .before .before .before .before .before .before .frontier-place .ensures .0 in
-    let x = c .before .before .before .before .before .before .before .before .before .before .copy-bytes .last .0 in
-    let bytes : (i : ℕ) → getD (now (a .scratch)) i 0 < 256 = λ i. c .before .before .before .before .before .before .before .before .before .before .before .before .before .before .slice-known2 .given i .fits in
+    let a = c .before .before .before .before .before .before .before .before .before .before .before .before .before .before .before .before .before .args in
+    let asked = c .before .before .before .before .before .before .before .before .before .before .before .before .before .before .before .before .before .pre in
+    let far = c .before .before .before .before .before .before .before .before .before .before .before .before .before .before .frontier-place in
+    let left = c .before .before .before .before .before .before .before .left-over in
+    let bytes : (i : ℕ) → getD (now (a .scratch)) i 0 < 256 = λ i. c .before .before .before .before .before .before .before .before .before .before .before .before .before .before .before .slice-known2 .given i .fits in
     let window =
-    ap (putMid n (length x - n) x) (c .before .before .before .before .before .before .clear .ensures)
-    ∙ ap (λ (y : List ℕ). putMid n (length y - n) y (replicate (length (take (length y - n) (drop n y))) 0)) (c .before .before .before .before .before .before .before .before .before .before .copy-bytes .ensures)
-    ∙ copied-cleared (now (a .window)) (now (a .scratch)) n (omega arith) (omega arith)
-    ∙ windowBytes-frontiers (a .w) (now (a .scratch)) (a .m) (length (now (a .window))) n bytes (search needs) e in
-    (window, (search needs, ap (λ (y : List ℕ). frontiers (a .w) y (a .m)) window ∙ read-back (a .w) (now (a .scratch)) (a .m) (length (now (a .window))) bytes (search needs)))
+    c .before .before .before .before .before .before .clear .ensures
+    ∙ ap (λ (y : List ℕ). sets y (far .result) (replicate (left .result) 0)) (c .before .before .before .before .before .before .before .before .before .before .before .copy-in .ensures)
+    ∙ copied-replaced (a .w) (now (a .window)) (now (a .scratch)) (a .n) (a .m) (far .result) (left .result) bytes (asked .1 .1 .1) (far .ensures .0) (left .ensures) in
+    (window, (search needs, ap (λ (y : List ℕ). frontiers (a .w) y (a .m)) window ∙ read-back (a .w) (now (a .window)) (now (a .scratch)) (a .n) (a .m) bytes (asked .1 .1 .1) (asked .1 .1 .0 .1)))
 
 pub copy-back-spec : {M : Type 1} → statement M
 copy-back-spec =
     tie.close
     (tie.spec
     frontier-place-requires
-    copy-bytes-requires
-    sub-clear
-    part-clear-start
-    part-clear-end
+    copy-in-requires
+    left-over-requires
     clear-requires
     clear-requires-2
     same-length

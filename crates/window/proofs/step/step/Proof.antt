@@ -6,7 +6,7 @@ use borrow.Author.Needs.{needs}
 use Rattle.window.proofs.step.step.Statement.{statement}
 use Rattle.window.proofs.step.step.Tie as tie
 use denote.Ref.{now}
-use Rattle.frontiers.specs.Bytes.{windowBytes}
+use Rattle.frontiers.specs.Bytes.{replaced}
 
 lay-all-requires : tie.Need-lay-all-requires
 lay-all-requires c κs =
@@ -16,7 +16,7 @@ lay-all-requires c κs =
 copy-back-requires : tie.Need-copy-back-requires
 copy-back-requires c κs =
     let p = c .before .before .before .before .before .before .before .before .before .before .pre in
-    (p .0, (p .1 .1 .1 .0 .0, (p .1 .1 .1 .1 .0, search needs)))
+    (p .0, (p .1 .1 .0, ((p .1 .1 .1 .0 .0, p .1 .1 .1 .1 .0), search needs)))
 
 same-length : tie.Need-same-length
 same-length c = search needs
@@ -28,7 +28,7 @@ returns : tie.Need-returns
 returns c =
     let a = c .before .before .before .before .before .before .before .before .before .before .before .before .before .before .before .args in
     let long : length (c .before .before .before .before .before .before .before .before .before .lay-all .last .1 .0) ≡ length (now (a .scratch)) = search needs in
-    (c .before .before .before .before .copy-back .ensures .0 ∙ ap (windowBytes (a .w) (length (now (a .window)))) (c .before .before .before .before .before .before .before .before .before .lay-all .ensures), (c .before .before .before .before .copy-back .ensures .1 .0 ∙ ap (λ (n : ℕ). replicate n 0) long, c .before .before .before .before .copy-back .ensures .1 .1 ∙ c .before .before .before .before .before .before .before .before .before .lay-all .ensures))
+    (c .before .before .before .before .copy-back .ensures .0 ∙ ap (replaced (a .w) (now (a .window)) (a .n)) (c .before .before .before .before .before .before .before .before .before .lay-all .ensures), (c .before .before .before .before .copy-back .ensures .1 .0 ∙ ap (λ (n : ℕ). replicate n 0) long, c .before .before .before .before .copy-back .ensures .1 .1 ∙ c .before .before .before .before .before .before .before .before .before .lay-all .ensures))
 
 pub step-spec : {M : Type 1} → statement M
 step-spec =

@@ -1,5 +1,5 @@
 -- The first i bytes are cleared, one more with each turn: the law `clear-next`.
-use Rattle.records.proofs.moving.clear.Tie as tie
+use Rattle.frontiers.proofs.moving.clear.Tie as tie
 use Prim.Native.Nat.{_≤_, _-_}
 use native.Mathlib.Omega.{arith}
 use mathlib.Core.Path.{_≡_}
@@ -7,8 +7,8 @@ use lib.ListN.{length, replicate}
 use lib.Seq.{sets}
 use borrow.Author.Needs.{needs}
 use denote.Ref.{now}
-use Rattle.records.proofs.moving.clear.Statement.{statement}
-use Rattle.records.specs.MovingSteps.{clear-next}
+use Rattle.frontiers.proofs.moving.clear.Statement.{statement}
+use Rattle.frontiers.specs.MovingSteps.{clear-next}
 
 abbrev Inv-loop : tie.InvT-loop
 Inv-loop s₀ from n i₀ s i = (i ≤ n) × (length s ≡ length s₀) × (s ≡ sets s₀ from (replicate i 0))

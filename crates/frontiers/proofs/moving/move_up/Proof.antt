@@ -1,5 +1,5 @@
 -- The bytes from number i on are moved, one more with each turn: the law `up-next`.
-use Rattle.records.proofs.moving.move_up.Tie as tie
+use Rattle.frontiers.proofs.moving.move_up.Tie as tie
 use Prim.Native.Nat.{_≤_, ℕ, _+_, _-_}
 use native.Mathlib.Omega.{arith}
 use mathlib.Core.Path.{_≡_, ap, _∙_}
@@ -8,8 +8,8 @@ use mathlib.Core.Option.{none}
 use lib.ListN.{length, getD, set}
 use borrow.Author.Needs.{needs}
 use denote.Ref.{now}
-use Rattle.records.proofs.moving.move_up.Statement.{statement}
-use Rattle.records.specs.MovingSteps.{movedUp, up-none, up-next, up-all}
+use Rattle.frontiers.proofs.moving.move_up.Statement.{statement}
+use Rattle.frontiers.specs.MovingSteps.{movedUp, up-none, up-next, up-all}
 
 abbrev Inv-loop : tie.InvT-loop
 Inv-loop s₀ from n by i₀ s i = (i ≤ n) × (length s ≡ length s₀) × (s ≡ movedUp s₀ from by n i)

@@ -9,8 +9,7 @@ use mathlib.Core.Option.{none}
 use lib.ListN.{length, getD, take, drop, set, replicate, length-take, length-drop, length-replicate, drop-of-length-le, replicate-append-replicate}
 use lib.Seq.{drop-cons, getD-take, getD-drop, take-take, length-take-le, sets}
 use Rattle.codec.specs.SetsLaws.{sets-append, getD-sets-before, getD-sets-after, sets-comm}
 use Rattle.frontiers.specs.StoreLaws.{sets-more}
-use Rattle.clocks.specs.Counts.{at}
 
 -- ---- Moved up, the last byte first
 

@@ -1,5 +1,5 @@
 -- The first i bytes are moved, one more with each turn: the law `down-next`.
-use Rattle.records.proofs.moving.move_down.Tie as tie
+use Rattle.frontiers.proofs.moving.move_down.Tie as tie
 use Prim.Native.Nat.{_≤_, _-_, ℕ, _+_}
 use native.Mathlib.Omega.{arith}
 use mathlib.Core.Path.{_≡_, ap, _∙_}
@@ -7,8 +7,8 @@ use mathlib.Core.List.{List}
 use lib.ListN.{length, getD, set}
 use borrow.Author.Needs.{needs}
 use denote.Ref.{now}
-use Rattle.records.proofs.moving.move_down.Statement.{statement}
-use Rattle.records.specs.MovingSteps.{movedDown, down-next, down-all}
+use Rattle.frontiers.proofs.moving.move_down.Statement.{statement}
+use Rattle.frontiers.specs.MovingSteps.{movedDown, down-next, down-all}
 
 abbrev Inv-loop : tie.InvT-loop
 Inv-loop s₀ to n by i₀ s i = (i ≤ n) × (length s ≡ length s₀) × (s ≡ movedDown s₀ to by n i)

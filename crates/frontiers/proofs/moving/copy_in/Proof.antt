@@ -1,5 +1,5 @@
 -- The first i bytes are copied, one more with each turn: the law `sets-more`.
-use Rattle.records.proofs.moving.copy_in.Tie as tie
+use Rattle.frontiers.proofs.moving.copy_in.Tie as tie
 use Prim.Native.Nat.{_≤_, _-_, _<_}
 use native.Mathlib.Omega.{arith}
 use mathlib.Core.Path.{_≡_}
@@ -7,8 +7,8 @@ use lib.ListN.{length, take}
 use lib.Seq.{sets}
 use borrow.Author.Needs.{needs}
 use denote.Ref.{now}
 use Rattle.frontiers.specs.StoreLaws.{sets-more}
-use Rattle.records.proofs.moving.copy_in.Statement.{statement}
+use Rattle.frontiers.proofs.moving.copy_in.Statement.{statement}
 
 abbrev Inv-loop : tie.InvT-loop
 Inv-loop s₀ place from n i₀ s i = (i ≤ n) × (length s ≡ length s₀) × (s ≡ sets s₀ place (take i from))

@@ -1,2 +1,0 @@
--- What the benchmark's step leaves.
-pub mod StepOf
