@@ -14,4 +14,8 @@ pub mod WordLaws
 pub mod StartLaws
 pub mod DidLaws
 pub mod RuleLaws
+pub mod Grammar
+pub mod PieceLaws
+pub mod NumberMeets
+pub mod PieceMeets
 pub mod LineExamples
