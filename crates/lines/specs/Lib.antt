@@ -18,4 +18,7 @@ pub mod Grammar
 pub mod PieceLaws
 pub mod NumberMeets
 pub mod PieceMeets
+pub mod PieceStood
+pub mod GrammarTheorem
+pub mod LineGrammar
 pub mod LineExamples

@@ -102,6 +102,7 @@ number-met m s i ds c least most n q h = go (digits-met m s i ds c (n .all) q h)
                 let v : xs ≡ [] = cc in
                 absurd (omega (arith, ap length v))
             pick false false x y = let w : _≡_ {A = ℕ} 0 1 = cc (digits-end s i x) in absurd (omega arith)
+
     go : (digits (drop i s) ≡ ds) ⊎ (m ≤ i + length (digits (drop i s))) → Near m (i + length ds) (numberOf (digits (drop i s)) i least most)
     go (inl e) = rw e (numeral-read m i ds least most n)
     go (inr l) = late (digits (drop i s)) refl l

@@ -49,6 +49,7 @@ number-from s i least most = go (digits (drop i s))
   where
     From : Read → Type 0
     From r = i ≤ placeOf r
+
     go : (ds : List ℕ) → i ≤ placeOf (numberOf ds i least most)
     go [] = omega arith
     go (d ∷ ds) =
@@ -64,6 +65,7 @@ numbers-from (suc left) s ascending most least ns i =
   where
     From : Listed → Type 0
     From l = i ≤ placeOf (l .read)
+
     go : ((x : ℕ) (l : List ℕ) (j : ℕ) → j ≤ placeOf (numbersAt left s ascending most x l j .read)) → (r : Read) → i ≤ placeOf r
         → i ≤ placeOf (afterNumber s ascending (numbersAt left s ascending most) ns r .read)
     go further (At j v) h =

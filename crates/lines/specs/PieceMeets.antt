@@ -144,10 +144,10 @@ spaced-met m s most i v (d ∷ ds) a h =
 
 -- ---- A piece, and pieces one after the other
 
--- A piece whose number ends at its byte.
+-- A piece whose own bytes are bytes, and whose number ends at its byte.
 abbrev pub Ended : Piece → Type 0
-Ended (one b) = Unit {0}
-Ended (number least most b) = isDigit b ≡ false
+Ended (one b) = b < 256
+Ended (number least most b) = (isDigit b ≡ false) × (b < 256)
 Ended (list ascending most fewest fullest) = Unit {0}
 Ended (spacedList most fewest fullest) = Unit {0}
 
@@ -169,7 +169,7 @@ piece-read m s (one b) x i v e d h = let h′ : StandsTo m s i (b ∷ []) = rw e
 piece-read m s (number least most b) x i v (ds, (n, e)) d h =
     let h′ : StandsTo m s i (ds ++ b ∷ []) = rw e at h in
     let ends : i + length ds + 1 ≡ i + length x = omega (arith, ap length e, length-append ds (b ∷ [])) in
-    rw (← ends) (byte-near m s b (i + length ds) _ (standsTo-right m s i ds (b ∷ []) h′ .0) (number-met m s i ds b least most n d h′))
+    rw (← ends) (byte-near m s b (i + length ds) _ (standsTo-right m s i ds (b ∷ []) h′ .0) (number-met m s i ds b least most n (d .0) h′))
 piece-read m s (list ascending most fewest fullest) x i v (ns, (n, e)) d h =
     let h′ : StandsTo m s i (between ns ++ 41 ∷ []) = rw e at h in
     let ends : i + length (between ns) + 1 ≡ i + length x = omega (arith, ap length e, length-append (between ns) (41 ∷ [])) in

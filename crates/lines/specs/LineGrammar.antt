@@ -1,0 +1,45 @@
+-- The program's lines are read by their grammar: each answer is made of the reading of the line's pieces.
+use Prim.Native.Nat.{ℕ}
+use native.Mathlib.Omega.{arith}
+use mathlib.Core.Path.{_≡_, refl}
+use mathlib.Core.Bool.{true, false}
+use mathlib.Core.List.{List, [], _∷_}
+use Rattle.rules.specs.Text.{ascii}
+use Rattle.lines.specs.Reading.{valueOf, thenBytes, headRead, thenNumber, limited}
+use Rattle.lines.specs.NumberList.{thenList, thenSpacedList, thenClose, eight}
+use Rattle.lines.specs.Lines.{countLimit, labelLimit, processLimit, thenLast, watchOf, watchLine, startOf, startLine, didOf, didLine}
+use Rattle.lines.specs.Grammar.{watchPieces, startPieces, didPieces}
+use Rattle.lines.specs.PieceLaws.{readPiece, readPieces}
+use Rattle.lines.specs.PieceMeets.{AllEnded}
+use Rattle.lines.specs.GrammarTheorem.{lineRead}
+
+-- The pieces' own bytes are bytes, and no number runs on into the byte behind it.
+pub watch-ended : AllEnded watchPieces
+unfolding watchPieces AllEnded
+watch-ended = search (arith)
+
+pub start-ended : (k : ℕ) → AllEnded (startPieces k)
+unfolding startPieces AllEnded
+start-ended k = search (arith)
+
+pub did-ended : (k n : ℕ) → AllEnded (didPieces k n)
+unfolding didPieces AllEnded
+did-ended k n = search (arith)
+
+pub watch-read : (s : List ℕ) → watchLine s ≡ watchOf (valueOf (thenNumber s 0 countLimit (headRead s (ascii "(watch ")))) (limited s (lineRead s watchPieces))
+unfolding watchPieces watchLine thenLast thenBytes lineRead readPiece readPieces
+watch-read s = refl
+
+pub start-read : (s : List ℕ) (k : ℕ)
+    → startLine s k ≡ startOf (eight (thenSpacedList s labelLimit (headRead s (ascii "(start")) .numbers)) (limited s (lineRead s (startPieces k)))
+unfolding startPieces startLine thenBytes lineRead readPiece readPieces
+start-read s k = refl
+
+-- The processes that a line names, counted, where their list is read.
+unfoldable pub named : List ℕ → ℕ
+named s = valueOf (thenClose s 1 8 (thenList s true processLimit (headRead s (ascii "(did (")) .read))
+
+pub did-read : (s : List ℕ) (k : ℕ)
+    → (ps cs ls : List ℕ) × (didLine s k ≡ didOf (named s) ps cs ls (limited s (lineRead s (didPieces k (named s)))))
+unfolding didPieces didLine thenLast thenBytes lineRead readPiece readPieces named
+did-read s k = (_, _, _, refl)
