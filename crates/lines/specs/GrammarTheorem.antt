@@ -6,7 +6,7 @@ use mathlib.Core.Path.{_≡_, refl, sym, ap, _∙_}
 use mathlib.Core.Bool.{Bool, true, false, cond}
 use mathlib.Core.Logic.{_⊎_, inl, inr}
 use mathlib.Core.List.{List, [], _∷_, _++_}
-use lib.Dec.{ltb}
+use lib.Dec.{ltb, eqb}
 use lib.ListN.{length, length-take, take}
 use lib.Seq.{take-all, take-take, getD-take, length-take-le}
 use borrow.Author.Tests.{ltb-true, ltb-false}
@@ -103,6 +103,17 @@ one-sound s ps i d e = go (ltb i (length s)) refl (rw e at (line-passed s ps d))
         inr (omega (arith, p .1 .1 .inside), λ u. let z = never-one s s ps (length s + 1) i d u (λ _ _ _. refl) (inr (omega arith)) e in omega (arith, z))
 
 -- ---- The theorem
+
+-- Turned back: fault 1 stands nowhere before.
+pub none-before-one : (s : List ℕ) (ps : List Piece) (n i : ℕ) → AllEnded ps → lineRead s ps ≡ Refused n i → (j : ℕ) → Fault1 ps s j → i ≤ j
+unfolding Passed reach
+none-before-one s ps n i d e j f =
+    let p : (t : List ℕ) × (TextOf ps t × Met s t (cond (eqb n 10) (i + 1) i)) = rw e at (line-passed s ps d) in
+    go (eqb n 10) (met-faultless s (p .0) ps (cond (eqb n 10) (i + 1) i) j (p .1 .0) (p .1 .1) f)
+  where
+    go : (b : Bool) → cond b (i + 1) i ≤ j → i ≤ j
+    go true h = omega arith
+    go false h = h
 
 -- Turned back by 1: that fault stands there, and nowhere before.
 pub one-exact : (s : List ℕ) (ps : List Piece) (i : ℕ) → AllEnded ps → lineRead s ps ≡ Refused 1 i → Fault1 ps s i × ((j : ℕ) → Fault1 ps s j → i ≤ j)

@@ -63,7 +63,7 @@ leading m s i (d ∷ f ∷ ds) c n q h z e = known m i (h .0) (λ l. omega arith
 
 -- ---- A number
 
-plain-test : (d : ℕ) (ds : List ℕ) → Numeral (d ∷ ds) → (eqb d 48 && ltb 0 (length ds)) ≡ false
+pub plain-test : (d : ℕ) (ds : List ℕ) → Numeral (d ∷ ds) → (eqb d 48 && ltb 0 (length ds)) ≡ false
 plain-test d ds n = go (eqb d 48) refl
   where
     go : (t : Bool) → eqb d 48 ≡ t → (t && ltb 0 (length ds)) ≡ false

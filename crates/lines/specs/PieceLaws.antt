@@ -6,11 +6,11 @@ use mathlib.Core.Bool.{Bool, true, false, cond, _&&_}
 use mathlib.Core.Logic.{_⊎_, inl, inr}
 use mathlib.Core.List.{List, [], _∷_, _++_}
 use lib.Dec.{leb, ltb, eqb}
-use lib.ListN.{length, length-drop, drop}
+use lib.ListN.{length, drop}
 use Rattle.rules.specs.Text.{byteAt}
 use Rattle.lines.specs.declared.Read.{Read}
 use Rattle.lines.specs.declared.Read.the-variants.{At, Refused}
-use Rattle.lines.specs.Number.{isDigit, digits, value, numberOf, numberAt}
+use Rattle.lines.specs.Number.{digits, value, numberOf, numberAt}
 use Rattle.lines.specs.Reading.{thenByte, thenNumber}
 use Rattle.lines.specs.NumberList.{Listed, listed, afterNumber, numbersAt, allNumbersAt, thenList, thenSpacedList, thenClose}
 use Rattle.lines.specs.Grammar.{Piece, one, number, list, spacedList}
@@ -35,11 +35,6 @@ placeOf (Refused n i) = i
 pub if-test {ℓ} : {A : Type ℓ} (P : A → Type 0) (t : Bool) (x y : A) → P x → P y → P (cond t x y)
 if-test P true x y p q = p
 if-test P false x y p q = q
-
-digits-short : (s : List ℕ) → length (digits s) ≤ length s
-unfolding digits
-digits-short [] = omega arith
-digits-short (c ∷ s) = if-test (λ (ds : List ℕ). length ds ≤ suc (length s)) (isDigit c) _ _ (let q = digits-short s in omega (arith, q)) (omega arith)
 
 -- ---- No fault before
 
@@ -132,7 +127,61 @@ unfolding readPieces
 pieces-stay s [] n i = refl
 pieces-stay s (p ∷ ps) n i = rw (piece-stays s p n i) (pieces-stay s ps n i)
 
--- ---- No place behind the line's end
+-- ---- The faults are 1 and 10
 
-digits-inside : (s : List ℕ) (i : ℕ) → i ≤ length s → i + length (digits (drop i s)) ≤ length s
-digits-inside s i h = let d = length-drop i s in let l = digits-short (drop i s) in omega (arith, d, l)
+unfoldable pub Numbered : Read → Type 0
+Numbered (At i v) = Unit {0}
+Numbered (Refused n i) = (n ≡ 1) ⊎ (n ≡ 10)
+
+byte-numbered : (s : List ℕ) (b : ℕ) (r : Read) → Numbered r → Numbered (thenByte s b r)
+unfolding thenByte Numbered
+byte-numbered s b (At i v) h = if-test Numbered (eqb (byteAt s i) b) _ _ tt (inl refl)
+byte-numbered s b (Refused n i) h = h
+
+number-numbered : (s : List ℕ) (i least most : ℕ) → Numbered (numberAt s i least most)
+unfolding numberAt numberOf Numbered
+number-numbered s i least most = go (digits (drop i s))
+  where
+    go : (ds : List ℕ) → Numbered (numberOf ds i least most)
+    go [] = inl refl
+    go (d ∷ ds) =
+        if-test Numbered (eqb d 48 && ltb 0 (length ds)) _ _ (inl refl)
+        (if-test Numbered (leb least (value (d ∷ ds)) && leb (value (d ∷ ds)) most) _ _ tt (inr refl))
+
+numbers-numbered : (left : ℕ) (s : List ℕ) (ascending : Bool) (most least : ℕ) (ns : List ℕ) (i : ℕ)
+    → Numbered (numbersAt left s ascending most least ns i .read)
+unfolding numbersAt afterNumber Numbered
+numbers-numbered zero s ascending most least ns i = inl refl
+numbers-numbered (suc left) s ascending most least ns i =
+    go (λ (x : ℕ) (l : List ℕ) (j : ℕ). numbers-numbered left s ascending most x l j) (numberAt s i least most) (number-numbered s i least most)
+  where
+    go : ((x : ℕ) (l : List ℕ) (j : ℕ) → Numbered (numbersAt left s ascending most x l j .read)) → (r : Read) → Numbered r
+        → Numbered (afterNumber s ascending (numbersAt left s ascending most) ns r .read)
+    go further (At j v) h =
+        if-test (λ (l : Listed). Numbered (l .read)) (eqb (byteAt s j) 32) _ _ (further (cond ascending (v + 1) 0) (ns ++ v ∷ []) (j + 1)) tt
+    go further (Refused n j) h = h
+
+close-numbered : (s : List ℕ) (fewest fullest : ℕ) (r : Read) → Numbered r → Numbered (thenClose s fewest fullest r)
+unfolding thenClose Numbered
+close-numbered s fewest fullest (At i n) h =
+    if-test Numbered (eqb (byteAt s i) 41) _ _ (if-test Numbered (leb fewest n && leb n fullest) _ _ tt (inr refl)) (inl refl)
+close-numbered s fewest fullest (Refused n i) h = h
+
+piece-numbered : (s : List ℕ) (p : Piece) (r : Read) → Numbered r → Numbered (readPiece s p r)
+unfolding readPiece thenNumber thenList thenSpacedList Numbered
+piece-numbered s (one b) r h = byte-numbered s b r h
+piece-numbered s (number least most b) (At i v) h = byte-numbered s b (numberAt s i least most) (number-numbered s i least most)
+piece-numbered s (number least most b) (Refused n i) h = byte-numbered s b (Refused n i) h
+piece-numbered s (list ascending most fewest fullest) (At i v) h =
+    close-numbered s fewest fullest _
+    (if-test (λ (l : Listed). Numbered (l .read)) (eqb (byteAt s i) 41) _ _ tt (numbers-numbered (length s + 1) s ascending most 0 [] i))
+piece-numbered s (list ascending most fewest fullest) (Refused n i) h = close-numbered s fewest fullest (Refused n i) h
+piece-numbered s (spacedList most fewest fullest) (At i v) h =
+    close-numbered s fewest fullest _
+    (if-test (λ (l : Listed). Numbered (l .read)) (eqb (byteAt s i) 32) _ _ (numbers-numbered (length s + 1) s false most 0 [] (i + 1)) tt)
+piece-numbered s (spacedList most fewest fullest) (Refused n i) h = close-numbered s fewest fullest (Refused n i) h
+
+pub pieces-numbered : (s : List ℕ) (ps : List Piece) (r : Read) → Numbered r → Numbered (readPieces s ps r)
+unfolding readPieces
+pieces-numbered s [] r h = h
+pieces-numbered s (p ∷ ps) r h = pieces-numbered s ps (readPiece s p r) (piece-numbered s p r h)

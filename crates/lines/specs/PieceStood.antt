@@ -62,7 +62,7 @@ digits-prefix (c ∷ s) = go (isDigit c) (digits-prefix s)
     go true h = rw h
     go false h = refl
 
-digits-all : (s : List ℕ) → AllDigits (digits s)
+pub digits-all : (s : List ℕ) → AllDigits (digits s)
 unfolding digits AllDigits
 digits-all [] = tt
 digits-all (c ∷ s) = if-known AllDigits (isDigit c) (c ∷ digits s) [] (λ e. (e, digits-all s)) (λ _. tt)
@@ -210,7 +210,7 @@ unfolding NumberStood Stood
 numeral-stood s bs (At j v) q = q
 numeral-stood s bs (Refused n j) q = q
 
-piece-stood : (s bs : List ℕ) (p : Piece) (i v : ℕ) → Ended p → Begun s bs i → Stood (PieceText p) s bs (readPiece s p (At i v))
+pub piece-stood : (s bs : List ℕ) (p : Piece) (i v : ℕ) → Ended p → Begun s bs i → Stood (PieceText p) s bs (readPiece s p (At i v))
 unfolding readPiece PieceText thenNumber Stood
 piece-stood s bs (one b) i v d g =
     stood-byte (λ (x : List ℕ). x ≡ []) (λ (x : List ℕ). x ≡ b ∷ []) s bs b (At i v) d (λ x e. rw e) (here g)
