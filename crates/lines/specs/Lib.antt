@@ -26,5 +26,6 @@ pub mod TenSound
 pub mod TenComplete
 pub mod FaultTheorem
 pub mod LineGrammar
+pub mod Named
 -- Worked examples
 pub mod LineExamples

@@ -87,7 +87,7 @@ pub start-faultless : (s : List ℕ) (k labels : ℕ) → startLine s k ≡ Star
 start-faultless s k labels e =
     let w = start-at _ labels _ (sym (start-read s k) ∙ e) in read-faultless s (startPieces k) (w .0) (w .1) (start-ended k) (w .2)
 
-did-of : (m : ℕ) (ps cs ls : List ℕ) (n i : ℕ) (r : Read) → didOf m ps cs ls r ≡ DidRefused n i → r ≡ Refused n i
+pub did-of : (m : ℕ) (ps cs ls : List ℕ) (n i : ℕ) (r : Read) → didOf m ps cs ls r ≡ DidRefused n i → r ≡ Refused n i
 unfolding didOf
 did-of m ps cs ls n i (At j v) e = let z : _≡_ {A = ℕ} 0 1 = cc in absurd (omega arith)
 did-of m ps cs ls n i (Refused x j) e = cc

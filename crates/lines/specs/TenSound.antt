@@ -121,12 +121,12 @@ numbers-judged (suc left) s ascending most least ns j =
 -- ---- Lists, closed
 
 -- A list without its closing bracket: all its numbers, counted; or turned back by 10.
-unfoldable InnerJudged : (List (List ℕ) → List ℕ) → (ℕ → Type 0) → List ℕ → ℕ → Read → Type 0
+unfoldable pub InnerJudged : (List (List ℕ) → List ℕ) → (ℕ → Type 0) → List ℕ → ℕ → Read → Type 0
 InnerJudged text Out s j (At i n) = (ns : List (List ℕ)) × (Numerals ns × (Span s j (text ns) i × (n ≡ length ns)))
 InnerJudged text Out s j (Refused n i) = n ≡ 10 → Out i
 
 -- A list of a wrong length, at its closing bracket.
-abbrev WrongLength : (List (List ℕ) → List ℕ) → List ℕ → ℕ → ℕ → ℕ → ℕ → Type 0
+abbrev pub WrongLength : (List (List ℕ) → List ℕ) → List ℕ → ℕ → ℕ → ℕ → ℕ → Type 0
 WrongLength text s j fewest fullest i =
     (ns : List (List ℕ)) × (Numerals ns × (Span s j (text ns) i × ((byteAt s i ≡ 41) × Miscounted ns fewest fullest)))
 
@@ -147,7 +147,7 @@ close-ten text Out s j fewest fullest i (Refused n k) f q =
     inl (rw w at (f z))
 
 -- A number out of its limits in a list.
-abbrev ListOut : List ℕ → Bool → ℕ → ℕ → ℕ → Type 0
+abbrev pub ListOut : List ℕ → Bool → ℕ → ℕ → ℕ → Type 0
 ListOut s ascending most j i = (ns : List (List ℕ)) × (Numerals ns × (Span s j (trailed ns) i × NumberOut s i (leastBehind ascending 0 ns) most))
 
 inner-judged : (s : List ℕ) (ascending : Bool) (most j : ℕ) (r : Read) → ListJudged s ascending most 0 0 j r
@@ -156,7 +156,7 @@ unfolding ListJudged InnerJudged Numerals between
 inner-judged s ascending most j (At i n) (d, ds, (m, (a, (p, c)))) = (d ∷ ds, ((m, a), (p, omega arith)))
 inner-judged s ascending most j (Refused n i) f = f
 
-list-judged : (s : List ℕ) (ascending : Bool) (most j v : ℕ) → InnerJudged between (ListOut s ascending most j) s j (thenList s ascending most (At j v) .read)
+pub list-judged : (s : List ℕ) (ascending : Bool) (most j v : ℕ) → InnerJudged between (ListOut s ascending most j) s j (thenList s ascending most (At j v) .read)
 unfolding InnerJudged thenList Numerals between
 list-judged s ascending most j v =
     if-test (λ (x : Listed). InnerJudged between (ListOut s ascending most j) s j (x .read)) (eqb (byteAt s j) 41) _ _
