@@ -6,7 +6,9 @@ pub mod Reading
 pub mod NumberList
 pub mod Words
 pub mod Lines
--- What is proved of them
+pub mod Grammar
+pub mod Fault
+-- The code's steps
 pub mod NumberLaws
 pub mod ReadingLaws
 pub mod ListLaws
@@ -14,4 +16,16 @@ pub mod WordLaws
 pub mod StartLaws
 pub mod DidLaws
 pub mod RuleLaws
+-- A line's answer is its first fault
+pub mod PieceLaws
+pub mod NumberMeets
+pub mod PieceMeets
+pub mod PieceStood
+pub mod GrammarTheorem
+pub mod TenSound
+pub mod TenComplete
+pub mod FaultTheorem
+pub mod LineGrammar
+pub mod Named
+-- Worked examples
 pub mod LineExamples

@@ -97,7 +97,7 @@ pub record DigitsRead (s : List ℕ) (i end v : ℕ) : Type 0 where
 -- ---- A number, by what the code finds
 
 -- The first digit is the byte there.
-digits-first : (s : List ℕ) (i d : ℕ) (ds : List ℕ) → digits (drop i s) ≡ d ∷ ds → d ≡ byteAt s i
+pub digits-first : (s : List ℕ) (i d : ℕ) (ds : List ℕ) → digits (drop i s) ≡ d ∷ ds → d ≡ byteAt s i
 digits-first s i d ds h = go (isDigit (byteAt s i)) refl
   where
     go : (t : Bool) → isDigit (byteAt s i) ≡ t → d ≡ byteAt s i
