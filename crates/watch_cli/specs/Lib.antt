@@ -1,0 +1,3 @@
+-- The program's answers.
+pub mod Answers
+pub mod Rooms
