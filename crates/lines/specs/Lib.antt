@@ -27,5 +27,6 @@ pub mod TenComplete
 pub mod FaultTheorem
 pub mod LineGrammar
 pub mod Named
+pub mod Enough
 -- Worked examples
 pub mod LineExamples
