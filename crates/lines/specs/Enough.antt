@@ -79,10 +79,10 @@ AllModest [] = Unit {0}
 AllModest (p ∷ ps) = Modest p × AllModest ps
 
 -- Both readings are the same, or both are behind the limit.
-abbrev Far : Read → Type 0
+abbrev pub Far : Read → Type 0
 Far r = lineLimit < placeOf r
 
-abbrev Same : Read → Read → Type 0
+abbrev pub Same : Read → Read → Type 0
 Same r q = (r ≡ q) ⊎ (Far r × Far q)
 
 module _ {s front : List ℕ} (f : Front s front) where
@@ -267,13 +267,13 @@ module _ {s front : List ℕ} (f : Front s front) where
           inr (omega (arith, a, l), omega (arith, c, l))
       go false k = piece-near p i v m (ltb-false lineLimit i k)
 
-  pieces-same : (ps : List Piece) (r q : Read) → AllModest ps → Same r q → Same (readPieces s ps r) (readPieces front ps q)
+  pub pieces-same : (ps : List Piece) (r q : Read) → AllModest ps → Same r q → Same (readPieces s ps r) (readPieces front ps q)
   unfolding readPieces AllModest
   pieces-same [] r q m h = h
   pieces-same (p ∷ ps) r q m h = pieces-same ps (readPiece s p r) (readPiece front p q) (m .1) (piece-same p r q (m .0) h)
 
   -- The line's end and its length.
-  end-same : (r q : Read) → Same r q → Same (thenEnd s r) (thenEnd front q)
+  pub end-same : (r q : Read) → Same r q → Same (thenEnd s r) (thenEnd front q)
   unfolding thenEnd placeOf
   end-same r q (inr (x, y)) = inr (far s r x, far front q y)
     where
@@ -293,7 +293,7 @@ module _ {s front : List ℕ} (f : Front s front) where
           let c : ltb i (length front) ≡ true = lt-ltb i (length front) (omega (arith, f .size)) in
           rw (a, c) (inl refl)
 
-  limited-same : (r q : Read) → Same r q → limited s r ≡ limited front q
+  pub limited-same : (r q : Read) → Same r q → limited s r ≡ limited front q
   unfolding limited placeOf
   limited-same r q (inl e) = rw (← e) (go r)
     where

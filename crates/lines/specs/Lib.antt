@@ -28,5 +28,6 @@ pub mod FaultTheorem
 pub mod LineGrammar
 pub mod Named
 pub mod Enough
+pub mod LineEnough
 -- Worked examples
 pub mod LineExamples

@@ -113,6 +113,14 @@ piece-from s (spacedList most fewest fullest) r =
     let y = close-from s fewest fullest (thenSpacedList s most r .read) in
     omega (arith, x, y)
 
+pub pieces-from : (s : List ℕ) (ps : List Piece) (r : Read) → placeOf r ≤ placeOf (readPieces s ps r)
+unfolding readPieces
+pieces-from s [] r = omega arith
+pieces-from s (p ∷ ps) r =
+    let x = piece-from s p r in
+    let y = pieces-from s ps (readPiece s p r) in
+    omega (arith, x, y)
+
 -- ---- A fault stays
 
 pub piece-stays : (s : List ℕ) (p : Piece) (n i : ℕ) → readPiece s p (Refused n i) ≡ Refused n i
