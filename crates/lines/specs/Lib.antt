@@ -27,5 +27,7 @@ pub mod TenComplete
 pub mod FaultTheorem
 pub mod LineGrammar
 pub mod Named
+pub mod Enough
+pub mod LineEnough
 -- Worked examples
 pub mod LineExamples

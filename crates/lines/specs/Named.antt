@@ -63,13 +63,13 @@ first-closed s j c e (At k n) (ns, (a, (p, q))) h =
 first-closed s j c e (Refused n k) f h = absurd (not-at e c n k (sym h))
 
 -- The line's first list, closed, and the pieces behind it.
-unfoldable firstRead : List ℕ → Read
+unfoldable pub firstRead : List ℕ → Read
 firstRead s = thenClose s 1 8 (thenList s true processLimit (headRead s (ascii "(did (")) .read)
 
-abbrev rest : ℕ → ℕ → List Piece
+abbrev pub rest : ℕ → ℕ → List Piece
 rest k n = one 32 ∷ one 40 ∷ list false countLimit k k ∷ one 32 ∷ one 40 ∷ list false labelLimit n n ∷ one 41 ∷ []
 
-line-after : (s : List ℕ) (k n : ℕ) → lineRead s (didPieces k n) ≡ thenEnd s (readPieces s (rest k n) (firstRead s))
+pub line-after : (s : List ℕ) (k n : ℕ) → lineRead s (didPieces k n) ≡ thenEnd s (readPieces s (rest k n) (firstRead s))
 unfolding didPieces lineRead readPieces readPiece thenBytes firstRead
 line-after s k n = refl
 
@@ -87,7 +87,7 @@ first-named s n e c names q = go (headRead s (ascii "(did (")) refl q
         let l = first-closed s j c e (thenList s true processLimit (At j w) .read) (list-judged s true processLimit j w) g in
         l .1 .1 .1 ∙ names (l .0) (l .1 .0) (span-append head (l .1 .1 .0) .stands)
 
-named-is : (s : List ℕ) (e c : ℕ) → firstRead s ≡ At e c → named s ≡ c
+pub named-is : (s : List ℕ) (e c : ℕ) → firstRead s ≡ At e c → named s ≡ c
 unfolding named firstRead valueOf
 named-is s e c q = ap valueOf q
 

@@ -58,7 +58,8 @@ leading : (m : ℕ) (s : List ℕ) (i : ℕ) (ds : List ℕ) (c : ℕ) → Numer
     → byteAt s i ≡ 48 → isDigit (byteAt s (i + 1)) ≡ true → m ≤ i + 1
 unfolding StandsTo
 leading m s i [] c n q h z e = absurd (omega (arith, n .some))
-leading m s i (d ∷ []) c n q h z e = known m (i + 1) (h .1 .0) (λ l. l) (λ f. let b : true ≡ false = sym e ∙ rw f q in let w : _≡_ {A = ℕ} 0 1 = cc in absurd (omega arith))
+leading m s i (d ∷ []) c n q h z e = known m (i + 1) (h .1 .0) (λ l. l)
+    (λ f. let b : true ≡ false = sym e ∙ rw f q in let w : _≡_ {A = ℕ} 0 1 = cc in absurd (omega arith))
 leading m s i (d ∷ f ∷ ds) c n q h z e = known m i (h .0) (λ l. omega arith) (λ g. absurd (omega (arith, n .plain (sym g ∙ z))))
 
 -- ---- A number

@@ -67,12 +67,12 @@ numbers-from (suc left) s ascending most least ns i =
         if-test From (eqb (byteAt s j) 32) _ _ (let q = further (cond ascending (v + 1) 0) (ns ++ v ∷ []) (j + 1) in omega (arith, q, h)) h
     go further (Refused n j) h = h
 
-byte-from : (s : List ℕ) (b : ℕ) (r : Read) → placeOf r ≤ placeOf (thenByte s b r)
+pub byte-from : (s : List ℕ) (b : ℕ) (r : Read) → placeOf r ≤ placeOf (thenByte s b r)
 unfolding thenByte placeOf
 byte-from s b (At i v) = if-test (λ (r : Read). i ≤ placeOf r) (eqb (byteAt s i) b) _ _ (omega arith) (omega arith)
 byte-from s b (Refused n i) = omega arith
 
-close-from : (s : List ℕ) (fewest fullest : ℕ) (r : Read) → placeOf r ≤ placeOf (thenClose s fewest fullest r)
+pub close-from : (s : List ℕ) (fewest fullest : ℕ) (r : Read) → placeOf r ≤ placeOf (thenClose s fewest fullest r)
 unfolding thenClose placeOf
 close-from s fewest fullest (At i n) =
     if-test (λ (r : Read). i ≤ placeOf r) (eqb (byteAt s i) 41) _ _
@@ -111,6 +111,14 @@ piece-from s (list ascending most fewest fullest) r =
 piece-from s (spacedList most fewest fullest) r =
     let x = spaced-from s most r in
     let y = close-from s fewest fullest (thenSpacedList s most r .read) in
+    omega (arith, x, y)
+
+pub pieces-from : (s : List ℕ) (ps : List Piece) (r : Read) → placeOf r ≤ placeOf (readPieces s ps r)
+unfolding readPieces
+pieces-from s [] r = omega arith
+pieces-from s (p ∷ ps) r =
+    let x = piece-from s p r in
+    let y = pieces-from s ps (readPiece s p r) in
     omega (arith, x, y)
 
 -- ---- A fault stays

@@ -57,7 +57,8 @@ numbers-met : (left : ℕ) (m : ℕ) (s : List ℕ) (ascending : Bool) (most lea
     → Near m (i + length (d ++ spaced ds)) (numbersAt left s ascending most least ns i .read)
 unfolding numbersAt afterNumber Numerals spaced placeOf StandsTo
 numbers-met zero m s ascending most least ns i d ds n a f h =
-    inr (inl (known m i (digit-there m s i d (spaced ds ++ 41 ∷ []) n h) (λ l. l) (λ e. let b = digit-bounds (byteAt s i) e in let p = inside s i (omega (arith, b .1)) in absurd (omega arith))))
+    inr (inl (known m i (digit-there m s i d (spaced ds ++ 41 ∷ []) n h) (λ l. l)
+    (λ e. let b = digit-bounds (byteAt s i) e in let p = inside s i (omega (arith, b .1)) in absurd (omega arith))))
 numbers-met (suc left) m s ascending most least ns i d [] n a f h =
     go (numberAt s i least most) (number-met m s i d 41 least most n refl h)
   where
@@ -197,4 +198,6 @@ pieces-met m s [] t i r e d h n = let same : i ≡ i + length t = omega (arith, 
 pieces-met m s (p ∷ ps) t i r (x, y, (px, (ty, e))) d h n =
     let h′ : StandsTo m s i (x ++ y) = rw e at h in
     let ends : i + length x + length y ≡ i + length t = omega (arith, ap length e, length-append x y) in
-    rw (← ends) (pieces-met m s ps y (i + length x) (readPiece s p r) ty (d .1) (standsTo-right m s i x y h′) (piece-met m s p x i r px (d .0) (standsTo-left m s i x y h′) n))
+    rw (← ends)
+    (pieces-met m s ps y (i + length x) (readPiece s p r) ty (d .1) (standsTo-right m s i x y h′)
+    (piece-met m s p x i r px (d .0) (standsTo-left m s i x y h′) n))

@@ -141,7 +141,10 @@ numbers-stood (suc left) s bs ascending most least ns i b =
     go (Refused n j) (d, (m, q)) further = (d, [], (m, (tt, rw (append-nil d) q)))
     go (At j v) (d, (m, q)) further =
         if-byte (λ (x : Listed). NumbersStood s bs (x .read)) (byteAt s j) 32 _ _
-        (λ e. numbers-more s bs d (numbersAt left s ascending most (cond ascending (v + 1) 0) (ns ++ v ∷ []) (j + 1) .read) m (further (cond ascending (v + 1) 0) (ns ++ v ∷ []) (j + 1) (bs ++ (d ++ 32 ∷ [])) (rw (← append-assoc bs d (32 ∷ [])) (begun-next q e (omega arith)))))
+        (λ e. let x = cond ascending (v + 1) 0 in
+        let l = ns ++ v ∷ [] in
+        let c : Begun s (bs ++ (d ++ 32 ∷ [])) (j + 1) = rw (← append-assoc bs d (32 ∷ [])) (begun-next q e (omega arith)) in
+        numbers-more s bs d (numbersAt left s ascending most x l (j + 1) .read) m (further x l (j + 1) (bs ++ (d ++ 32 ∷ [])) c))
         (λ _. (d, [], (m, (tt, rw (append-nil d) q))))
 
 -- ---- A piece

@@ -1,6 +1,6 @@
+-- By the two cases of a reading; the words are those of `words-made`.
 use mathlib.Core.Path.{_≡_}
 use lib.ListN.{length}
--- By the two cases of a reading; the words are those of `words-made`.
 use Rattle.lines.specs.DidLaws.{words-made}
 use Rattle.lines.specs.Lines.{didOf}
 use borrow.Author.Needs.{needs}
