@@ -16,9 +16,9 @@ COUNT = 60000
 SECONDS = 60
 
 LIBRARY = target/staticlib/libwatch.a
-# The program and its manual page, once they exist.
-PROGRAM =
-MANUAL =
+# The program and its manual page.
+PROGRAM = target/bin/watch_cli
+MANUAL = docs/watch.1
 
 all: $(LIBRARY) $(PROGRAM)
 
