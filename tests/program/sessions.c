@@ -1,0 +1,251 @@
+/* Whole inputs: a head of three lines and events of an execution, in any order, with lines between that are spoiled or out of place. */
+#include <string.h>
+
+#include "inputs.h"
+
+struct session {
+    struct source *s;
+    unsigned k, room, spoiled; /* spoiled: percentage of did lines */
+    uint64_t labels;
+    struct execution x;
+    struct bytes *input;
+};
+
+static struct bytes line;
+
+/* ---- right lines ---- */
+
+static void watch_line(const struct session *t) {
+    line.length = 0;
+    put_text(&line, "(watch ");
+    put_number(&line, t->k);
+    put_text(&line, " ");
+    put_number(&line, t->room);
+    put_text(&line, ")");
+}
+
+static void rule_line(const struct session *t, bool spoiled) {
+    uint8_t text[TEXT_MOST];
+    unsigned lines = chance(t->s, 80) ? between(t->s, 1, 24) : between(t->s, 24, 64);
+    line.length = 0;
+    put_text(&line, "(rule ");
+    put_bytes(&line, text, spoiled ? spoiled_rule(t->s, t->k, text) : random_rule(t->s, t->k, lines, text));
+    put_text(&line, ")");
+}
+
+static void start_line(const struct session *t) {
+    line.length = 0;
+    put_text(&line, "(start");
+    for (unsigned p = 0; p < t->k; p++) {
+        put_text(&line, " ");
+        put_number(&line, t->labels >> 8 * p & 255);
+    }
+    put_text(&line, ")");
+}
+
+/* A mask may have any bits, so a process from k or from 8 up. */
+static void did_line(const struct session *t, struct sent e) {
+    const char *before = "(did (";
+    line.length = 0;
+    for (unsigned p = 0; p < 64; p++) {
+        if (!(e.mask >> p & 1)) continue;
+        put_text(&line, before);
+        put_number(&line, p);
+        before = " ";
+    }
+    if (e.mask == 0) put_text(&line, before);
+    for (unsigned p = 0; p < t->k; p++) {
+        put_text(&line, p == 0 ? ") (" : " ");
+        put_number(&line, sent_count(&e, p));
+    }
+    before = ") (";
+    for (unsigned p = 0; p < 64; p++) {
+        if (!(e.mask >> p & 1)) continue;
+        put_text(&line, before);
+        put_number(&line, p < 8 ? e.labels >> 8 * p & 255 : p);
+        before = " ";
+    }
+    put_text(&line, e.mask == 0 ? ") ()" : ")");
+    put_text(&line, ")");
+}
+
+static void end_line(const struct session *t) {
+    put_bytes(t->input, line.at, line.length);
+    put_text(t->input, "\n");
+}
+
+/* ---- sessions ---- */
+
+static struct session new_session(struct source *s, struct bytes *input) {
+    struct session t = {.s = s, .k = between(s, 1, 8), .input = input};
+    t.room = chance(s, 50) ? between(s, 1, 12) : chance(s, 80) ? between(s, 10, 200) : between(s, 1, 1024);
+    t.labels = random_labels(s, (1u << t.k) - 1);
+    input->length = 0;
+    return t;
+}
+
+static void head(const struct session *t) {
+    watch_line(t);
+    end_line(t);
+    rule_line(t, false);
+    end_line(t);
+    start_line(t);
+    end_line(t);
+}
+
+/* A line that is no event of the execution: another, one twisted, one of the head, none. */
+static void stray_line(const struct session *t) {
+    struct source *s = t->s;
+    struct sent e = random_sent(s, t->k);
+    unsigned choice = below(s, 100);
+    if (choice < 35 && t->x.n > 0) e = twisted(s, t->x.event[below(s, t->x.n)], t->k);
+    else if (choice < 65 && t->x.n > 0) e = t->x.event[below(s, t->x.n)];
+    if (choice < 92) did_line(t, e);
+    else if (choice < 94) watch_line(t);
+    else if (choice < 96) rule_line(t, false);
+    else if (choice < 98) start_line(t);
+    else line.length = 0;
+    if (choice < 92 && chance(s, t->spoiled)) spoil_line(s, &line);
+    end_line(t);
+}
+
+static void did_lines(const struct session *t) {
+    struct source *s = t->s;
+    unsigned strays = chance(s, 50) ? 10 : 50;
+    for (unsigned i = 0; i < t->x.n; i++) {
+        while (chance(s, strays)) stray_line(t);
+        did_line(t, t->x.event[i]);
+        if (chance(s, t->spoiled)) {
+            spoil_line(s, &line);
+            end_line(t);
+            did_line(t, t->x.event[i]);
+        }
+        if (!chance(s, 3)) end_line(t);
+    }
+}
+
+/* An early end, or no last line feed. */
+static void cut_input(struct source *s, struct bytes *input) {
+    if (chance(s, 10)) input->length = below(s, (unsigned)input->length + 1);
+    else if (input->length > 0 && chance(s, 15)) input->length--;
+}
+
+static void events_session(struct source *s, struct bytes *input) {
+    static const unsigned spoiled[] = {0, 20, 60, 90};
+    struct session t = new_session(s, input);
+    t.spoiled = spoiled[below(s, 4)];
+    t.x = random_execution(s, t.k, between(s, 1, 24), 500, chance(s, 50) ? 15 : 50);
+    if (chance(s, 70)) shuffle(s, t.x.event, t.x.n, chance(s, 60));
+    head(&t);
+    did_lines(&t);
+    cut_input(s, input);
+}
+
+/* Only lines that say where they are wrong; the event behind them shows that the watch is as it was. */
+static void spoiled_session(struct source *s, struct bytes *input, bool stretched) {
+    struct session t = new_session(s, input);
+    t.x = random_execution(s, t.k, between(s, 2, 6), 100, 40);
+    head(&t);
+    for (unsigned i = between(s, 10, stretched ? 20 : 60); i > 0 && input->length < BYTES_MOST / 2; i--) {
+        did_line(&t, t.x.event[below(s, t.x.n)]);
+        if (stretched) stretch_line(s, &line);
+        if (!stretched || chance(s, 20)) spoil_line(s, &line);
+        end_line(&t);
+    }
+    did_lines(&t);
+    cut_input(s, input);
+}
+
+/* One line of the head is spoiled, left out, doubled or another. */
+static void head_session(struct source *s, struct bytes *input) {
+    struct session t = new_session(s, input);
+    unsigned wrong = below(s, 3), how = below(s, 100);
+    t.x = random_execution(s, t.k, 3, 100, 40);
+    for (unsigned i = 0; i < 3; i++) {
+        if (i == 0) watch_line(&t);
+        else if (i == 1) rule_line(&t, wrong == 1 && chance(s, 50));
+        else start_line(&t);
+        if (wrong != i) {
+            end_line(&t);
+        } else if (how < 75) {
+            if (!(i == 1 && chance(s, 50))) spoil_line(s, &line);
+            end_line(&t);
+        } else if (how < 85) {
+            stretch_line(s, &line);
+            end_line(&t);
+        } else if (how < 88) {
+            end_line(&t);
+            end_line(&t);
+        } else if (how < 97) {
+            stray_line(&t);
+        }
+    }
+    did_lines(&t);
+    cut_input(s, input);
+}
+
+/* The first event comes last: up to 32 are held, then all go through. */
+static void held_session(struct source *s, struct bytes *input) {
+    struct session t = new_session(s, input);
+    t.k = between(s, 1, 3);
+    t.room = chance(s, 80) ? 1024 : t.room;
+    t.x = random_execution(s, t.k, between(s, 25, 42), 3000, 30);
+    for (unsigned i = 0; i + 1 < t.x.n; i++) {
+        struct sent e = t.x.event[i];
+        t.x.event[i] = t.x.event[i + 1];
+        t.x.event[i + 1] = e;
+    }
+    head(&t);
+    did_lines(&t);
+    for (unsigned i = 0; i < t.x.n; i++) {
+        did_line(&t, t.x.event[i]);
+        end_line(&t);
+    }
+}
+
+/* Counts of three digits: one process alone for long, then others. */
+static void late_session(struct source *s, struct bytes *input) {
+    struct session t = new_session(s, input);
+    t.k = between(s, 1, 3);
+    t.room = 1024;
+    unsigned alone = below(s, t.k), before = chance(s, 50) ? between(s, 97, 103) : between(s, 250, 260);
+    head(&t);
+    for (unsigned i = 1; i <= before; i++) {
+        struct sent e = {.mask = (uint64_t)1 << alone};
+        e.labels = random_labels(s, e.mask);
+        set_sent_count(&e, alone, i);
+        did_line(&t, e);
+        end_line(&t);
+    }
+    t.x = later_execution(s, t.k, between(s, 3, 6), 3000, 30, alone, before);
+    did_lines(&t);
+}
+
+/* Processes that hardly meet, so that more frontiers than the room come to be kept. */
+static void wide_session(struct source *s, struct bytes *input) {
+    struct session t = new_session(s, input);
+    t.k = between(s, 3, 5);
+    t.room = chance(s, 60) ? between(s, 1020, 1024) : between(s, 90, 110);
+    t.x = random_execution(s, t.k, 60, 8000, 1);
+    head(&t);
+    did_lines(&t);
+}
+
+static void small_input(struct source *s, struct bytes *input) {
+    input->length = 0;
+    for (unsigned i = below(s, 4); i > 0; i--) {
+        uint8_t byte = chance(s, 60) ? '\n' : (uint8_t)draw(s);
+        put_bytes(input, &byte, 1);
+    }
+}
+
+void random_input(struct source *s, uint64_t number, struct bytes *input) {
+    if (number % 500 == 7) wide_session(s, input);
+    else if (number % 500 == 57) late_session(s, input);
+    else if (number % 100 == 33) small_input(s, input);
+    else if (number % 50 == 3) held_session(s, input);
+    else if (number % 10 == 0) spoiled_session(s, input, true);
+    else if (number % 10 < 4) spoiled_session(s, input, false);
+    else if (number % 10 < 7) events_session(s, input);
+    else head_session(s, input);
+}
