@@ -1,10 +1,10 @@
 # The library, its header and its tests. Needs the Rattle kit (rt) on the PATH and a C compiler.
-#   make                    builds the library, which proves everything in it first
-#   make install PREFIX=..  library, header, pkg-config file
+#   make                    builds the library and the program, which proves everything in them first
+#   make install PREFIX=..  library, header, pkg-config file, program and manual page
 #   make test               the gate
 #   make tests              the tests in C, against the library
 #   make differential       the library against the model: SEED, COUNT
-#   make fuzz SECONDS=n     the same for so long, from a new seed
+#   make fuzz SECONDS=n     the same for so long, from a new seed; then the program against its model
 #   make bench              the calls beside plain C ones
 
 VERSION = 0.1.0
@@ -22,8 +22,14 @@ MANUAL = docs/watch.1
 
 all: $(LIBRARY) $(PROGRAM)
 
-$(LIBRARY): crates.txt $(shell find crates -type f -not -path '*/must-fail/*')
+SOURCES = crates.txt $(shell find crates -type f -not -path '*/must-fail/*')
+
+$(LIBRARY): $(SOURCES)
 	rt staticlib watch
+	@touch $@
+
+$(PROGRAM): $(SOURCES)
+	rt check watch_cli
 	@touch $@
 
 install: all
@@ -32,20 +38,24 @@ install: all
 	install -m 644 $(LIBRARY) $(DESTDIR)$(PREFIX)/lib/libwatch.a
 	install -m 644 include/watch.h $(DESTDIR)$(PREFIX)/include/watch.h
 	install -m 644 target/watch.pc $(DESTDIR)$(PREFIX)/lib/pkgconfig/watch.pc
-	$(if $(PROGRAM),install -d $(DESTDIR)$(PREFIX)/bin && install -m 755 $(PROGRAM) $(DESTDIR)$(PREFIX)/bin/watch)
-	$(if $(MANUAL),install -d $(DESTDIR)$(PREFIX)/share/man/man1 && install -m 644 $(MANUAL) $(DESTDIR)$(PREFIX)/share/man/man1/watch.1)
+	install -d $(DESTDIR)$(PREFIX)/bin $(DESTDIR)$(PREFIX)/share/man/man1
+	install -m 755 $(PROGRAM) $(DESTDIR)$(PREFIX)/bin/watch
+	install -m 644 $(MANUAL) $(DESTDIR)$(PREFIX)/share/man/man1/watch.1
 
 test:
 	.ci/run
 
-tests: $(LIBRARY)
+tests: $(LIBRARY) $(PROGRAM)
 	SEED=$(SEED) COUNT=$(COUNT) CC='$(CC)' tests/run $(LIBRARY)
+	tests/program/run $(PROGRAM)
+	CC='$(CC)' tests/program/compare $(PROGRAM)
 
 differential: $(LIBRARY)
 	CC='$(CC)' tests/run $(LIBRARY) differential $(SEED) $(COUNT)
 
-fuzz: $(LIBRARY)
+fuzz: $(LIBRARY) $(PROGRAM)
 	CC='$(CC)' tests/run $(LIBRARY) fuzz $(SECONDS)
+	CC='$(CC)' tests/program/compare $(PROGRAM) fuzz $(SECONDS)
 
 bench: target/bench_calls
 	target/bench_calls
