@@ -1,19 +1,40 @@
--- A number of 64 bits has at most 20 decimal digits.
-use Prim.Native.Nat.{ℕ, _-_, _^_, _≤_, _<_}
-use native.Mathlib.Omega.{arith}
-use native.Mathlib.Nat.{zero-lt-suc, pow-le-pow-right}
-use mathlib.Core.Path.{_≡_, refl}
-use mathlib.Core.Bool.{Bool, true, false}
+-- The answers' text (01, Examples: the program), each with its line feed.
+use Prim.Native.Nat.{ℕ, zero, suc, _+_, _-_, _/_, _%_}
+use mathlib.Core.Bool.{Bool, cond}
+use mathlib.Core.List.{List, [], _∷_, _++_}
 use lib.Dec.{ltb}
-use borrow.Author.Tests.{ltb-true, ltb-false}
-use Rattle.io.specs.Digits.{Fewest}
+use Rattle.clocks.specs.Counts.{at}
+use Rattle.rules.specs.Text.{ascii}
 
-pub twenty : (n k : ℕ) → n < 18446744073709551616 → Fewest 10 1 n k → k ≤ 20
-twenty n k h f = go (ltb 20 k) refl
-  where
-    go : (b : Bool) → ltb 20 k ≡ b → k ≤ 20
-    go true e =
-        let p : 100000000000000000000 ≤ 10 ^ (k - 1) = pow-le-pow-right (zero-lt-suc 9) {i = 20} {j = k - 1} (omega (arith, ltb-true 20 k e)) in
-        let q : 10 ^ (k - 1) ≤ n = f .2 (omega (arith, ltb-true 20 k e)) in
-        absurd (omega (arith, p, q, h))
-    go false e = ltb-false 20 k e
+-- A number's decimal digits, without needless zeros, for a number of at most so many digits.
+unfoldable pub numeralOf : ℕ → ℕ → List ℕ
+numeralOf zero n = []
+numeralOf (suc most) n = cond (ltb n 10) ((48 + n) ∷ []) (numeralOf most (n / 10) ++ ((48 + n % 10) ∷ []))
+
+-- The digits of a number of 64 bits, which are at most 20.
+abbrev pub numeral : ℕ → List ℕ
+numeral n = numeralOf 20 n
+
+-- The n counts behind the first, with a space before each.
+unfoldable pub moreCounts : List ℕ → ℕ → List ℕ
+moreCounts counts zero = []
+moreCounts counts (suc n) = moreCounts counts n ++ (32 ∷ []) ++ numeral (at counts (suc n))
+
+-- The first k counts, at least one, with single spaces between them.
+unfoldable pub countsText : List ℕ → ℕ → List ℕ
+countsText counts k = numeral (at counts 0) ++ moreCounts counts (k - 1)
+
+-- (refused n place)
+unfoldable pub refusedText : ℕ → ℕ → List ℕ
+refusedText n place = ascii "(refused " ++ numeral n ++ (32 ∷ []) ++ numeral place ++ (41 ∷ 10 ∷ [])
+
+-- (held n)
+unfoldable pub heldText : ℕ → List ℕ
+heldText n = ascii "(held " ++ numeral n ++ (41 ∷ 10 ∷ [])
+
+-- (state (c ..) yes|no kept), with the counts of k processes
+unfoldable pub verdictText : Bool → List ℕ
+verdictText holds = cond holds (ascii ") yes ") (ascii ") no ")
+
+unfoldable pub stateText : List ℕ → ℕ → Bool → ℕ → List ℕ
+stateText counts k holds kept = ascii "(state (" ++ countsText counts k ++ verdictText holds ++ numeral kept ++ (41 ∷ 10 ∷ [])

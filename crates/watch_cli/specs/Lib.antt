@@ -1,3 +1,7 @@
--- The program's answers.
+-- The program watch: its answers' text, and what its proofs cite.
+
+-- What a reader has to believe
 pub mod Answers
+-- What is proved of it
+pub mod AnswerLaws
 pub mod Rooms

@@ -12,7 +12,7 @@ ghost use lib.ListN.{length};
 
 // Prints what a reply word says of an accepted open or take: the taken counts of k processes, the verdict, the frontiers kept.
 pub(crate) fn answer_state(state: &[u8], k: u64, reply: u64) -> bool
-    requires { ⌜ k ≤ 8 ⌝ }
+    requires { ⌜ (1 ≤ k) × (k ≤ 8) ⌝ }
     requires { ⌜ length (now state) ≡ 1368 ⌝ }
 {
     let counts = records::fields::taken_counts(state, 2);
@@ -29,7 +29,7 @@ pub(crate) fn answer_refusal(reply: u64) -> bool {
 // Prints what a take's reply word says; false if no more takes are to follow: nothing was ready, or it was turned back with another
 // number than 35, or the answer could not be written.
 fn answer_take(state: &[u8], k: u64, reply: u64) -> bool
-    requires { ⌜ k ≤ 8 ⌝ }
+    requires { ⌜ (1 ≤ k) × (k ≤ 8) ⌝ }
     requires { ⌜ length (now state) ≡ 1368 ⌝ }
 {
     if reply == 0 {
@@ -44,7 +44,7 @@ fn answer_take(state: &[u8], k: u64, reply: u64) -> bool
 
 // Takes until nothing is ready or nothing fits. The takes are counted down from a number that no run reaches, so that the loop is seen to end.
 fn take_all(k: u64, state: &mut [u8], window: &mut [u8], scratch: &mut [u8])
-    requires { ⌜ k ≤ 8 ⌝ }
+    requires { ⌜ (1 ≤ k) × (k ≤ 8) ⌝ }
     requires { ⌜ length (now state) ≡ 1368 ⌝ }
 {
     let mut left = u64::MAX;
@@ -68,7 +68,7 @@ fn offer(
     window: &mut [u8],
     scratch: &mut [u8],
 )
-    requires { ⌜ k ≤ 8 ⌝ }
+    requires { ⌜ (1 ≤ k) × (k ≤ 8) ⌝ }
     requires { ⌜ length (now state) ≡ 1368 ⌝ }
 {
     let reply = watch_offer(mask, low, high, labels, state);
@@ -82,7 +82,7 @@ fn offer(
 
 // Answers an event's line.
 pub(crate) fn did(line: &[u8], k: u64, state: &mut [u8], window: &mut [u8], scratch: &mut [u8])
-    requires { ⌜ k ≤ 8 ⌝ }
+    requires { ⌜ (1 ≤ k) × (k ≤ 8) ⌝ }
     requires { ⌜ length (now state) ≡ 1368 ⌝ }
 {
     let read = lines::did::read_did(line, k);

@@ -2,7 +2,9 @@
 
 // Standard input, from chunks of any size to lines.
 mod input;
-// Answers in bytes, each one line.
+// The answers' text.
+mod text;
+// Answers, written.
 mod answer;
 // The three lines that open a watch.
 mod opening;

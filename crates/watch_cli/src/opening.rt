@@ -84,7 +84,7 @@ pub(crate) fn read_second(line: &[u8], k: u64, rule: &mut [u8]) -> usize
 
 // Opens the watch and prints its first state; whether it is open.
 fn open(k: u64, labels: u64, rule: &[u8], state: &mut [u8], window: &mut [u8]) -> bool
-    requires { ⌜ k ≤ 8 ⌝ }
+    requires { ⌜ (1 ≤ k) × (k ≤ 8) ⌝ }
     requires { ⌜ length (now state) ≡ 1368 ⌝ }
 {
     let reply = watch_open(rule, k, labels, state, window);
@@ -103,7 +103,7 @@ pub(crate) fn read_third(
     state: &mut [u8],
     window: &mut [u8],
 ) -> bool
-    requires { ⌜ k ≤ 8 ⌝ }
+    requires { ⌜ (1 ≤ k) × (k ≤ 8) ⌝ }
     requires { ⌜ length (now state) ≡ 1368 ⌝ }
 {
     let read = lines::start::read_start(line, k);

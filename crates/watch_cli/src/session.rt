@@ -21,7 +21,7 @@ fn from_events(
     window: &mut [u8],
     scratch: &mut [u8],
 )
-    requires { ⌜ k ≤ 8 ⌝ }
+    requires { ⌜ (1 ≤ k) × (k ≤ 8) ⌝ }
     requires { ⌜ start .end ≤ length (now chunk) ⌝ }
     requires { ⌜ length (now state) ≡ 1368 ⌝ }
 {
@@ -50,7 +50,7 @@ fn from_start(
     window: &mut [u8],
     scratch: &mut [u8],
 )
-    requires { ⌜ k ≤ 8 ⌝ }
+    requires { ⌜ (1 ≤ k) × (k ≤ 8) ⌝ }
     requires { ⌜ start .end ≤ length (now chunk) ⌝ }
     requires { ⌜ length (now state) ≡ 1368 ⌝ }
 {
@@ -75,7 +75,7 @@ fn from_rule(
     window: &mut [u8],
     scratch: &mut [u8],
 )
-    requires { ⌜ k ≤ 8 ⌝ }
+    requires { ⌜ (1 ≤ k) × (k ≤ 8) ⌝ }
     requires { ⌜ start .end ≤ length (now chunk) ⌝ }
     requires { ⌜ length (now line) ≤ length (now rule) ⌝ }
     requires { ⌜ length (now state) ≡ 1368 ⌝ }
