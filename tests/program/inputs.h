@@ -20,6 +20,8 @@ void replace(struct bytes *b, size_t place, size_t out, const uint8_t *in, size_
 
 /* Changes a line: bytes, numbers, lists, its length. A line feed may come into it. */
 void spoil_line(struct source *s, struct bytes *line);
+void spoil_number(struct source *s, struct bytes *line);
+void spoil_end(struct source *s, struct bytes *line);
 
 /* Makes it about 4,096 bytes long, or much longer, by a long list, a long number or what comes last. */
 void stretch_line(struct source *s, struct bytes *line);

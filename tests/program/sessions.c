@@ -156,6 +156,18 @@ static void spoiled_session(struct source *s, struct bytes *input, bool stretche
     cut_input(s, input);
 }
 
+/* A line of the head: its numbers and its end more often than in an event's line, since here one fault is all there is in an input. */
+static void spoil_head(const struct session *t, unsigned which) {
+    struct source *s = t->s;
+    unsigned choice = below(s, 100);
+    if (which == 1 && choice < 40) rule_line(t, true);
+    else if (which == 1 && choice < 50) line.length = between(s, 0, 10);
+    else if (which == 1 && choice < 65) spoil_end(s, &line);
+    else if (which != 1 && choice < 60) spoil_number(s, &line);
+    else if (choice < 90) spoil_line(s, &line);
+    else stretch_line(s, &line);
+}
+
 /* One line of the head is spoiled, left out, doubled or another. */
 static void head_session(struct source *s, struct bytes *input) {
     struct session t = new_session(s, input);
@@ -163,22 +175,12 @@ static void head_session(struct source *s, struct bytes *input) {
     t.x = random_execution(s, t.k, 3, 100, 40);
     for (unsigned i = 0; i < 3; i++) {
         if (i == 0) watch_line(&t);
-        else if (i == 1) rule_line(&t, wrong == 1 && chance(s, 50));
+        else if (i == 1) rule_line(&t, false);
         else start_line(&t);
-        if (wrong != i) {
-            end_line(&t);
-        } else if (how < 75) {
-            if (!(i == 1 && chance(s, 50))) spoil_line(s, &line);
-            end_line(&t);
-        } else if (how < 85) {
-            stretch_line(s, &line);
-            end_line(&t);
-        } else if (how < 88) {
-            end_line(&t);
-            end_line(&t);
-        } else if (how < 97) {
-            stray_line(&t);
-        }
+        if (wrong == i && how < 88) spoil_head(&t, i);
+        if (wrong == i && how >= 95) stray_line(&t);
+        else if (wrong != i || how < 92) end_line(&t);
+        if (wrong == i && how >= 88 && how < 90) end_line(&t);
     }
     did_lines(&t);
     cut_input(s, input);
@@ -231,6 +233,43 @@ static void wide_session(struct source *s, struct bytes *input) {
     did_lines(&t);
 }
 
+/* Three processes that never meet: with all their events but the last one everything fits, with it just so, or by one too few. */
+static void brim_session(struct source *s, struct bytes *input) {
+    struct session t = new_session(s, input);
+    unsigned last[3], kept, done[3] = {0, 0, 0};
+    t.k = 3;
+    t.room = chance(s, 70) ? 1024 : between(s, 60, 600);
+    do {
+        for (unsigned p = 0; p < 3; p++) last[p] = between(s, 1, 26);
+        kept = (last[0] + 1) * (last[1] + 1) * (last[2] + 1) - last[0] * last[1] * last[2];
+    } while ((kept != t.room && kept != t.room + 1) || last[0] + last[1] + last[2] > EVENTS_MOST);
+    while (t.x.n < last[0] + last[1] + last[2]) {
+        unsigned p = below(s, 3);
+        if (done[p] == last[p]) continue;
+        struct sent e = {.mask = (uint64_t)1 << p, .labels = (uint64_t)below(s, 8) << 8 * p};
+        set_sent_count(&e, p, ++done[p]);
+        t.x.event[t.x.n++] = e;
+    }
+    head(&t);
+    for (unsigned i = 0; i < t.x.n; i++) {
+        did_line(&t, t.x.event[i]);
+        end_line(&t);
+    }
+}
+
+/* More input and more answers than a pipe holds. */
+static void many_session(struct source *s, struct bytes *input) {
+    struct session t = new_session(s, input);
+    t.x = random_execution(s, t.k, 8, 200, 30);
+    head(&t);
+    for (unsigned i = between(s, 5000, 9000); i > 0; i--) {
+        did_line(&t, t.x.event[0]);
+        if (chance(s, 60)) line.length = below(s, (unsigned)line.length);
+        end_line(&t);
+    }
+    did_lines(&t);
+}
+
 static void small_input(struct source *s, struct bytes *input) {
     input->length = 0;
     for (unsigned i = below(s, 4); i > 0; i--) {
@@ -240,12 +279,14 @@ static void small_input(struct source *s, struct bytes *input) {
 }
 
 void random_input(struct source *s, uint64_t number, struct bytes *input) {
-    if (number % 500 == 7) wide_session(s, input);
-    else if (number % 500 == 57) late_session(s, input);
+    if (number % 100 == 7) wide_session(s, input);
+    else if (number % 500 == 157) late_session(s, input);
+    else if (number % 500 == 357) many_session(s, input);
+    else if (number % 100 == 57) brim_session(s, input);
     else if (number % 100 == 33) small_input(s, input);
     else if (number % 50 == 3) held_session(s, input);
     else if (number % 10 == 0) spoiled_session(s, input, true);
-    else if (number % 10 < 4) spoiled_session(s, input, false);
-    else if (number % 10 < 7) events_session(s, input);
+    else if (number % 10 < 3) spoiled_session(s, input, false);
+    else if (number % 10 < 5) events_session(s, input);
     else head_session(s, input);
 }

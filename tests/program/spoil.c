@@ -56,7 +56,7 @@ static void spoil_byte(struct source *s, struct bytes *line) {
     }
 }
 
-static void spoil_end(struct source *s, struct bytes *line) {
+void spoil_end(struct source *s, struct bytes *line) {
     static const char *const ends[] = {"\r", " ", ")", "\t", "()", " 0", "(", "0"};
     if (line->length > 0 && chance(s, 40)) line->length--;
     if (chance(s, 60)) put_text(line, ends[below(s, 8)]);
@@ -92,7 +92,7 @@ static void odd_number(struct source *s, char *digits, size_t room) {
     digits[length] = '\0';
 }
 
-static void spoil_number(struct source *s, struct bytes *line) {
+void spoil_number(struct source *s, struct bytes *line) {
     size_t first, end;
     char digits[100];
     if (!find_number(s, line, &first, &end)) return;
