@@ -11,8 +11,8 @@ enum { LINE_MOST = 4096, NUMBERS_MOST = 1 << 17, LISTS = 3 };
 
 struct number {
     unsigned list;
-    size_t place;      /* of its first digit */
-    uint64_t value;    /* ENOUGH stands for everything from there up */
+    size_t place;   /* of its first digit */
+    uint64_t value; /* further digits of one that is above every limit do not count */
 };
 
 struct list {

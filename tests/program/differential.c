@@ -1,7 +1,8 @@
 /* The program against its model on random inputs.
  *   differential PROGRAM SEED COUNT [FIRST]      inputs FIRST (0) up to FIRST + COUNT - 1
  *   differential PROGRAM --seconds N [SEED]      as many as there is time for
- * An input depends on the seed and its number only. The first difference is printed and ends the run with 1. */
+ * An input depends on the seed and its number only. The first difference is printed and ends the run with 1; the whole input then stands
+ * in a file beside this program, with .in behind its name. */
 #include <stdio.h>
 #include <stdlib.h>
 #include <string.h>
@@ -11,6 +12,8 @@
 #include "child.h"
 
 enum { NUMBERS = 40 };
+
+static const char *own_name;
 
 static struct {
     unsigned long long inputs, lines, opened, paced, states, held, refused[NUMBERS], at_limit[NUMBERS];
@@ -56,25 +59,49 @@ static void print_tally(void) {
 
 /* ---- a difference ---- */
 
-/* Line feeds end lines here too; a long run of bytes is shown whole, so that it can be copied. */
+static void print_byte(uint8_t byte) {
+    if (byte == '\n') printf("\\n\n");
+    else if (byte == '\\') printf("\\\\");
+    else if (byte >= ' ' && byte < 127) putchar(byte);
+    else printf("\\%03o", byte);
+}
+
+/* Of a long line the beginning and what lies around its limit. */
+static bool shown(size_t place) {
+    return place < 200 || (place >= LINE_MOST - 20 && place < LINE_MOST + 20);
+}
+
 static void print_escaped(const char *name, const void *bytes, size_t length) {
     const uint8_t *at = bytes;
+    size_t line = 0;
     printf("%s, %zu bytes:\n", name, length);
     for (size_t i = 0; i < length; i++) {
-        if (at[i] == '\n') printf("\\n\n");
-        else if (at[i] == '\\') printf("\\\\");
-        else if (at[i] >= ' ' && at[i] < 127) putchar(at[i]);
-        else printf("\\%03o", at[i]);
+        size_t place = i - line;
+        if (shown(place) || at[i] == '\n') print_byte(at[i]);
+        else if (shown(place - 1)) printf("[from place %zu not shown]", place);
+        if (at[i] == '\n') line = i + 1;
     }
     printf("\n");
 }
 
+static void keep_input(const struct bytes *input) {
+    char name[4096];
+    snprintf(name, sizeof name, "%s.in", own_name);
+    FILE *file = fopen(name, "wb");
+    if (file == NULL) return;
+    fwrite(input->at, 1, input->length, file);
+    if (fclose(file) == 0) printf("the whole input is in %s\n", name);
+}
+
 static void differs(uint64_t seed, uint64_t number, const char *wrong, const struct bytes *input, const struct output *expected,
                     const struct bytes *got) {
-    printf("seed %llu, input %llu: %s\n", (unsigned long long)seed, (unsigned long long)number, wrong);
+    unsigned long long again = number;
     print_escaped("input", input->at, input->length);
     print_escaped("expected", expected->bytes, expected->length);
     print_escaped("got", got->at, got->length);
+    keep_input(input);
+    printf("seed %llu, input %llu: %s (arguments to try it again: PROGRAM %llu 1 %llu)\n", (unsigned long long)seed, again, wrong,
+           (unsigned long long)seed, again);
     exit(1);
 }
 
@@ -104,6 +131,7 @@ static int usage(void) {
 
 int main(int argc, char **argv) {
     if (argc < 4 || argc > 5) return usage();
+    own_name = argv[0];
     bool timed = strcmp(argv[2], "--seconds") == 0;
     time_t start = time(NULL);
     uint64_t seed = timed ? (argc == 5 ? strtoull(argv[4], NULL, 10) : (uint64_t)start) : strtoull(argv[2], NULL, 10);

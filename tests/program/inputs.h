@@ -4,7 +4,7 @@
 
 #include "../differential/generate.h"
 
-enum { BYTES_MOST = 1 << 20, LONGEST_LINE = 140000 };
+enum { BYTES_MOST = 1 << 20 };
 
 struct bytes {
     size_t length;
