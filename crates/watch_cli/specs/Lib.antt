@@ -5,3 +5,4 @@ pub mod Answers
 -- What is proved of it
 pub mod AnswerLaws
 pub mod Rooms
+pub mod KeptRule

@@ -7,9 +7,10 @@ use lines::RuleLine;
 use lines::StartLine;
 use lines::WatchLine;
 use watch::exports::watch_open;
-ghost use Prim.Native.Nat.{_-_, _≤_};
+ghost use Prim.Native.Nat.{_-_, _≤_, _<_};
 ghost use mathlib.Core.Path.{_≡_};
-ghost use lib.ListN.{length};
+ghost use lib.ListN.{length, take, drop};
+ghost use Rattle.lines.specs.Lines.{ruleText};
 
 // The processes and the room in frontiers; both 0 if the line was turned back.
 pub(crate) struct Opening {
@@ -56,6 +57,7 @@ fn keep_rule(line: &[u8], start: usize, end: usize, rule: &mut [u8]) -> usize
     requires { ⌜ (start ≤ end) × (end ≤ length (now line)) ⌝ }
     requires { ⌜ length (now line) ≤ length (now rule) ⌝ }
     ensures { λ r. ⌜ r ≡ end - start ⌝ }
+    ensures { λ r. ⌜ take r (now (rule .exit)) ≡ take (end - start) (drop start (now (line .entry))) ⌝ }
 {
     let n = end - start;
     let mut i: usize = 0;
@@ -71,6 +73,7 @@ pub(crate) fn read_second(line: &[u8], k: u64, rule: &mut [u8]) -> usize
     requires { ⌜ k ≤ 8 ⌝ }
     requires { ⌜ length (now line) ≤ length (now rule) ⌝ }
     ensures { λ r. ⌜ r ≤ length (now (rule .exit)) ⌝ }
+    ensures { λ r. ⌜ (0 < r → take r (now (rule .exit)) ≡ ruleText (now (line .entry))) ⌝ }
 {
     let read = lines::rule::read_rule(line, k as u32);
     match read {

@@ -1,8 +1,8 @@
 -- The line's number was at most 1,024, or the line would have been turned back (`room-within`); k was tested.
 use native.Mathlib.Omega.{arith}
 use mathlib.Core.Path.{subst}
-use Rattle.watch_cli.specs.Rooms.{RoomWithin, room-within}
 use borrow.Author.Needs.{needs}
+use Rattle.watch_cli.specs.Rooms.{RoomWithin, room-within}
 use Rattle.watch_cli.proofs.opening.read_first.Statement.{statement}
 use Rattle.watch_cli.proofs.opening.read_first.Tie as tie
 

@@ -1,10 +1,9 @@
 -- Each piece goes behind the text so far (`behind`).
 use native.Mathlib.Omega.{arith}
-use Rattle.watch_cli.specs.Answers.{heldText}
-use Rattle.watch_cli.specs.AnswerLaws.{behind}
 use mathlib.Core.List.{[], _∷_}
-use Rattle.watch_cli.specs.Answers.{numeral}
 use borrow.Author.Needs.{needs}
+use Rattle.watch_cli.specs.Answers.{heldText, numeral}
+use Rattle.watch_cli.specs.AnswerLaws.{behind}
 use Rattle.watch_cli.proofs.text.held.Statement.{statement}
 use Rattle.watch_cli.proofs.text.held.Tie as tie
 

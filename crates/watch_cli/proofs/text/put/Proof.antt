@@ -1,17 +1,13 @@
 -- The text so far has the bytes laid already behind it (`laid-next`).
-use Prim.Native.Nat.{_≤_, _-_, _+_}
-use mathlib.Core.Path.{_≡_}
-use mathlib.Core.List.{_++_}
-use lib.ListN.{length, take}
+use Prim.Native.Nat.{_≤_, _-_, _+_, ℕ}
 use native.Mathlib.Omega.{arith}
 use native.Mathlib.Nat.{add-zero}
-use mathlib.Core.Path.{refl, sym, ap, _∙_}
-use mathlib.Core.List.{append-nil, List}
-use Prim.Native.Nat.{ℕ}
-use lib.ListN.{length-set}
+use mathlib.Core.Path.{_≡_, refl, sym, ap, _∙_}
+use mathlib.Core.List.{_++_, append-nil, List}
+use lib.ListN.{length, take, length-set}
 use lib.Seq.{take-all}
-use Rattle.watch_cli.specs.AnswerLaws.{laid-next}
 use borrow.Author.Needs.{needs}
+use Rattle.watch_cli.specs.AnswerLaws.{laid-next}
 use Rattle.watch_cli.proofs.text.put.Statement.{statement}
 use Rattle.watch_cli.proofs.text.put.Tie as tie
 

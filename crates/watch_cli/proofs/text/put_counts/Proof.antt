@@ -1,16 +1,12 @@
 -- Before process p the counts below p are laid, at most 21 bytes for each: 20 digits and a space, and no space behind the last.
 use Prim.Native.Nat.{_≤_, _-_, _+_, _*_}
-use mathlib.Core.Path.{_≡_}
-use mathlib.Core.List.{_++_}
-use lib.ListN.{length, take}
-use Rattle.watch_cli.specs.Answers.{moreCounts}
 use native.Mathlib.Omega.{arith}
-use mathlib.Core.Path.{refl, sym, _∙_}
-use mathlib.Core.List.{append-nil}
-use Rattle.watch_cli.specs.AnswerLaws.{behind, counts-next, counts-end}
-use mathlib.Core.List.{[], _∷_}
-use Rattle.watch_cli.specs.Answers.{numeral}
+use mathlib.Core.Path.{_≡_, refl, sym, _∙_}
+use mathlib.Core.List.{_++_, append-nil, [], _∷_}
+use lib.ListN.{length, take}
 use borrow.Author.Needs.{needs}
+use Rattle.watch_cli.specs.Answers.{moreCounts, numeral}
+use Rattle.watch_cli.specs.AnswerLaws.{behind, counts-next, counts-end}
 use Rattle.watch_cli.proofs.text.put_counts.Statement.{statement}
 use Rattle.watch_cli.proofs.text.put_counts.Tie as tie
 

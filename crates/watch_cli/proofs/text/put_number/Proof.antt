@@ -1,11 +1,11 @@
 -- A number of 64 bits has at most 20 digits (`twenty`), and those that io lays down are its numeral (`digits-numeral`).
+use Prim.Native.Nat.{ℕ}
 use native.Mathlib.Omega.{arith}
-use Rattle.watch_cli.specs.AnswerLaws.{twenty, digits-numeral}
 use mathlib.Core.Path.{ap, _∙_}
 use mathlib.Core.List.{List, _++_}
-use Prim.Native.Nat.{ℕ}
 use lib.ListN.{take}
 use borrow.Author.Needs.{needs}
+use Rattle.watch_cli.specs.AnswerLaws.{twenty, digits-numeral}
 use Rattle.watch_cli.proofs.text.put_number.Statement.{statement}
 use Rattle.watch_cli.proofs.text.put_number.Tie as tie
 

@@ -1,7 +1,7 @@
 -- Each way lays its word.
 use native.Mathlib.Omega.{arith}
-use Rattle.watch_cli.specs.Answers.{verdictText}
 use borrow.Author.Needs.{needs}
+use Rattle.watch_cli.specs.Answers.{verdictText}
 use Rattle.watch_cli.proofs.text.put_verdict.Statement.{statement}
 use Rattle.watch_cli.proofs.text.put_verdict.Tie as tie
 

@@ -1,10 +1,9 @@
 -- Each piece goes behind the text so far (`behind`).
 use native.Mathlib.Omega.{arith}
-use Rattle.watch_cli.specs.Answers.{stateText}
 use mathlib.Core.List.{[], _∷_}
-use Rattle.watch_cli.specs.Answers.{numeral, verdictText, countsText}
-use Rattle.watch_cli.specs.AnswerLaws.{behind}
 use borrow.Author.Needs.{needs}
+use Rattle.watch_cli.specs.Answers.{stateText, numeral, verdictText, countsText}
+use Rattle.watch_cli.specs.AnswerLaws.{behind}
 use Rattle.watch_cli.proofs.text.state.Statement.{statement}
 use Rattle.watch_cli.proofs.text.state.Tie as tie
 
