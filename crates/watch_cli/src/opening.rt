@@ -6,6 +6,7 @@ use crate::events::answer_state;
 use lines::RuleLine;
 use lines::StartLine;
 use lines::WatchLine;
+use records::refusal::bad_processes;
 use watch::exports::watch_open;
 ghost use Prim.Native.Nat.{_-_, _≤_, _<_};
 ghost use mathlib.Core.Path.{_≡_};
@@ -36,11 +37,7 @@ pub(crate) fn read_first(line: &[u8]) -> Opening
             none()
         }
         WatchLine::Watch { k, room } => {
-            if k < 1 {
-                print_refused(5, 0);
-                return none();
-            }
-            if 8 < k {
+            if bad_processes(k) {
                 print_refused(5, 0);
                 return none();
             }
@@ -81,7 +78,7 @@ pub(crate) fn read_second(line: &[u8], k: u64, rule: &mut [u8]) -> usize
             print_refused(number as u64, place as u64);
             0
         }
-        RuleLine::Rule { start, end } => { keep_rule(line, start, end, rule) }
+        RuleLine::Rule { start, end } => keep_rule(line, start, end, rule),
     }
 }
 

@@ -1,7 +1,7 @@
 -- The line's number was at most 1,024, or the line would have been turned back (`room-within`); k was tested.
-use native.Mathlib.Omega.{arith}
-use mathlib.Core.Path.{subst}
+use mathlib.Core.Path.{sym, subst, _∙_}
 use borrow.Author.Needs.{needs}
+use Rattle.records.specs.RefusalSteps.{processes-within}
 use Rattle.watch_cli.specs.Rooms.{RoomWithin, room-within}
 use Rattle.watch_cli.proofs.opening.read_first.Statement.{statement}
 use Rattle.watch_cli.proofs.opening.read_first.Tie as tie
@@ -24,6 +24,9 @@ none-requires c κs = search needs
 enum-known-read-2 : tie.Need-enum-known-read-2
 enum-known-read-2 c = search needs
 
+bad-processes-requires : tie.Need-bad-processes-requires
+bad-processes-requires c κs = search needs
+
 print-refused-requires-2 : tie.Need-print-refused-requires-2
 print-refused-requires-2 c κs = search needs
 
@@ -33,20 +36,11 @@ none-requires-2 c κs = search needs
 returns : tie.Need-returns
 returns c = search needs
 
-print-refused-requires-3 : tie.Need-print-refused-requires-3
-print-refused-requires-3 c κs = search needs
-
-none-requires-3 : tie.Need-none-requires-3
-none-requires-3 c κs = search needs
-
 returns-2 : tie.Need-returns-2
 returns-2 c = search needs
 
 returns-3 : tie.Need-returns-3
-returns-3 c = search needs
-
-returns-4 : tie.Need-returns-4
-returns-4 c = (omega (arith, c .if2 .left), subst RoomWithin (c .before .before .before .read2 .given .1) (rw (c .before .before .before .before .before .read-watch .ensures) (room-within _)))
+returns-3 c = (processes-within _ (sym (c .before .bad-processes .ensures) ∙ c .if1 .left) .1, subst RoomWithin (c .before .before .before .read2 .given .1) (rw (c .before .before .before .before .before .read-watch .ensures) (room-within _)))
 
 pub read-first-spec : {M : Type 1} → statement M
 read-first-spec =
@@ -58,11 +52,9 @@ read-first-spec =
     print-refused-requires
     none-requires
     enum-known-read-2
+    bad-processes-requires
     print-refused-requires-2
     none-requires-2
     returns
-    print-refused-requires-3
-    none-requires-3
     returns-2
-    returns-3
-    returns-4)
+    returns-3)
