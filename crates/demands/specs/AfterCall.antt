@@ -1,14 +1,13 @@
 -- The invariant goes through every call.
-use Prim.Native.Nat.{ℕ, _+_, _*_, _≤_, _<_, _/_, _%_}
+use Prim.Native.Nat.{ℕ, _+_, _*_, _≤_, _<_}
 use native.Mathlib.Omega.{arith}
-use native.Mathlib.Nat.{le-div-iff-mul-le, le-trans, div-lt-iff-lt-mul}
+use native.Mathlib.Nat.{le-div-iff-mul-le, le-trans}
 use mathlib.Core.Path.{_≡_, sym, ap, _∙_, subst, refl}
 use mathlib.Core.List.{List, _++_, [], _∷_, List·Memᴰ, List·Memᴰ·head, List·Memᴰ·tail}
-use mathlib.Core.Bool.{Bool, true, false, not, _||_, _&&_, true≢false}
+use mathlib.Core.Bool.{Bool, true, false, not, _||_, _&&_}
 use mathlib.Core.Logic.{_↔_}
 use lib.ListN.{length, replicate, length-append, length-replicate, getD}
 use lib.Dec.{eqb, T, leb, ltb, leb→le}
-use borrow.Author.Tests.{ltb-false}
 use Rattle.rules.specs.declared.Line.{Line}
 use Rattle.clocks.specs.declared.Event.{Event}
 use Rattle.frontiers.specs.Bytes.{windowBytes, frontierLength, frontiers}
@@ -30,6 +29,8 @@ use Rattle.watch.specs.Offer.{offeredEvent}
 use Rattle.demands.specs.Ledger.{Ledger}
 use Rattle.demands.specs.Run.{Passed, Watch, offeredLedger, after, offers, decisionOf, ledgerAfter, Call, run, takes, finds}
 use Rattle.demands.specs.OfferLaws.{OfferCase, offer-case, accepted-watching, turned, accepted}
+use Rattle.records.specs.RefusalSteps.{or-false-e}
+use Rattle.watch.specs.TakeCallSteps.{room-few}
 use Rattle.watch.specs.Take.{Decision, tried, decided, takeWithin, takeCall, undecided, settingIn}
 use Rattle.records.specs.Record.{readyIn, validIn}
 use Rattle.records.specs.Record.{keptCount, removed}
@@ -46,11 +47,6 @@ WatchRight w k table start W = Watching w k table start (W .ledger) (W .bytes) (
 -- Stands for an event that is not there.
 abbrev pub noEvent : Event
 noEvent = record { mask = 0; clock = []; labels = [] }
-
--- two tests fail together exactly if each does
-pub or-false : (a b : Bool) → a || b ≡ false → (a ≡ false) × (b ≡ false)
-or-false true b h = absurd (true≢false h)
-or-false false b h = (refl, h)
 
 -- the room of a window, in frontiers and in bytes
 room-iff : (w n total : ℕ) → (n ≤ roomOf w total) ↔ (n * frontierLength w ≤ total)
@@ -150,16 +146,10 @@ module _ (w k : ℕ) (table : List Line) (start : Cut) (R : Rule w k table start
 
     -- ---- the watch after it
     room-1024 : badLengths ≡ false → roomOf w (length lent) ≤ 1024
-    unfolding badLengths badWindowLength roomOf frontierLength
+    unfolding badLengths
     room-1024 h =
-        let F : ℕ = frontierLength w in
-        let n : ℕ = length lent in
-        let a = or-false (badRecordLength w (length bytes)) (badWindowLength w n || not (eqb (length scratch) n)) h .1 in
-        let b = or-false (badWindowLength w n) (not (eqb (length scratch) n)) a .0 in
-        let c = or-false (ltb n F) (ltb (1024 * F) n || not (eqb (n % F) 0)) b .1 in
-        let l : n ≤ 1024 * F = ltb-false (1024 * F) n (or-false (ltb (1024 * F) n) (not (eqb (n % F) 0)) c .0) in
-        let t : n / F < 1025 = div-lt-iff-lt-mul {k = F} {x = n} {y = 1025} (omega arith) .1 (omega arith) in
-        omega arith
+        let windows = or-false-e (badRecordLength w (length bytes)) (badWindowLength w (length lent) || not (eqb (length scratch) (length lent))) h .1 in
+        room-few w (length lent) (or-false-e (badWindowLength w (length lent)) (not (eqb (length scratch) (length lent))) windows .0)
 
     pub take-right : badLengths ≡ false → Watching w k table start (ledgerAfter w bytes L decision) (decided w bytes lent (X .kept) decision .bytes) (decided w bytes lent (X .kept) decision .window)
     unfolding ledgerAfter decided

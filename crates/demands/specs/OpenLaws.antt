@@ -34,7 +34,8 @@ use Rattle.clocks.specs.Valid.{Joined}
 use Rattle.records.specs.Refusals.{badRecordLength, badWindowLength, badProcesses}
 use Rattle.watch.specs.Open.{openTable, openRead, openCall}
 use Rattle.watch.specs.Answer.{turnedBack}
-use Rattle.demands.specs.AfterCall.{or-false, WatchRight}
+use Rattle.demands.specs.AfterCall.{WatchRight}
+use Rattle.records.specs.RefusalSteps.{or-false-e}
 use Rattle.demands.specs.Watching.{worldOf, Rule, all-shaped}
 use Rattle.demands.specs.Run.{Watch, opened}
 use Rattle.demands.specs.Status.{recordBytes}
@@ -56,7 +57,7 @@ open-case w text k labels s window =
     go false h6 true h5 c h9 r h = turned-back 5 0 (rw (h6, h5))
     go false h6 false h5 true h9 r h = turned-back 9 0 (rw (h6, h5, h9))
     go false h6 false h5 false h9 (refused n i) h = turned-back n i (rw (h6, h5, h9, h))
-    go false h6 false h5 false h9 (formed i f) h = opens f i (or-false (badRecordLength w (length s)) (badWindowLength w (length window)) h6 .1) h5 h9 h (rw (h6, h5, h9, h))
+    go false h6 false h5 false h9 (formed i f) h = opens f i (or-false-e (badRecordLength w (length s)) (badWindowLength w (length window)) h6 .1) h5 h9 h (rw (h6, h5, h9, h))
 
 -- ---- the bytes of good lines
 line-low : (k i : ℕ) (l : Line) → k ≤ 256 → i ≤ 256 → goodLine k i l ≡ true → (l .kind < 256) × (l .a < 256) × (l .b < 256)
@@ -95,7 +96,7 @@ module _ (w : ℕ) (text : List ℕ) (k : ℕ) (labels window : List ℕ) (some-
   processes : (0 < k) × (k ≤ 8)
   unfolding badProcesses
   processes =
-      let t = or-false (eqb k 0) (ltb 8 k) h5 in
+      let t = or-false-e (eqb k 0) (ltb 8 k) h5 in
       (omega (arith, eqb-false k 0 (t .0)), ltb-false 8 k (t .1))
 
   pub opened-rule : Rule w k table (at labels)
@@ -146,7 +147,7 @@ module _ (w : ℕ) (text : List ℕ) (k : ℕ) (labels window : List ℕ) (some-
   }
     where
       one-frontier : 1 * frontierLength w ≤ length window
-      one-frontier = omega (arith, ltb-false (length window) (frontierLength w) (or-false (ltb (length window) (frontierLength w)) (ltb (1024 * frontierLength w) (length window) || not (eqb (length window % frontierLength w) 0)) h6 .0))
+      one-frontier = omega (arith, ltb-false (length window) (frontierLength w) (or-false-e (ltb (length window) (frontierLength w)) (ltb (1024 * frontierLength w) (length window) || not (eqb (length window % frontierLength w) 0)) h6 .0))
 
       no-counts : _≡_ {A = Cut} (λ p. 0) (taken [])
       no-counts = fun-ext (λ p. refl)

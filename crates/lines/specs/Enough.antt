@@ -18,7 +18,7 @@ use Rattle.lines.specs.NumberLaws.{digit-bounds, digits-next, digits-end
 use Rattle.lines.specs.Reading.{thenByte, thenNumber, thenEnd, lineLimit, limited}
 use Rattle.lines.specs.GrammarTheorem.{lineRead}
 use Rattle.lines.specs.NumberList.{Listed, listed, afterNumber, numbersAt, allNumbersAt, thenList, thenSpacedList, thenClose}
-use Rattle.lines.specs.PieceLaws.{readPiece, readPieces, placeOf, if-test, numbers-from, byte-from, close-from, piece-from, piece-stays}
+use Rattle.lines.specs.PieceLaws.{readPiece, readPieces, placeIn, if-test, numbers-from, byte-from, close-from, piece-from, piece-stays}
 use Rattle.lines.specs.ListLaws.{number-after}
 use Rattle.lines.specs.Grammar.{Piece, one, number, list, spacedList}
 use Rattle.lines.specs.NumberMeets.{if-known}
@@ -80,7 +80,7 @@ AllModest (p ∷ ps) = Modest p × AllModest ps
 
 -- Both readings are the same, or both are behind the limit.
 abbrev pub Far : Read → Type 0
-Far r = lineLimit < placeOf r
+Far r = lineLimit < placeIn r
 
 abbrev pub Same : Read → Read → Type 0
 Same r q = (r ≡ q) ⊎ (Far r × Far q)
@@ -188,7 +188,7 @@ module _ {s front : List ℕ} (f : Front s front) where
 
   -- A byte, and a list's closing bracket.
   byte-same : (b : ℕ) (r q : Read) → Same r q → Same (thenByte s b r) (thenByte front b q)
-  unfolding thenByte placeOf
+  unfolding thenByte placeIn
   byte-same b r q (inr (x, y)) = let a = byte-from s b r in let c = byte-from front b q in inr (omega (arith, a, x), omega (arith, c, y))
   byte-same b (Refused n i) q (inl e) = rw (← e) (inl refl)
   byte-same b (At i v) q (inl e) = rw (← e) (go (ltb lineLimit i) refl)
@@ -202,7 +202,7 @@ module _ {s front : List ℕ} (f : Front s front) where
       go false k = let l = ltb-false lineLimit i k in rw (f .bytes i (omega arith)) (inl refl)
 
   close-same : (x y : ℕ) (r q : Read) → Same r q → Same (thenClose s x y r) (thenClose front x y q)
-  unfolding thenClose placeOf
+  unfolding thenClose placeIn
   close-same x y r q (inr (z, w)) = let a = close-from s x y r in let c = close-from front x y q in inr (omega (arith, a, z), omega (arith, c, w))
   close-same x y (Refused n i) q (inl e) = rw (← e) (inl refl)
   close-same x y (At i v) q (inl e) = rw (← e) (go (ltb lineLimit i) refl)
@@ -254,7 +254,7 @@ module _ {s front : List ℕ} (f : Front s front) where
       close-same fewest fullest (thenSpacedList s most (At i v) .read) (thenSpacedList front most (At i v) .read) (spaced-same most i v h m)
 
   piece-same : (p : Piece) (r q : Read) → Modest p → Same r q → Same (readPiece s p r) (readPiece front p q)
-  unfolding placeOf
+  unfolding placeIn
   piece-same p r q m (inr (x, y)) = let a = piece-from s p r in let c = piece-from front p q in inr (omega (arith, a, x), omega (arith, c, y))
   piece-same p (Refused n i) q m (inl e) = rw (← e, piece-stays s p n i, piece-stays front p n i) (inl refl)
   piece-same p (At i v) q m (inl e) = rw (← e) (go (ltb lineLimit i) refl)
@@ -274,7 +274,7 @@ module _ {s front : List ℕ} (f : Front s front) where
 
   -- The line's end and its length.
   pub end-same : (r q : Read) → Same r q → Same (thenEnd s r) (thenEnd front q)
-  unfolding thenEnd placeOf
+  unfolding thenEnd placeIn
   end-same r q (inr (x, y)) = inr (far s r x, far front q y)
     where
       far : (l : List ℕ) (z : Read) → Far z → Far (thenEnd l z)
@@ -294,7 +294,7 @@ module _ {s front : List ℕ} (f : Front s front) where
           rw (a, c) (inl refl)
 
   pub limited-same : (r q : Read) → Same r q → limited s r ≡ limited front q
-  unfolding limited placeOf
+  unfolding limited placeIn
   limited-same r q (inl e) = rw (← e) (go r)
     where
       a : ltb lineLimit (length s) ≡ true

@@ -17,7 +17,7 @@ use Rattle.lines.specs.declared.Read.{Read}
 use Rattle.lines.specs.declared.Read.the-variants.{At, Refused}
 use Rattle.lines.specs.Reading.{thenEnd}
 use Rattle.lines.specs.Grammar.{Piece, TextOf, Fault1}
-use Rattle.lines.specs.PieceLaws.{readPieces, placeOf}
+use Rattle.lines.specs.PieceLaws.{readPieces, placeIn}
 use Rattle.lines.specs.NumberMeets.{Near, if-known}
 use Rattle.lines.specs.PieceMeets.{AllEnded, pieces-met}
 use Rattle.lines.specs.PieceStood.{Met, reach, met-of, Stood, pieces-stood}
@@ -61,7 +61,7 @@ met-faultless s t ps e j u m (inr (l, f)) = omega (arith, m .inside)
 -- Where a text's bytes stand before place m, 1 does not answer before m.
 never-one : (s t : List ℕ) (ps : List Piece) (m i : ℕ) → AllEnded ps → TextOf ps t → ((l : ℕ) → l < length t → l < m → byteAt s l ≡ byteAt t l)
     → (m ≤ length t) ⊎ (length s ≤ length t) → lineRead s ps ≡ Refused 1 i → m ≤ i
-unfolding lineRead thenEnd placeOf
+unfolding lineRead thenEnd placeIn
 never-one s t ps m i d u h k e =
     go (readPieces s ps (At 0 0))
     (pieces-met m s ps t 0 (At 0 0) u d (standsTo-same m s 0 t (λ l p q. let z : 0 + l ≡ l = omega arith in rw z (h l p (omega arith)))) (inl (0, refl))) e

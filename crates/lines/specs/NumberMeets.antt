@@ -18,11 +18,11 @@ use Rattle.lines.specs.Number.{isDigit, digits, value, numberOf, numberA
 use Rattle.lines.specs.NumberLaws.{digits-next, digits-end, digits-first}
 use Rattle.lines.specs.Reading.{thenByte, thenNumber}
 use Rattle.lines.specs.Grammar.{AllDigits, Numeral}
-use Rattle.lines.specs.PieceLaws.{placeOf, if-test}
+use Rattle.lines.specs.PieceLaws.{placeIn, if-test}
 
 -- A reading is at or behind place m, or is turned back by 10; or it stands at place i.
 abbrev pub Behind : ℕ → Read → Type 0
-Behind m r = (m ≤ placeOf r) ⊎ ((i : ℕ) × (r ≡ Refused 10 i))
+Behind m r = (m ≤ placeIn r) ⊎ ((i : ℕ) × (r ≡ Refused 10 i))
 
 abbrev pub Near : ℕ → ℕ → Read → Type 0
 Near m i r = ((v : ℕ) × (r ≡ At i v)) ⊎ Behind m r
@@ -35,7 +35,7 @@ if-known P false x y p q = q refl
 -- ---- A byte
 
 pub byte-met : (m : ℕ) (s : List ℕ) (b i : ℕ) (r : Read) → (i < m → byteAt s i ≡ b) → ((v : ℕ) × (r ≡ At i v)) → Near m (i + 1) (thenByte s b r)
-unfolding thenByte placeOf
+unfolding thenByte placeIn
 byte-met m s b i r h (v, e) =
     rw e (if-byte (Near m (i + 1)) (byteAt s i) b (At (i + 1) v) (Refused 1 i) (λ _. inl (v, refl)) (λ ne. inr (inl (known m i h (λ l. l) (λ q. absurd (ne q))))))
 
@@ -80,7 +80,7 @@ numeral-read m i (d ∷ ds) least most n =
 
 pub number-met : (m : ℕ) (s : List ℕ) (i : ℕ) (ds : List ℕ) (c least most : ℕ) → Numeral ds → isDigit c ≡ false → StandsTo m s i (ds ++ c ∷ [])
     → Near m (i + length ds) (numberAt s i least most)
-unfolding numberAt numberOf placeOf
+unfolding numberAt numberOf placeIn
 number-met m s i ds c least most n q h = go (digits-met m s i ds c (n .all) q h)
   where
     late : (es : List ℕ) → digits (drop i s) ≡ es → m ≤ i + length es → Near m (i + length ds) (numberOf es i least most)

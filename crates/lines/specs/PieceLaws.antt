@@ -27,9 +27,9 @@ readPieces s [] r = r
 readPieces s (p ∷ ps) r = readPieces s ps (readPiece s p r)
 
 -- Where a reading stands, or its fault.
-unfoldable pub placeOf : Read → ℕ
-placeOf (At i v) = i
-placeOf (Refused n i) = i
+unfoldable pub placeIn : Read → ℕ
+placeIn (At i v) = i
+placeIn (Refused n i) = i
 
 -- A test, by its two answers.
 pub if-test {ℓ} : {A : Type ℓ} (P : A → Type 0) (t : Bool) (x y : A) → P x → P y → P (cond t x y)
@@ -38,66 +38,66 @@ if-test P false x y p q = q
 
 -- ---- No fault before
 
-number-from : (s : List ℕ) (i least most : ℕ) → i ≤ placeOf (numberAt s i least most)
-unfolding numberAt numberOf placeOf
+number-from : (s : List ℕ) (i least most : ℕ) → i ≤ placeIn (numberAt s i least most)
+unfolding numberAt numberOf placeIn
 number-from s i least most = go (digits (drop i s))
   where
     From : Read → Type 0
-    From r = i ≤ placeOf r
+    From r = i ≤ placeIn r
 
-    go : (ds : List ℕ) → i ≤ placeOf (numberOf ds i least most)
+    go : (ds : List ℕ) → i ≤ placeIn (numberOf ds i least most)
     go [] = omega arith
     go (d ∷ ds) =
         if-test From (eqb d 48 && ltb 0 (length ds)) _ _ (omega arith)
         (if-test From (leb least (value (d ∷ ds)) && leb (value (d ∷ ds)) most) _ _ (omega arith) (omega arith))
 
 pub numbers-from : (left : ℕ) (s : List ℕ) (ascending : Bool) (most least : ℕ) (ns : List ℕ) (i : ℕ)
-    → i ≤ placeOf (numbersAt left s ascending most least ns i .read)
-unfolding numbersAt afterNumber placeOf
+    → i ≤ placeIn (numbersAt left s ascending most least ns i .read)
+unfolding numbersAt afterNumber placeIn
 numbers-from zero s ascending most least ns i = omega arith
 numbers-from (suc left) s ascending most least ns i =
     go (λ (x : ℕ) (l : List ℕ) (j : ℕ). numbers-from left s ascending most x l j) (numberAt s i least most) (number-from s i least most)
   where
     From : Listed → Type 0
-    From l = i ≤ placeOf (l .read)
+    From l = i ≤ placeIn (l .read)
 
-    go : ((x : ℕ) (l : List ℕ) (j : ℕ) → j ≤ placeOf (numbersAt left s ascending most x l j .read)) → (r : Read) → i ≤ placeOf r
-        → i ≤ placeOf (afterNumber s ascending (numbersAt left s ascending most) ns r .read)
+    go : ((x : ℕ) (l : List ℕ) (j : ℕ) → j ≤ placeIn (numbersAt left s ascending most x l j .read)) → (r : Read) → i ≤ placeIn r
+        → i ≤ placeIn (afterNumber s ascending (numbersAt left s ascending most) ns r .read)
     go further (At j v) h =
         if-test From (eqb (byteAt s j) 32) _ _ (let q = further (cond ascending (v + 1) 0) (ns ++ v ∷ []) (j + 1) in omega (arith, q, h)) h
     go further (Refused n j) h = h
 
-pub byte-from : (s : List ℕ) (b : ℕ) (r : Read) → placeOf r ≤ placeOf (thenByte s b r)
-unfolding thenByte placeOf
-byte-from s b (At i v) = if-test (λ (r : Read). i ≤ placeOf r) (eqb (byteAt s i) b) _ _ (omega arith) (omega arith)
+pub byte-from : (s : List ℕ) (b : ℕ) (r : Read) → placeIn r ≤ placeIn (thenByte s b r)
+unfolding thenByte placeIn
+byte-from s b (At i v) = if-test (λ (r : Read). i ≤ placeIn r) (eqb (byteAt s i) b) _ _ (omega arith) (omega arith)
 byte-from s b (Refused n i) = omega arith
 
-pub close-from : (s : List ℕ) (fewest fullest : ℕ) (r : Read) → placeOf r ≤ placeOf (thenClose s fewest fullest r)
-unfolding thenClose placeOf
+pub close-from : (s : List ℕ) (fewest fullest : ℕ) (r : Read) → placeIn r ≤ placeIn (thenClose s fewest fullest r)
+unfolding thenClose placeIn
 close-from s fewest fullest (At i n) =
-    if-test (λ (r : Read). i ≤ placeOf r) (eqb (byteAt s i) 41) _ _
-    (if-test (λ (r : Read). i ≤ placeOf r) (leb fewest n && leb n fullest) _ _ (omega arith) (omega arith)) (omega arith)
+    if-test (λ (r : Read). i ≤ placeIn r) (eqb (byteAt s i) 41) _ _
+    (if-test (λ (r : Read). i ≤ placeIn r) (leb fewest n && leb n fullest) _ _ (omega arith) (omega arith)) (omega arith)
 close-from s fewest fullest (Refused n i) = omega arith
 
-list-from : (s : List ℕ) (ascending : Bool) (most : ℕ) (r : Read) → placeOf r ≤ placeOf (thenList s ascending most r .read)
-unfolding thenList placeOf
+list-from : (s : List ℕ) (ascending : Bool) (most : ℕ) (r : Read) → placeIn r ≤ placeIn (thenList s ascending most r .read)
+unfolding thenList placeIn
 list-from s ascending most (At i v) =
-    if-test (λ (l : Listed). i ≤ placeOf (l .read)) (eqb (byteAt s i) 41) _ _ (omega arith) (numbers-from (length s + 1) s ascending most 0 [] i)
+    if-test (λ (l : Listed). i ≤ placeIn (l .read)) (eqb (byteAt s i) 41) _ _ (omega arith) (numbers-from (length s + 1) s ascending most 0 [] i)
 list-from s ascending most (Refused n i) = omega arith
 
-spaced-from : (s : List ℕ) (most : ℕ) (r : Read) → placeOf r ≤ placeOf (thenSpacedList s most r .read)
-unfolding thenSpacedList placeOf
+spaced-from : (s : List ℕ) (most : ℕ) (r : Read) → placeIn r ≤ placeIn (thenSpacedList s most r .read)
+unfolding thenSpacedList placeIn
 spaced-from s most (At i v) =
-    if-test (λ (l : Listed). i ≤ placeOf (l .read)) (eqb (byteAt s i) 32) _ _
+    if-test (λ (l : Listed). i ≤ placeIn (l .read)) (eqb (byteAt s i) 32) _ _
     (let q = numbers-from (length s + 1) s false most 0 [] (i + 1) in omega (arith, q)) (omega arith)
 spaced-from s most (Refused n i) = omega arith
 
-thenNumber-from : (s : List ℕ) (least most : ℕ) (r : Read) → placeOf r ≤ placeOf (thenNumber s least most r)
-unfolding thenNumber placeOf
+thenNumber-from : (s : List ℕ) (least most : ℕ) (r : Read) → placeIn r ≤ placeIn (thenNumber s least most r)
+unfolding thenNumber placeIn
 thenNumber-from s least most (At i v) = number-from s i least most
 thenNumber-from s least most (Refused n i) = omega arith
 
-pub piece-from : (s : List ℕ) (p : Piece) (r : Read) → placeOf r ≤ placeOf (readPiece s p r)
+pub piece-from : (s : List ℕ) (p : Piece) (r : Read) → placeIn r ≤ placeIn (readPiece s p r)
 unfolding readPiece
 piece-from s (one b) r = byte-from s b r
 piece-from s (number least most b) r =
@@ -113,7 +113,7 @@ piece-from s (spacedList most fewest fullest) r =
     let y = close-from s fewest fullest (thenSpacedList s most r .read) in
     omega (arith, x, y)
 
-pub pieces-from : (s : List ℕ) (ps : List Piece) (r : Read) → placeOf r ≤ placeOf (readPieces s ps r)
+pub pieces-from : (s : List ℕ) (ps : List Piece) (r : Read) → placeIn r ≤ placeIn (readPieces s ps r)
 unfolding readPieces
 pieces-from s [] r = omega arith
 pieces-from s (p ∷ ps) r =

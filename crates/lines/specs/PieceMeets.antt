@@ -19,7 +19,7 @@ use Rattle.lines.specs.NumberLaws.{inside, digit-bounds}
 use Rattle.lines.specs.Reading.{thenByte, thenNumber}
 use Rattle.lines.specs.NumberList.{Listed, listed, afterNumber, numbersAt, allNumbersAt, thenList, thenSpacedList, thenClose}
 use Rattle.lines.specs.Grammar.{AllDigits, Numeral, Numerals, spaced, between, Piece, one, number, list, spacedList, PieceText, TextOf}
-use Rattle.lines.specs.PieceLaws.{readPiece, readPieces, placeOf, if-test, numbers-from, piece-from, piece-stays}
+use Rattle.lines.specs.PieceLaws.{readPiece, readPieces, placeIn, if-test, numbers-from, piece-from, piece-stays}
 use Rattle.lines.specs.NumberMeets.{Behind, Near, byte-met, number-met}
 
 -- ---- The first byte of a number
@@ -40,14 +40,14 @@ digit-there m s i (d ∷ es) xs n h l = rw (h .0 l) (n .all .0)
 -- A further number at or behind place m, or none, leaves the reading there.
 late-after : (m : ℕ) (s : List ℕ) (ascending : Bool) (left most : ℕ) (ns : List ℕ) (j v e : ℕ) → m ≤ j
     → Near m e (afterNumber s ascending (numbersAt left s ascending most) ns (At j v) .read)
-unfolding afterNumber placeOf
+unfolding afterNumber placeIn
 late-after m s ascending left most ns j v e l =
     if-test (λ (x : Listed). Near m e (x .read)) (eqb (byteAt s j) 32) _ _
     (let q = numbers-from left s ascending most (cond ascending (v + 1) 0) (ns ++ v ∷ []) (j + 1) in inr (inl (omega (arith, q, l)))) (inr (inl l))
 
 behind-after : (m : ℕ) (s : List ℕ) (ascending : Bool) (left most : ℕ) (ns : List ℕ) (e : ℕ) (r : Read) → Behind m r
     → Near m e (afterNumber s ascending (numbersAt left s ascending most) ns r .read)
-unfolding afterNumber placeOf
+unfolding afterNumber placeIn
 behind-after m s ascending left most ns e (At j v) (inl l) = late-after m s ascending left most ns j v e l
 behind-after m s ascending left most ns e (At j v) (inr (i, q)) = let w : _≡_ {A = ℕ} 0 1 = cc in absurd (omega arith)
 behind-after m s ascending left most ns e (Refused n j) b = inr b
@@ -55,7 +55,7 @@ behind-after m s ascending left most ns e (Refused n j) b = inr b
 numbers-met : (left : ℕ) (m : ℕ) (s : List ℕ) (ascending : Bool) (most least : ℕ) (ns : List ℕ) (i : ℕ) (d : List ℕ) (ds : List (List ℕ))
     → Numeral d → Numerals ds → length s < i + left → StandsTo m s i (d ++ (spaced ds ++ 41 ∷ []))
     → Near m (i + length (d ++ spaced ds)) (numbersAt left s ascending most least ns i .read)
-unfolding numbersAt afterNumber Numerals spaced placeOf StandsTo
+unfolding numbersAt afterNumber Numerals spaced placeIn StandsTo
 numbers-met zero m s ascending most least ns i d ds n a f h =
     inr (inl (known m i (digit-there m s i d (spaced ds ++ 41 ∷ []) n h) (λ l. l)
     (λ e. let b = digit-bounds (byteAt s i) e in let p = inside s i (omega (arith, b .1)) in absurd (omega arith))))
@@ -96,7 +96,7 @@ all-met m s ascending most i d ds n a h = numbers-met (length s + 1) m s ascendi
 
 -- The closing bracket.
 close-met : (m : ℕ) (s : List ℕ) (fewest fullest i : ℕ) (r : Read) → (i < m → byteAt s i ≡ 41) → Near m i r → Near m (i + 1) (thenClose s fewest fullest r)
-unfolding thenClose placeOf
+unfolding thenClose placeIn
 close-met m s fewest fullest i r h (inl (v, e)) =
     rw e (if-byte (Near m (i + 1)) (byteAt s i) 41 _ (Refused 1 i)
     (λ _. if-test (Near m (i + 1)) (leb fewest v && leb v fullest) _ _ (inl (v, refl)) (inr (inr (i, refl))))
@@ -111,7 +111,7 @@ close-met m s fewest fullest i (Refused n j) h (inr b) = inr b
 
 -- At or behind place m either way.
 list-late : (m : ℕ) (s : List ℕ) (ascending : Bool) (most i v e : ℕ) → m ≤ i → Near m e (thenList s ascending most (At i v) .read)
-unfolding thenList placeOf
+unfolding thenList placeIn
 list-late m s ascending most i v e l =
     if-test (λ (x : Listed). Near m e (x .read)) (eqb (byteAt s i) 41) _ _ (inr (inl l))
     (let q = numbers-from (length s + 1) s ascending most 0 [] i in inr (inl (omega (arith, q, l))))
@@ -128,7 +128,7 @@ list-met m s ascending most i v (d ∷ ds) a h =
     rw (ne-eqb (byteAt s i) 41 (λ e. omega (arith, b .0, e))) (all-met m s ascending most i d ds (a .0) (a .1) h′))
 
 spaced-late : (m : ℕ) (s : List ℕ) (most i v e : ℕ) → m ≤ i → Near m e (thenSpacedList s most (At i v) .read)
-unfolding thenSpacedList placeOf
+unfolding thenSpacedList placeIn
 spaced-late m s most i v e l =
     if-test (λ (x : Listed). Near m e (x .read)) (eqb (byteAt s i) 32) _ _
     (let q = numbers-from (length s + 1) s false most 0 [] (i + 1) in inr (inl (omega (arith, q, l)))) (inr (inl l))
@@ -157,7 +157,7 @@ AllEnded [] = Unit {0}
 AllEnded (p ∷ ps) = Ended p × AllEnded ps
 
 byte-near : (m : ℕ) (s : List ℕ) (b i : ℕ) (r : Read) → (i < m → byteAt s i ≡ b) → Near m i r → Near m (i + 1) (thenByte s b r)
-unfolding thenByte placeOf
+unfolding thenByte placeIn
 byte-near m s b i r h (inl q) = byte-met m s b i r h q
 byte-near m s b i (At j v) h (inr (inl l)) = if-test (Near m (i + 1)) (eqb (byteAt s j) b) _ _ (inr (inl (omega arith))) (inr (inl l))
 byte-near m s b i (At j v) h (inr (inr (k, q))) = let w : _≡_ {A = ℕ} 0 1 = cc in absurd (omega arith)

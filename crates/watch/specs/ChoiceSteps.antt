@@ -18,7 +18,7 @@ use Rattle.watch.specs.declared.Choice.the-variants.{Undecided, Falsifie
 use Rattle.records.specs.Record.{keptCount, pendingCount, pendingAt, pendingEvents}
 use Rattle.watch.specs.Take.{Decision, undecided, false-clock, chosen, tried, settingIn, decided, takeWithin}
 use Rattle.records.specs.Record.{readyIn}
-use Rattle.watch.specs.TakeSteps.{choiceOf}
+use Rattle.watch.specs.TakeSteps.{choiceFor}
 use Rattle.watch.specs.Deciding.{Outcome, outcome, none-decides, falsifies, chooses}
 
 -- Of an event that is taken: it is pending and ready, and so many frontiers, at least one and no more than are allowed, are kept.
@@ -52,29 +52,29 @@ module _ (w : ℕ) (s : List ℕ) (allowed : ℕ) (fs : List Frontier) where
   at-place j l = getD-listOf (pendingCount s) (pendingAt w s) j first l
 
   -- ---- Which decision it was
-  from-undecided : (seen : Bool) (d : Decision) → Undecided seen ≡ choiceOf w s fs d → d ≡ undecided seen
-  unfolding choiceOf
+  from-undecided : (seen : Bool) (d : Decision) → Undecided seen ≡ choiceFor w s fs d → d ≡ undecided seen
+  unfolding choiceFor
   from-undecided seen (undecided b) e = cc
   from-undecided seen (false-clock i) e = let z : _≡_ {A = ℕ} 0 1 = cc in absurd (omega arith)
   from-undecided seen (chosen i) e = let z : _≡_ {A = ℕ} 0 1 = cc in absurd (omega arith)
 
-  from-falsified : (i : ℕ) (d : Decision) → Falsified i ≡ choiceOf w s fs d → d ≡ false-clock i
-  unfolding choiceOf
+  from-falsified : (i : ℕ) (d : Decision) → Falsified i ≡ choiceFor w s fs d → d ≡ false-clock i
+  unfolding choiceFor
   from-falsified i (undecided b) e = let z : _≡_ {A = ℕ} 0 1 = cc in absurd (omega arith)
   from-falsified i (false-clock j) e = cc
   from-falsified i (chosen j) e = let z : _≡_ {A = ℕ} 0 1 = cc in absurd (omega arith)
 
-  from-chosen : (i kept : ℕ) (d : Decision) → Chosen i kept ≡ choiceOf w s fs d → (d ≡ chosen i) × (kept ≡ keptAfter (settingIn w s (pendingAt w s i)) fs)
-  unfolding choiceOf
+  from-chosen : (i kept : ℕ) (d : Decision) → Chosen i kept ≡ choiceFor w s fs d → (d ≡ chosen i) × (kept ≡ keptAfter (settingIn w s (pendingAt w s i)) fs)
+  unfolding choiceFor
   from-chosen i kept (undecided b) e = let z : _≡_ {A = ℕ} 0 1 = cc in absurd (omega arith)
   from-chosen i kept (false-clock j) e = let z : _≡_ {A = ℕ} 0 1 = cc in absurd (omega arith)
   from-chosen i kept (chosen j) e = let same : i ≡ j = cc in (cc, cc)
 
-  pub choice-undecided : (seen : Bool) → Undecided seen ≡ choiceOf w s fs trial → trial ≡ undecided seen
+  pub choice-undecided : (seen : Bool) → Undecided seen ≡ choiceFor w s fs trial → trial ≡ undecided seen
   choice-undecided seen h = from-undecided seen trial h
 
   -- ---- What holds of the event
-  pub choice-falsified : (i : ℕ) → Falsified i ≡ choiceOf w s fs trial → (trial ≡ false-clock i) × (i < pendingCount s)
+  pub choice-falsified : (i : ℕ) → Falsified i ≡ choiceFor w s fs trial → (trial ≡ false-clock i) × (i < pendingCount s)
   choice-falsified i h = (from-falsified i trial h, go came (from-falsified i trial h))
     where
       go : Outcome w s allowed fs 0 false (pendingEvents w s) first → trial ≡ false-clock i → i < pendingCount s
@@ -82,7 +82,7 @@ module _ (w : ℕ) (s : List ℕ) (allowed : ℕ) (fs : List Frontier) where
       go (falsifies j l t r n u) d = let same : i ≡ 0 + j = cc in omega (arith, count)
       go (chooses j l t r v f u) d = let z : _≡_ {A = ℕ} 0 1 = cc in absurd (omega arith)
 
-  pub choice-chosen : (i kept : ℕ) → Chosen i kept ≡ choiceOf w s fs trial → (trial ≡ chosen i) × Taking w s allowed fs i kept
+  pub choice-chosen : (i kept : ℕ) → Chosen i kept ≡ choiceFor w s fs trial → (trial ≡ chosen i) × Taking w s allowed fs i kept
   choice-chosen i kept h = let c = from-chosen i kept trial h in (c .0, go came (c .0) (c .1))
     where
       go : Outcome w s allowed fs 0 false (pendingEvents w s) first → trial ≡ chosen i → kept ≡ keptAfter (settingIn w s (pendingAt w s i)) fs → Taking w s allowed fs i kept

@@ -27,7 +27,7 @@ turned : List ℕ → List ℕ → List ℕ → ℕ → Taken
 turned s window scratch n = record { answer = turnedBack n 0; bytes = s; window = window; scratch = scratch }
 
 -- A window of a right length has room for at most 1,024 frontiers.
-room-few : (w n : ℕ) → badWindowLength w n ≡ false → roomOf w n ≤ 1024
+pub room-few : (w n : ℕ) → badWindowLength w n ≡ false → roomOf w n ≤ 1024
 unfolding badWindowLength frontierLength
 room-few w n h = go (decLt 1024 (roomOf w n))
   where

@@ -1,12 +1,11 @@
 -- Take's trial one pending event at a time, as a loop goes through them, and the setting of its step by what a record's bytes give.
 use Prim.Native.Nat.{ℕ, _+_, _-_, _≤_, _<_, _*_}
 use native.Mathlib.Omega.{arith}
-use native.Mathlib.Numerals.{add-one}
-use mathlib.Core.Path.{_≡_, sym, ap, ap₂, _∙_}
+use mathlib.Core.Path.{_≡_, sym, ap}
 use mathlib.Core.Bool.{Bool, true, false}
-use mathlib.Core.List.{List, [], _∷_}
-use lib.ListN.{take, drop, drop-of-length-le, length, length-drop}
-use lib.Seq.{drop-cons, take-all}
+use mathlib.Core.List.{List}
+use lib.ListN.{take, drop, length, length-drop}
+use lib.Seq.{take-all}
 use Rattle.watch.specs.declared.Choice.{Choice}
 use Rattle.watch.specs.declared.Choice.the-variants.{Undecided, Falsified, Chosen}
 use Rattle.frontiers.specs.declared.Frontier.{Frontier}
@@ -14,57 +13,48 @@ use Rattle.clocks.specs.declared.Event.{Event}
 use Rattle.clocks.specs.History.{event}
 use Rattle.clocks.specs.Event.{Cut, apply, involved}
 use Rattle.clocks.specs.Counts.{at, listOf}
-use Rattle.clocks.specs.CountsLaws.{length-listOf, getD-listOf, at-listOf-all, at-beyond}
+use Rattle.clocks.specs.CountsLaws.{length-listOf, at-listOf-all, at-beyond}
 use Rattle.rules.specs.TableBytes.{linesOf}
 use Rattle.window.specs.Step.{fits, keptAfter}
 use Rattle.window.specs.StepCode.{settingWith}
 use Rattle.codec.specs.BitLaws.{bit-above}
 use Rattle.codec.specs.Little.{number}
 use Rattle.watch.specs.Take.{settingIn, Decision, tried, undecided, false-clock, chosen}
+use Rattle.records.specs.ListSteps.{rest-next, rest-end}
 use Rattle.records.specs.Record.{readyIn, validIn}
 use Rattle.records.specs.Record.{tablePlace, processCount, lineTotal, pendingCount, takenCounts, tableLines, pendingAt, pendingEvents, takenPlace}
 
 -- A decision as the code has it: with an event to take comes how many frontiers are kept then.
-unfoldable pub choiceOf : ℕ → List ℕ → List Frontier → Decision → Choice
-choiceOf w s fs (undecided seen) = Undecided seen
-choiceOf w s fs (false-clock i) = Falsified i
-choiceOf w s fs (chosen i) = Chosen i (keptAfter (settingIn w s (pendingAt w s i)) fs)
+unfoldable pub choiceFor : ℕ → List ℕ → List Frontier → Decision → Choice
+choiceFor w s fs (undecided seen) = Undecided seen
+choiceFor w s fs (false-clock i) = Falsified i
+choiceFor w s fs (chosen i) = Chosen i (keptAfter (settingIn w s (pendingAt w s i)) fs)
 
 -- The trial from pending event i on.
 unfoldable pub triedFrom : ℕ → List ℕ → ℕ → List Frontier → ℕ → Bool → Decision
 triedFrom w s allowed fs i seen = tried w s allowed fs i seen (drop i (pendingEvents w s))
 
--- ---- the pending events from i on
-rest-next : (w : ℕ) (s : List ℕ) (i : ℕ) → i < pendingCount s → drop i (pendingEvents w s) ≡ pendingAt w s i ∷ drop (i + 1) (pendingEvents w s)
-unfolding pendingEvents
-rest-next w s i l =
-    drop-cons (listOf (pendingCount s) (pendingAt w s)) i (pendingAt w s i) (omega (arith, length-listOf (pendingCount s) (pendingAt w s)))
-    ∙ ap₂ (λ (e : Event) (n : ℕ). e ∷ drop n (listOf (pendingCount s) (pendingAt w s))) (getD-listOf (pendingCount s) (pendingAt w s) i (pendingAt w s i) l) (sym (add-one i))
-
-rest-end : (w : ℕ) (s : List ℕ) (i : ℕ) → pendingCount s ≤ i → drop i (pendingEvents w s) ≡ []
-unfolding pendingEvents
-rest-end w s i l = drop-of-length-le (listOf (pendingCount s) (pendingAt w s)) {i = i} (omega (arith, length-listOf (pendingCount s) (pendingAt w s)))
-
+-- ---- one pending event at a time
 module _ (w : ℕ) (s : List ℕ) (allowed : ℕ) (fs : List Frontier) (i : ℕ) (seen : Bool) where
   pub tried-end : pendingCount s ≤ i → triedFrom w s allowed fs i seen ≡ undecided seen
-  unfolding triedFrom tried
-  tried-end l = rw (rest-end w s i l)
+  unfolding triedFrom tried pendingEvents
+  tried-end l = rw (rest-end (pendingCount s) (pendingAt w s) i l)
 
   pub tried-pass : i < pendingCount s → readyIn w s (pendingAt w s i) ≡ false → triedFrom w s allowed fs i seen ≡ triedFrom w s allowed fs (i + 1) seen
-  unfolding triedFrom tried
-  tried-pass l r = rw (rest-next w s i l, r)
+  unfolding triedFrom tried pendingEvents
+  tried-pass l r = rw (rest-next (pendingCount s) (pendingAt w s) i l, r)
 
   pub tried-false : i < pendingCount s → readyIn w s (pendingAt w s i) ≡ true → validIn w s (pendingAt w s i) ≡ false → triedFrom w s allowed fs i seen ≡ false-clock i
-  unfolding triedFrom tried
-  tried-false l r v = rw (rest-next w s i l, r, v)
+  unfolding triedFrom tried pendingEvents
+  tried-false l r v = rw (rest-next (pendingCount s) (pendingAt w s) i l, r, v)
 
   pub tried-fits : i < pendingCount s → readyIn w s (pendingAt w s i) ≡ true → validIn w s (pendingAt w s i) ≡ true → fits (settingIn w s (pendingAt w s i)) allowed fs ≡ true → triedFrom w s allowed fs i seen ≡ chosen i
-  unfolding triedFrom tried
-  tried-fits l r v f = rw (rest-next w s i l, r, v, f)
+  unfolding triedFrom tried pendingEvents
+  tried-fits l r v f = rw (rest-next (pendingCount s) (pendingAt w s) i l, r, v, f)
 
   pub tried-full : i < pendingCount s → readyIn w s (pendingAt w s i) ≡ true → validIn w s (pendingAt w s i) ≡ true → fits (settingIn w s (pendingAt w s i)) allowed fs ≡ false → triedFrom w s allowed fs i seen ≡ triedFrom w s allowed fs (i + 1) true
-  unfolding triedFrom tried
-  tried-full l r v f = rw (rest-next w s i l, r, v, f)
+  unfolding triedFrom tried pendingEvents
+  tried-full l r v f = rw (rest-next (pendingCount s) (pendingAt w s) i l, r, v, f)
 
 -- ---- the setting of a step, by the code's parameters
 pub setting-with : (w : ℕ) (s : List ℕ) (e : Event) → e .mask < 256

@@ -34,7 +34,7 @@ ghost use Rattle.watch.specs.Answer.{turnedBack, nothingReady, replyWord
 ghost use Rattle.records.specs.Refusals.{roomOf};
 ghost use Rattle.watch.specs.Take.{settingIn, tried, chosen, decided, takeWithin, takeCall};
 ghost use Rattle.records.specs.Record.{readyIn};
-ghost use Rattle.watch.specs.TakeSteps.{choiceOf};
+ghost use Rattle.watch.specs.TakeSteps.{choiceFor};
 ghost use Rattle.watch.specs.TakeCallSteps.{takeFault};
 
 // How many frontiers are kept once a ready event is taken.
@@ -68,14 +68,14 @@ pub fn decide(s: &[u8], w: usize, window: &[u8], n: usize, allowed: usize) -> Ch
     requires { ⌜ processCount (now s) ≤ 8 ⌝ }
     requires { ⌜ pendingCount (now s) ≤ 32 ⌝ }
     requires { ⌜ (n ≤ 1024) × (n * frontierLength w ≤ length (now window)) ⌝ }
-    ensures { λ r. ⌜ r ≡ choiceOf w (now (s .entry)) (frontiers w (now (window .entry)) n) (tried w (now (s .entry)) allowed (frontiers w (now (window .entry)) n) 0 false (pendingEvents w (now (s .entry)))) ⌝ }
+    ensures { λ r. ⌜ r ≡ choiceFor w (now (s .entry)) (frontiers w (now (window .entry)) n) (tried w (now (s .entry)) allowed (frontiers w (now (window .entry)) n) 0 false (pendingEvents w (now (s .entry)))) ⌝ }
 {
     let taken = taken_counts(s, w);
     let last = last_clocks(s, w);
-    let held = pending_count(s);
+    let pending = pending_count(s);
     let mut choice = Choice::Undecided { seen: false };
     let mut i = 0;
-    'events: while i < held {
+    'events: while i < pending {
         let e = pending_event(s, w, i);
         if clocks::step::ready(e, taken) {
             if !window::advance::valid_clock(e, last, window, n) {

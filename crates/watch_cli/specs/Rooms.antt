@@ -4,6 +4,7 @@ use mathlib.Core.Bool.{Bool, true, false, cond, _&&_}
 use mathlib.Core.List.{List, [], _∷_}
 use lib.Dec.{T, ltb, leb, eqb, leb→le}
 use lib.ListN.{length, drop}
+use Rattle.clocks.specs.BoundedLaws.{and-r}
 use Rattle.rules.specs.Text.{ascii, byteAt}
 use Rattle.lines.specs.declared.Read.{Read}
 use Rattle.lines.specs.declared.Read.the-variants.{At, Refused}
@@ -28,16 +29,12 @@ either : (most : ℕ) (b : Bool) (r q : Read) → (T b → AtMost most r) → At
 either most true r q f g = f tt
 either most false r q f g = g
 
-right : (a b : Bool) → T (a && b) → T b
-right true b t = t
-right false b t = absurd t
-
 digits-within : (ds : List ℕ) (i least most : ℕ) → AtMost most (numberOf ds i least most)
 unfolding numberOf
 digits-within [] i least most = tt
 digits-within (d ∷ ds) i least most =
     let v = value (d ∷ ds) in
-    either most (eqb d 48 && ltb 0 (length ds)) _ _ (λ t. tt) (either most (leb least v && leb v most) _ _ (λ t. leb→le v most (right (leb least v) (leb v most) t)) tt)
+    either most (eqb d 48 && ltb 0 (length ds)) _ _ (λ t. tt) (either most (leb least v && leb v most) _ _ (λ t. leb→le v most (and-r (leb least v) (leb v most) t)) tt)
 
 number-within : (s : List ℕ) (least most : ℕ) (r : Read) → AtMost most (thenNumber s least most r)
 unfolding thenNumber numberAt

@@ -18,17 +18,17 @@ use Rattle.watch.specs.declared.Choice.the-variants.{Undecided, Chosen}
 use Rattle.records.specs.Record.{pendingAt, pendingEvents}
 use Rattle.watch.specs.Take.{Decision, settingIn, tried}
 use Rattle.records.specs.Record.{readyIn, validIn}
-use Rattle.watch.specs.TakeSteps.{choiceOf, triedFrom, tried-end, tried-pass, tried-false, tried-fits, tried-full}
+use Rattle.watch.specs.TakeSteps.{choiceFor, triedFrom, tried-end, tried-pass, tried-false, tried-fits, tried-full}
 
 abbrev whole : ℕ → List ℕ → ℕ → List ℕ → ℕ → Decision
 whole w s allowed window n = tried w s allowed (frontiers w window n) 0 false (pendingEvents w s)
 
 abbrev Inv-events : tie.InvT-events
-Inv-events s w window n allowed taken last held choice₀ i₀ choice i =
-    (i ≤ held) × ((seen : Bool) × (choice ≡ Undecided seen) × (whole w s allowed window n ≡ triedFrom w s allowed (frontiers w window n) i seen))
+Inv-events s w window n allowed taken last pending choice₀ i₀ choice i =
+    (i ≤ pending) × ((seen : Bool) × (choice ≡ Undecided seen) × (whole w s allowed window n ≡ triedFrom w s allowed (frontiers w window n) i seen))
 
 abbrev μ-events : tie.MeasureT-events
-μ-events s w window n allowed taken last held choice₀ i₀ choice i = held - i
+μ-events s w window n allowed taken last pending choice₀ i₀ choice i = pending - i
 
 taken-counts-requires : tie.Need-taken-counts-requires Inv-events μ-events
 taken-counts-requires c κs = search needs
@@ -105,24 +105,24 @@ events-again c =
     )
 
 returns : tie.Need-returns Inv-events μ-events
-unfolding choiceOf
+unfolding choiceFor
 returns c =
     let l = c .before .events in
-    l .inv .1 .1 ∙ sym (ap (choiceOf _ _ _) (l .inv .1 .2 ∙ tried-end _ _ _ _ _ _ (omega arith)))
+    l .inv .1 .1 ∙ sym (ap (choiceFor _ _ _) (l .inv .1 .2 ∙ tried-end _ _ _ _ _ _ (omega arith)))
 
 returns-2 : tie.Need-returns-2 Inv-events μ-events
-unfolding choiceOf
+unfolding choiceFor
 returns-2 c =
     let l = c .before .before .before .before .before .before .events in
-    sym (ap (choiceOf _ _ _) (l .inv .1 .2 ∙ tried-false _ _ _ _ _ _ (omega arith) (tested-ready (c .before .before .before) ∙ c .before .before .if1 .taken) (tested-valid (c .before) ∙ not-true _ (c .if2 .taken))))
+    sym (ap (choiceFor _ _ _) (l .inv .1 .2 ∙ tried-false _ _ _ _ _ _ (omega arith) (tested-ready (c .before .before .before) ∙ c .before .before .if1 .taken) (tested-valid (c .before) ∙ not-true _ (c .if2 .taken))))
 
 returns-3 : tie.Need-returns-3 Inv-events μ-events
-unfolding choiceOf
+unfolding choiceFor
 returns-3 c =
     let l = c .before .before .before .before .before .before .before .before .before .events in
     let a = c .before .before .before .before .before .before .before .before .before .before .before .before .before .before .before .args in
     ap (Chosen (l .i)) (c .before .before .kept-with .ensures ∙ ap (λ (e : Event). keptAfter (settingIn (a .w) (now (a .s)) e) (frontiers (a .w) (now (a .window)) (a .n))) (c .before .before .before .before .before .before .before .pending-event .ensures))
-    ∙ sym (ap (choiceOf (a .w) (now (a .s)) (frontiers (a .w) (now (a .window)) (a .n))) (l .inv .1 .2 ∙ tried-fits _ _ _ _ _ _ (omega arith)
+    ∙ sym (ap (choiceFor (a .w) (now (a .s)) (frontiers (a .w) (now (a .window)) (a .n))) (l .inv .1 .2 ∙ tried-fits _ _ _ _ _ _ (omega arith)
     (tested-ready (c .before .before .before .before .before .before) ∙ c .before .before .before .before .before .if1 .taken)
     (tested-valid (c .before .before .before .before) ∙ not-false _ (c .before .before .before .if2 .left))
     (tested-fits (c .before) ∙ c .if3 .taken)))

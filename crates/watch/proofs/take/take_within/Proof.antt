@@ -16,7 +16,7 @@ use Rattle.watch.specs.Answer.{replyWord}
 use Rattle.watch.specs.ChoiceSteps.{within-by, choice-undecided, choice-falsified, choice-chosen}
 use Rattle.records.specs.Record.{keptCount, pendingEvents}
 use Rattle.watch.specs.Take.{Taken, tried, decided}
-use Rattle.watch.specs.TakeSteps.{choiceOf}
+use Rattle.watch.specs.TakeSteps.{choiceFor}
 
 abbrev kept : ℕ → List ℕ → List ℕ → List Frontier
 kept w s window = frontiers w window (keptCount s)
@@ -35,7 +35,7 @@ decide-requires c κs =
 
 -- What is to be known of the call that decides: its frontiers are those that the record says are kept.
 decision : (c : tie.After-decide) → let a = c .before .before .before .before .before .before .before .before .args in
-    c .decide .result ≡ choiceOf (a .w) (now (a .s)) (kept (a .w) (now (a .s)) (now (a .window))) (tried (a .w) (now (a .s)) (a .allowed) (kept (a .w) (now (a .s)) (now (a .window))) 0 false (pendingEvents (a .w) (now (a .s))))
+    c .decide .result ≡ choiceFor (a .w) (now (a .s)) (kept (a .w) (now (a .s)) (now (a .window))) (tried (a .w) (now (a .s)) (a .allowed) (kept (a .w) (now (a .s)) (now (a .window))) 0 false (pendingEvents (a .w) (now (a .s))))
 decision c = rw (← (c .before .before .before .kept-count .ensures)) (c .decide .ensures)
 
 enum-known-choice : tie.Need-enum-known-choice
