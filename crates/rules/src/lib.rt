@@ -788,12 +788,12 @@ fn judge_line(
     judge_as(v, all, preceded, i, a, b)
 }
 
-// A word with bit i added, where that is asked.
+// A word with bit i added, where that is asked; without a branch, as no guess of a truth is often right.
 fn with_bit(v: u64, i: u32, t: bool) -> u64
     requires { ⌜ (i < 64) × (v < 2 ^ i) ⌝ }
     ensures { λ r. ⌜ r ≡ withBit v i t ⌝ }
 {
-    if t { v + (1 << i) } else { v }
+    v + ((t as u64) << i)
 }
 
 // A frontier's word: bit i is line i's truth there. The words of the cuts that precede it go in by their OR and their AND.
