@@ -1,101 +1,87 @@
--- The comparison of a key with the counts of a frontier as the code makes it, process by process from the bytes; and the keys of a window.
-use Prim.Native.Nat.{ℕ, _+_, _*_, _≤_, _<_}
+-- The comparison of a frontier's counts with a key as the code makes it, process by process from the bytes; and the look-up's turns
+-- among the frontiers of a window.
+use Prim.Native.Nat.{ℕ, _+_, _-_, _*_, _/_, _≤_, _<_}
 use native.Mathlib.Omega.{arith}
-use native.Mathlib.Decide.{decLt}
 use mathlib.Core.Path.{_≡_, sym, _∙_}
-use mathlib.Core.Bool.{true, false, not}
+use mathlib.Core.Bool.{cond}
 use mathlib.Core.List.{List}
 use lib.Dec.{ltb}
 use lib.ListN.{length, getD, drop}
-use borrow.Author.Tests.{lt-ltb, le-ltb}
 use Rattle.codec.specs.Little.{number}
-use Rattle.clocks.specs.Counts.{at}
 use Rattle.frontiers.specs.WindowLaws.{length-counts-at, count-at, length-keys, getD-keys}
-use Rattle.frontiers.specs.OrderLaws.{before-drop-equal, before-drop-other, same-drop-equal, same-drop-other, before-drop-end, same-drop-end}
-use Rattle.frontiers.specs.Seek.{atMost, standsAt, bisect, gallop, seek}
-use Rattle.frontiers.specs.Seek.{keysOf}
-use Rattle.frontiers.specs.Order.{before, same}
+use Rattle.frontiers.specs.OrderLaws.{before-drop-equal, before-drop-other, same-drop-equal, same-drop-other, same-drop-end}
+use Rattle.frontiers.specs.Seek.{standing, standsTo, bisect, gallop, seek, keysOf}
+use Rattle.frontiers.specs.declared.Standing.{Standing}
+use Rattle.frontiers.specs.declared.Standing.the-variants.{Before, Same, Behind}
 use Rattle.frontiers.specs.Bytes.{frontierLength, frontierAt, frontiers}
-use Rattle.frontiers.specs.SeekLaws.{gallop-past, gallop-over, gallop-on, seek-up, seek-down, seek-whole}
+use Rattle.frontiers.specs.SeekLaws.{bisect-end, bisect-step, gallop-past, gallop-step, seek-step, seek-whole}
 
--- ---- A number that is not another: which is less, either way round
-not-ltb : (x y : ℕ) → (x ≡ y → ⊥) → ltb x y ≡ not (ltb y x)
-not-ltb x y n = go (decLt x y)
-  where
-    go : Dec (x < y) → ltb x y ≡ not (ltb y x)
-    go (yes l) = rw (lt-ltb x y l, le-ltb y x (omega arith))
-    go (no l) = rw (le-ltb x y (omega arith), lt-ltb y x (omega arith))
-
--- ---- At process p
+-- ---- At process p: equal counts leave it to the rest, others decide
 
 module _ (w : ℕ) (s : List ℕ) (i : ℕ) (key : List ℕ) (p : ℕ) (l : p < 8) (e : length key ≡ 8) where
-  pub at-most-other : (number s (i * frontierLength w + p * w) w ≡ getD key p 0 → ⊥)
-      → ltb (number s (i * frontierLength w + p * w) w) (getD key p 0) ≡ not (before (drop p key) (drop p (frontierAt w s i .counts)))
-  at-most-other n =
-      let c : getD (frontierAt w s i .counts) p 0 ≡ number s (i * frontierLength w + p * w) w = count-at w s i p l in
-      rw (before-drop-other key (frontierAt w s i .counts) p (omega arith) (rw (length-counts-at w s i) l) (λ q. n (sym (q ∙ c))), c)
-      (not-ltb (number s (i * frontierLength w + p * w) w) (getD key p 0) n)
+  pub standing-other : (number s (i * frontierLength w + p * w) w ≡ getD key p 0 → ⊥)
+      → standing (drop p (frontierAt w s i .counts)) (drop p key) ≡ cond (ltb (number s (i * frontierLength w + p * w) w) (getD key p 0)) Before Behind
+  unfolding standing
+  standing-other n =
+      let c = count-at w s i p l in
+      let m : p < length (frontierAt w s i .counts) = rw (length-counts-at w s i) l in
+      let o : getD (frontierAt w s i .counts) p 0 ≡ getD key p 0 → ⊥ = λ q. n (sym c ∙ q) in
+      rw (same-drop-other (frontierAt w s i .counts) key p m (omega arith) o, before-drop-other (frontierAt w s i .counts) key p m (omega arith) o, c)
 
-  pub at-most-equal : number s (i * frontierLength w + p * w) w ≡ getD key p 0
-      → before (drop p key) (drop p (frontierAt w s i .counts)) ≡ before (drop (p + 1) key) (drop (p + 1) (frontierAt w s i .counts))
-  at-most-equal q =
-      before-drop-equal key (frontierAt w s i .counts) p (omega arith) (rw (length-counts-at w s i) l) (sym (count-at w s i p l ∙ q))
-
-  pub same-other : (number s (i * frontierLength w + p * w) w ≡ getD key p 0 → ⊥) → same (drop p (frontierAt w s i .counts)) (drop p key) ≡ false
-  same-other n =
-      same-drop-other (frontierAt w s i .counts) key p (rw (length-counts-at w s i) l) (omega arith) (λ q. n (sym (count-at w s i p l) ∙ q))
-
-  pub same-equal : number s (i * frontierLength w + p * w) w ≡ getD key p 0
-      → same (drop p (frontierAt w s i .counts)) (drop p key) ≡ same (drop (p + 1) (frontierAt w s i .counts)) (drop (p + 1) key)
-  same-equal q =
-      same-drop-equal (frontierAt w s i .counts) key p (rw (length-counts-at w s i) l) (omega arith) (count-at w s i p l ∙ q)
+  pub standing-equal : number s (i * frontierLength w + p * w) w ≡ getD key p 0
+      → standing (drop p (frontierAt w s i .counts)) (drop p key) ≡ standing (drop (p + 1) (frontierAt w s i .counts)) (drop (p + 1) key)
+  unfolding standing
+  standing-equal q =
+      let c = count-at w s i p l ∙ q in
+      let m : p < length (frontierAt w s i .counts) = rw (length-counts-at w s i) l in
+      rw (same-drop-equal (frontierAt w s i .counts) key p m (omega arith) c, before-drop-equal (frontierAt w s i .counts) key p m (omega arith) c)
 
 -- Behind the last process nothing is left to compare.
-pub at-most-end : (key counts : List ℕ) → length key ≡ 8 → not (before (drop 8 key) (drop 8 counts)) ≡ true
-at-most-end key counts e = rw (before-drop-end key counts 8 (omega arith))
-
-pub same-end : (w : ℕ) (s : List ℕ) (i : ℕ) (key : List ℕ) → length key ≡ 8 → same (drop 8 (frontierAt w s i .counts)) (drop 8 key) ≡ true
-same-end w s i key e = same-drop-end (frontierAt w s i .counts) key 8 (omega (arith, length-counts-at w s i)) (omega arith)
+pub standing-end : (w : ℕ) (s : List ℕ) (i : ℕ) (key : List ℕ) → length key ≡ 8 → standing (drop 8 (frontierAt w s i .counts)) (drop 8 key) ≡ Same
+unfolding standing
+standing-end w s i key e = rw (same-drop-end (frontierAt w s i .counts) key 8 (omega (arith, length-counts-at w s i)) (omega arith))
 
 -- ---- Among the first n frontiers
 
-pub atMost-keys : (w : ℕ) (s : List ℕ) (n : ℕ) (key : List ℕ) (i : ℕ) → i < n
-    → atMost (keysOf (frontiers w s n)) key i ≡ not (before key (frontierAt w s i .counts))
-unfolding atMost
-atMost-keys w s n key i l = rw (getD-keys w s n i l)
-
-pub standsAt-within : (w : ℕ) (s : List ℕ) (n : ℕ) (key : List ℕ) (i : ℕ) → i < n
-    → standsAt (keysOf (frontiers w s n)) key i ≡ same (frontierAt w s i .counts) key
-unfolding standsAt
-standsAt-within w s n key i l = rw (getD-keys w s n i l, length-keys w s n, lt-ltb i n l)
-
-pub standsAt-beyond : (w : ℕ) (s : List ℕ) (n : ℕ) (key : List ℕ) (i : ℕ) → n ≤ i → standsAt (keysOf (frontiers w s n)) key i ≡ false
-unfolding standsAt
-standsAt-beyond w s n key i l = rw (length-keys w s n, le-ltb i n l)
-
 module _ (w : ℕ) (s : List ℕ) (n : ℕ) (key : List ℕ) where
-  pub gallop-past-keys : (lo width : ℕ) → lo < n → n ≤ lo + width
-      → gallop (keysOf (frontiers w s n)) key n lo width ≡ bisect (keysOf (frontiers w s n)) key n lo n
-  gallop-past-keys lo width l m =
-      (rw (length-keys w s n) at (gallop-past (keysOf (frontiers w s n)) key n lo width)) l (omega arith) m
+  abbrev keys : List (List ℕ)
+  keys = keysOf (frontiers w s n)
 
-  pub gallop-over-keys : (lo width : ℕ) → lo + width < n → atMost (keysOf (frontiers w s n)) key (lo + width) ≡ false
-      → gallop (keysOf (frontiers w s n)) key n lo width ≡ bisect (keysOf (frontiers w s n)) key n lo (lo + width)
-  gallop-over-keys lo width m q =
-      (rw (length-keys w s n) at (gallop-over (keysOf (frontiers w s n)) key n lo width)) (omega arith) m q
+  stands-keys : (i : ℕ) (b : Standing) → i < n → standing (frontierAt w s i .counts) key ≡ b → standsTo keys key i ≡ b
+  stands-keys i b l q = rw (getD-keys w s n i l) q
 
-  pub gallop-on-keys : (lo width : ℕ) → 0 < width → lo + width < n → atMost (keysOf (frontiers w s n)) key (lo + width) ≡ true
-      → gallop (keysOf (frontiers w s n)) key n lo width ≡ gallop (keysOf (frontiers w s n)) key n (lo + width) (width * 2)
-  gallop-on-keys lo width z m q =
-      (rw (length-keys w s n) at (gallop-on (keysOf (frontiers w s n)) key n lo width)) (omega arith) z m q
+  pub bisect-end-keys : (lo hi : ℕ) → hi ≤ lo → bisect keys key n lo hi ≡ n
+  bisect-end-keys lo hi l = bisect-end keys key n lo hi l ∙ length-keys w s n
 
-  pub seek-up-keys : (hint : ℕ) → hint < n → atMost (keysOf (frontiers w s n)) key hint ≡ true
-      → seek (keysOf (frontiers w s n)) key hint ≡ gallop (keysOf (frontiers w s n)) key n hint 1
-  seek-up-keys hint l q = (rw (length-keys w s n) at (seek-up (keysOf (frontiers w s n)) key hint)) l q
+  pub bisect-step-keys : (lo hi : ℕ) → lo < hi → hi ≤ n → (b : Standing) → standing (frontierAt w s (lo + (hi - lo) / 2) .counts) key ≡ b
+      → bisect keys key n lo hi
+      ≡ elim b [ Before ↦ bisect keys key n (lo + (hi - lo) / 2 + 1) hi | Same ↦ lo + (hi - lo) / 2 | Behind ↦ bisect keys key n lo (lo + (hi - lo) / 2) ]
+  bisect-step-keys lo hi l m b q = bisect-step keys key n lo hi l (omega arith) b (stands-keys (lo + (hi - lo) / 2) b (omega arith) q)
 
-  pub seek-down-keys : (hint : ℕ) → hint < n → atMost (keysOf (frontiers w s n)) key hint ≡ false
-      → seek (keysOf (frontiers w s n)) key hint ≡ bisect (keysOf (frontiers w s n)) key n 0 hint
-  seek-down-keys hint l q = (rw (length-keys w s n) at (seek-down (keysOf (frontiers w s n)) key hint)) l q
+  pub gallop-past-keys : (lo width : ℕ) → lo < n → n ≤ lo + width → gallop keys key n lo width ≡ bisect keys key n (lo + 1) n
+  gallop-past-keys lo width l m = (rw (length-keys w s n) at (gallop-past keys key n lo width)) l (omega arith) m
 
-  pub seek-whole-keys : (hint : ℕ) → n ≤ hint → seek (keysOf (frontiers w s n)) key hint ≡ bisect (keysOf (frontiers w s n)) key n 0 n
-  seek-whole-keys hint l = (rw (length-keys w s n) at (seek-whole (keysOf (frontiers w s n)) key hint)) l
+  gallop-within : (lo width : ℕ) → 0 < width → lo + width < n → (b : Standing) → standing (frontierAt w s (lo + width) .counts) key ≡ b
+      → gallop keys key n lo width
+      ≡ elim b [ Before ↦ gallop keys key n (lo + width) (width * 2) | Same ↦ lo + width | Behind ↦ bisect keys key (length keys) (lo + 1) (lo + width) ]
+  gallop-within lo width z m b q =
+      gallop-step keys key n lo width (omega (arith, length-keys w s n)) z (omega (arith, length-keys w s n)) b (stands-keys (lo + width) b m q)
+
+  pub gallop-step-keys : (lo width : ℕ) → 0 < width → lo + width < n → (b : Standing) → standing (frontierAt w s (lo + width) .counts) key ≡ b
+      → gallop keys key n lo width ≡ elim b [ Before ↦ gallop keys key n (lo + width) (width * 2) | Same ↦ lo + width | Behind ↦ bisect keys key n (lo + 1) (lo + width) ]
+  gallop-step-keys lo width z m Before q = gallop-within lo width z m Before q
+  gallop-step-keys lo width z m Same q = gallop-within lo width z m Same q
+  gallop-step-keys lo width z m Behind q = rw (length-keys w s n) at (gallop-within lo width z m Behind q)
+
+  seek-within : (hint : ℕ) → hint < n → (b : Standing) → standing (frontierAt w s hint .counts) key ≡ b
+      → seek keys key hint ≡ elim b [ Before ↦ gallop keys key (length keys) hint 1 | Same ↦ hint | Behind ↦ bisect keys key (length keys) 0 hint ]
+  seek-within hint l b q = seek-step keys key hint (omega (arith, length-keys w s n)) b (stands-keys hint b l q)
+
+  pub seek-step-keys : (hint : ℕ) → hint < n → (b : Standing) → standing (frontierAt w s hint .counts) key ≡ b
+      → seek keys key hint ≡ elim b [ Before ↦ gallop keys key n hint 1 | Same ↦ hint | Behind ↦ bisect keys key n 0 hint ]
+  seek-step-keys hint l Before q = rw (length-keys w s n) at (seek-within hint l Before q)
+  seek-step-keys hint l Same q = seek-within hint l Same q
+  seek-step-keys hint l Behind q = rw (length-keys w s n) at (seek-within hint l Behind q)
+
+  pub seek-whole-keys : (hint : ℕ) → n ≤ hint → seek keys key hint ≡ bisect keys key n 0 n
+  seek-whole-keys hint l = (rw (length-keys w s n) at (seek-whole keys key hint)) l

@@ -1,46 +1,58 @@
--- The look-up of a cut among frontiers in ascending order, from a hint: where the last look-up ended. It gallops up from the hint,
--- or goes down from it, and then halves what is left.
-use Prim.Native.Nat.{ℕ, zero, suc, _+_, _-_, _*_, _/_, min}
-use mathlib.Core.Bool.{Bool, true, false, not, cond, _&&_}
+-- The look-up of a cut among frontiers in ascending order, from a hint: it gallops up from the hint, or goes down from it, and then
+-- halves what is left. It ends where the cut stands; where it stands nowhere, at the number of the frontiers.
+use Prim.Native.Nat.{ℕ, zero, suc, _+_, _-_, _*_, _/_}
+use mathlib.Core.Bool.{true, false, cond}
 use mathlib.Core.List.{List, [], map}
 use lib.Dec.{ltb}
 use lib.ListN.{length, getD}
 use Rattle.frontiers.specs.Order.{before, same}
 use Rattle.frontiers.specs.declared.Frontier.{Frontier}
+use Rattle.frontiers.specs.declared.Standing.{Standing}
+use Rattle.frontiers.specs.declared.Standing.the-variants.{Before, Same, Behind}
 
--- The key at a place is the one sought, or stands before it.
-unfoldable pub atMost : List (List ℕ) → List ℕ → ℕ → Bool
-atMost keys key i = not (before key (getD keys i []))
+-- How counts stand to a key: the same, or before it or behind it in the order of frontiers.
+unfoldable pub standing : List ℕ → List ℕ → Standing
+standing counts key = cond (same counts key) Same (cond (before counts key) Before Behind)
 
--- The last place from lo on and below hi with such a key, by halving; at most d times.
+-- How the key at a place stands to the one sought.
+abbrev pub standsTo : List (List ℕ) → List ℕ → ℕ → Standing
+standsTo keys key i = standing (getD keys i []) key
+
+-- The place from lo on and below hi at which the key stands, by halving; at most d times.
 unfoldable pub bisect : List (List ℕ) → List ℕ → ℕ → ℕ → ℕ → ℕ
-bisect keys key zero lo hi = lo
+bisect keys key zero lo hi = length keys
 bisect keys key (suc d) lo hi =
     let middle = lo + (hi - lo) / 2 in
-    elim (ltb (lo + 1) hi) [
-      | false ↦ lo
-      | true ↦ elim (atMost keys key middle) [ true ↦ bisect keys key d middle hi | false ↦ bisect keys key d lo middle ]
+    elim (ltb lo hi) [
+      | false ↦ length keys
+      | true ↦ elim (standsTo keys key middle) [ Before ↦ bisect keys key d (middle + 1) hi | Same ↦ middle | Behind ↦ bisect keys key d lo middle ]
     ]
 
--- The same from lo on, by steps that double; at most d of them.
+-- The same behind lo, by steps that double; at most d of them.
 unfoldable pub gallop : List (List ℕ) → List ℕ → ℕ → ℕ → ℕ → ℕ
-gallop keys key zero lo width = bisect keys key (length keys) lo (length keys)
+gallop keys key zero lo width = length keys
 gallop keys key (suc d) lo width =
-    elim (ltb (lo + width) (length keys) && atMost keys key (lo + width)) [
-      | true ↦ gallop keys key d (lo + width) (width * 2)
-      | false ↦ bisect keys key (length keys) lo (min (lo + width) (length keys))
+    let far = lo + width in
+    elim (ltb far (length keys)) [
+      | false ↦ bisect keys key (length keys) (lo + 1) (length keys)
+      | true ↦ elim (standsTo keys key far) [
+        | Before ↦ gallop keys key d far (width * 2)
+        | Same ↦ far
+        | Behind ↦ bisect keys key (length keys) (lo + 1) far
+      ]
     ]
 
--- The place at which a key stands, if it stands anywhere.
+-- The place at which a key stands; the number of keys if it stands nowhere.
 unfoldable pub seek : List (List ℕ) → List ℕ → ℕ → ℕ
 seek keys key hint =
-    cond (ltb hint (length keys) && atMost keys key hint)
-    (gallop keys key (length keys) hint 1)
-    (bisect keys key (length keys) 0 (min hint (length keys)))
-
--- The key stands at the place.
-unfoldable pub standsAt : List (List ℕ) → List ℕ → ℕ → Bool
-standsAt keys key i = ltb i (length keys) && same (getD keys i []) key
+    elim (ltb hint (length keys)) [
+      | false ↦ bisect keys key (length keys) 0 (length keys)
+      | true ↦ elim (standsTo keys key hint) [
+        | Before ↦ gallop keys key (length keys) hint 1
+        | Same ↦ hint
+        | Behind ↦ bisect keys key (length keys) 0 hint
+      ]
+    ]
 
 -- The counts of frontiers, by which they are sought.
 abbrev pub keysOf : List Frontier → List (List ℕ)

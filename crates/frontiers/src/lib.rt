@@ -7,6 +7,13 @@ pub mod order;
 pub mod place;
 pub mod stored;
 
+// How counts stand to a key in the order of frontiers.
+pub enum Standing {
+    Before,
+    Same,
+    Behind,
+}
+
 // A kept cut: its counts, each process's labels and the mask of its last event there, and the truth of each line.
 pub struct Frontier {
     pub counts: [u32; 8],

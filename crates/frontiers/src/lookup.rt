@@ -1,21 +1,34 @@
 // The look-up of counts among frontiers in ascending order, read straight from their bytes.
 
+use crate::Standing;
 ghost use Prim.Native.Nat.{_+_, _*_, _≤_, _<_};
 ghost use mathlib.Core.Path.{_≡_};
-ghost use mathlib.Core.Bool.{not};
+ghost use mathlib.Core.Bool.{cond};
+ghost use lib.Dec.{ltb};
 ghost use lib.ListN.{length};
 ghost use Rattle.frontiers.specs.Width.{Width};
 ghost use Rattle.frontiers.specs.Bytes.{frontierLength, frontierAt, frontiers};
-ghost use Rattle.frontiers.specs.Order.{before, same};
-ghost use Rattle.frontiers.specs.Seek.{bisect as bisected, gallop as galloped, seek as sought, standsAt};
+ghost use Rattle.frontiers.specs.Seek.{standing, bisect as bisected, gallop as galloped, seek as sought};
 ghost use Rattle.frontiers.specs.Seek.{keysOf};
+ghost use Rattle.frontiers.specs.declared.Standing.the-variants.{Before, Behind};
 
-// Whether the counts of frontier i are the key or stand before it.
-pub fn at_most(s: &[u8], w: usize, i: usize, key: [u32; 8]) -> bool
+// A count that is not the wanted one: before it or behind it.
+fn standing_of(count: u32, wanted: u32) -> Standing
+    ensures { λ r. ⌜ r ≡ cond (ltb count wanted) Before Behind ⌝ }
+{
+    if count < wanted {
+        Standing::Before
+    } else {
+        Standing::Behind
+    }
+}
+
+// How the counts of frontier i stand to the key: process by process, until one differs.
+pub fn standing_at(s: &[u8], w: usize, i: usize, key: [u32; 8]) -> Standing
     requires { ⌜ Width w ⌝ }
     requires { ⌜ i ≤ 1024 ⌝ }
     requires { ⌜ i * frontierLength w + frontierLength w ≤ length (now s) ⌝ }
-    ensures { λ r. ⌜ r ≡ not (before key (frontierAt w (now (s .entry)) i .counts)) ⌝ }
+    ensures { λ r. ⌜ r ≡ standing (frontierAt w (now (s .entry)) i .counts) key ⌝ }
 {
     let mut next = crate::place::frontier_place(w, i);
     let mut p = 0;
@@ -23,56 +36,42 @@ pub fn at_most(s: &[u8], w: usize, i: usize, key: [u32; 8]) -> bool
         let count = crate::counts::read_count(s, next, w);
         let wanted = key[p];
         if count != wanted {
-            return count < wanted;
+            return standing_of(count, wanted);
         }
         next = next + w;
         p = p + 1;
     }
-    true
+    Standing::Same
 }
 
-// Whether the counts of frontier i are the key.
-pub fn same_at(s: &[u8], w: usize, i: usize, key: [u32; 8]) -> bool
-    requires { ⌜ Width w ⌝ }
-    requires { ⌜ i ≤ 1024 ⌝ }
-    requires { ⌜ i * frontierLength w + frontierLength w ≤ length (now s) ⌝ }
-    ensures { λ r. ⌜ r ≡ same (frontierAt w (now (s .entry)) i .counts) key ⌝ }
-{
-    let mut next = crate::place::frontier_place(w, i);
-    let mut p = 0;
-    while p < 8 {
-        let count = crate::counts::read_count(s, next, w);
-        if count != key[p] {
-            return false;
-        }
-        next = next + w;
-        p = p + 1;
-    }
-    true
-}
-
-// The last of the places from low on and below high whose counts are at most the key, by halving.
+// The place from low on and below high at which the key stands, by halving; n for none.
 pub fn bisect(s: &[u8], w: usize, n: usize, key: [u32; 8], low: usize, high: usize) -> usize
     requires { ⌜ Width w ⌝ }
     requires { ⌜ n ≤ 1024 ⌝ }
     requires { ⌜ n * frontierLength w ≤ length (now s) ⌝ }
-    requires { ⌜ (low ≤ high) × (high ≤ n) ⌝ }
+    requires { ⌜ high ≤ n ⌝ }
     ensures { λ r. ⌜ r ≡ bisected (keysOf (frontiers w (now (s .entry)) n)) key n low high ⌝ }
 {
     let mut lo = low;
     let mut hi = high;
-    while lo + 1 < hi {
+    while lo < hi {
         let middle = lo + (hi - lo) / 2;
-        if at_most(s, w, middle, key) {
-            lo = middle;
-        } else {
-            hi = middle;
+        match standing_at(s, w, middle, key) {
+            Standing::Same => {
+                return middle;
+            }
+            Standing::Before => {
+                lo = middle + 1;
+            }
+            Standing::Behind => {
+                hi = middle;
+            }
         }
     }
-    lo
+    n
 }
 
-// The same from a place on whose counts are at most the key, by steps that double.
+// The same behind a place whose counts stand before the key, by steps that double.
 pub fn gallop(s: &[u8], w: usize, n: usize, key: [u32; 8], low: usize) -> usize
     requires { ⌜ Width w ⌝ }
     requires { ⌜ n ≤ 1024 ⌝ }
@@ -85,17 +84,24 @@ pub fn gallop(s: &[u8], w: usize, n: usize, key: [u32; 8], low: usize) -> usize
     loop {
         let far = lo + width;
         if n <= far {
-            return bisect(s, w, n, key, lo, n);
+            return bisect(s, w, n, key, lo + 1, n);
         }
-        if !at_most(s, w, far, key) {
-            return bisect(s, w, n, key, lo, far);
+        match standing_at(s, w, far, key) {
+            Standing::Same => {
+                return far;
+            }
+            Standing::Behind => {
+                return bisect(s, w, n, key, lo + 1, far);
+            }
+            Standing::Before => {
+                lo = far;
+                width = width * 2;
+            }
         }
-        lo = far;
-        width = width * 2;
     }
 }
 
-// The place at which the key stands among the first n frontiers, if it stands anywhere; from a hint.
+// The place at which the key stands among the first n frontiers, from a hint; n for none.
 pub fn seek(s: &[u8], w: usize, n: usize, key: [u32; 8], hint: usize) -> usize
     requires { ⌜ Width w ⌝ }
     requires { ⌜ n ≤ 1024 ⌝ }
@@ -105,18 +111,9 @@ pub fn seek(s: &[u8], w: usize, n: usize, key: [u32; 8], hint: usize) -> usize
     if n <= hint {
         return bisect(s, w, n, key, 0, n);
     }
-    if at_most(s, w, hint, key) {
-        return gallop(s, w, n, key, hint);
+    match standing_at(s, w, hint, key) {
+        Standing::Same => hint,
+        Standing::Before => gallop(s, w, n, key, hint),
+        Standing::Behind => bisect(s, w, n, key, 0, hint),
     }
-    bisect(s, w, n, key, 0, hint)
-}
-
-// Whether the key stands at a place among the first n frontiers.
-pub fn stands_at(s: &[u8], w: usize, n: usize, key: [u32; 8], i: usize) -> bool
-    requires { ⌜ Width w ⌝ }
-    requires { ⌜ n ≤ 1024 ⌝ }
-    requires { ⌜ n * frontierLength w ≤ length (now s) ⌝ }
-    ensures { λ r. ⌜ r ≡ standsAt (keysOf (frontiers w (now (s .entry)) n)) key i ⌝ }
-{
-    if i < n { same_at(s, w, i, key) } else { false }
 }

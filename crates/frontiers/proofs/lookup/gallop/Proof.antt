@@ -1,16 +1,15 @@
--- Each turn is one of the definition: the laws `gallop-past-keys`, `gallop-over-keys` and `gallop-on-keys`.
-use Prim.Native.Nat.{_≤_, _<_, _-_, _+_}
+-- Each turn is one of the definition: the laws `gallop-past-keys` and `gallop-step-keys`.
+use Prim.Native.Nat.{_≤_, _<_, _-_, _+_, _*_}
 use native.Mathlib.Omega.{arith}
-use mathlib.Core.Bool.{true, false}
 use mathlib.Core.Path.{_≡_, sym, _∙_}
 use denote.Ref.{now}
-use borrow.Author.Tests.{not-true, not-false}
 use borrow.Author.Needs.{needs}
-use Rattle.frontiers.specs.LookupLaws.{atMost-keys, gallop-past-keys, gallop-over-keys, gallop-on-keys}
+use Rattle.frontiers.specs.LookupLaws.{gallop-past-keys, gallop-step-keys}
 use Rattle.frontiers.specs.WindowLaws.{place-within}
-use Rattle.frontiers.specs.Seek.{atMost, gallop}
-use Rattle.frontiers.specs.Seek.{keysOf}
+use Rattle.frontiers.specs.Seek.{bisect, gallop, keysOf}
 use Rattle.frontiers.specs.Bytes.{frontiers}
+use Rattle.frontiers.specs.declared.Standing.{Standing}
+use Rattle.frontiers.specs.declared.Standing.the-variants.{Before, Same, Behind}
 use Rattle.frontiers.proofs.lookup.gallop.Statement.{statement}
 use Rattle.frontiers.proofs.lookup.gallop.Tie as tie
 
@@ -26,34 +25,57 @@ loop-holds c = search needs
 add-far : tie.Need-add-far Inv-loop μ-loop
 add-far c = search needs
 
+add-bisect : tie.Need-add-bisect Inv-loop μ-loop
+add-bisect c = search needs
+
 bisect-requires : tie.Need-bisect-requires Inv-loop μ-loop
 bisect-requires c κs = search needs
 
 returns : tie.Need-returns Inv-loop μ-loop
 returns c =
     let a = c .before .before .before .before .args in
-    let lo = c .before .before .loop .lo in
-    let width = c .before .before .loop .width in
-    cc (gallop-past-keys (a .w) (now (a .s)) (a .n) (a .key) lo width (search needs) (search needs))
+    let l = c .before .before .loop in
+    c .bisect .ensures ∙ sym (l .inv .3 ∙ gallop-past-keys (a .w) (now (a .s)) (a .n) (a .key) (l .lo) (l .width) (search needs) (search needs))
 
-at-most-requires : tie.Need-at-most-requires Inv-loop μ-loop
-at-most-requires c κs =
+standing-at-requires : tie.Need-standing-at-requires Inv-loop μ-loop
+standing-at-requires c κs =
     let a = c .before .before .before .args in
-    let lo = c .before .loop .lo in
-    let width = c .before .loop .width in
-    (search needs, (search needs, omega (arith, place-within (lo + width) (a .n) (a .w) (search needs))))
+    let l = c .before .loop in
+    (search needs, (search needs, omega (arith, place-within (l .lo + l .width) (a .n) (a .w) (search needs))))
+
+-- What a turn within does, by how the counts there stand to the key.
+turn : (c : tie.After-standing-at Inv-loop μ-loop) (b : Standing) → c .standing-at .result ≡ b → let a = c .before .before .before .before .args in
+    let far = c .before .before .loop .lo + c .before .before .loop .width in
+    gallop (keysOf (frontiers (a .w) (now (a .s)) (a .n))) (a .key) (a .n) (a .low) 1 ≡ elim b [
+      | Before ↦ gallop (keysOf (frontiers (a .w) (now (a .s)) (a .n))) (a .key) (a .n) far (c .before .before .loop .width * 2)
+      | Same ↦ far
+      | Behind ↦ bisect (keysOf (frontiers (a .w) (now (a .s)) (a .n))) (a .key) (a .n) (c .before .before .loop .lo + 1) far
+    ]
+turn c b q =
+    let a = c .before .before .before .before .args in
+    let l = c .before .before .loop in
+    l .inv .3 ∙ gallop-step-keys (a .w) (now (a .s)) (a .n) (a .key) (l .lo) (l .width) (search needs) (search needs) b (sym (c .standing-at .ensures) ∙ q)
+
+enum-told : tie.Need-enum-told Inv-loop μ-loop
+enum-told c = search needs
+
+returns-2 : tie.Need-returns-2 Inv-loop μ-loop
+returns-2 c = sym (turn (c .before .before) Same (c .enum-told .given .1))
+
+enum-told-2 : tie.Need-enum-told-2 Inv-loop μ-loop
+enum-told-2 c = search needs
+
+add-bisect-2 : tie.Need-add-bisect-2 Inv-loop μ-loop
+add-bisect-2 c = search needs
 
 bisect-requires-2 : tie.Need-bisect-requires-2 Inv-loop μ-loop
 bisect-requires-2 c κs = search needs
 
-returns-2 : tie.Need-returns-2 Inv-loop μ-loop
-returns-2 c =
-    let a = c .before .before .before .before .before .before .args in
-    let lo = c .before .before .before .before .loop .lo in
-    let width = c .before .before .before .before .loop .width in
-    let over : atMost (keysOf (frontiers (a .w) (now (a .s)) (a .n))) (a .key) (lo + width) ≡ false =
-    atMost-keys (a .w) (now (a .s)) (a .n) (a .key) (lo + width) (search needs) ∙ sym (c .before .before .at-most .ensures) ∙ not-true _ (c .before .if2 .taken) in
-    cc (gallop-over-keys (a .w) (now (a .s)) (a .n) (a .key) lo width (search needs) over)
+returns-3 : tie.Need-returns-3 Inv-loop μ-loop
+returns-3 c = c .bisect2 .ensures ∙ sym (turn (c .before .before .before) Behind (c .before .enum-told2 .given .1))
+
+enum-told-3 : tie.Need-enum-told-3 Inv-loop μ-loop
+enum-told-3 c = search needs
 
 mul-width : tie.Need-mul-width Inv-loop μ-loop
 mul-width c = search needs
@@ -62,13 +84,7 @@ loop-less : tie.Need-loop-less Inv-loop μ-loop
 loop-less c = search needs
 
 loop-again : tie.Need-loop-again Inv-loop μ-loop
-loop-again c =
-    let a = c .before .before .before .before .before .args in
-    let lo = c .before .before .before .loop .lo in
-    let width = c .before .before .before .loop .width in
-    let on : atMost (keysOf (frontiers (a .w) (now (a .s)) (a .n))) (a .key) (lo + width) ≡ true =
-    atMost-keys (a .w) (now (a .s)) (a .n) (a .key) (lo + width) (search needs) ∙ sym (c .before .at-most .ensures) ∙ not-false _ (c .if2 .left) in
-    (search needs, search needs, search needs, cc (gallop-on-keys (a .w) (now (a .s)) (a .n) (a .key) lo width (search needs) (search needs) on))
+loop-again c = (search needs, search needs, search needs, turn (c .before .before) Before (c .enum-told3 .given .1))
 
 pub gallop-spec : {M : Type 1} → statement M
 gallop-spec =
@@ -78,11 +94,17 @@ gallop-spec =
     μ-loop
     loop-holds
     add-far
+    add-bisect
     bisect-requires
     returns
-    at-most-requires
-    bisect-requires-2
+    standing-at-requires
+    enum-told
     returns-2
+    enum-told-2
+    add-bisect-2
+    bisect-requires-2
+    returns-3
+    enum-told-3
     mul-width
     loop-less
     loop-again)

@@ -1,14 +1,14 @@
--- The first test leads as in the definition: the laws `seek-whole-keys`, `seek-up-keys` and `seek-down-keys`.
+-- The first test leads as in the definition: the laws `seek-whole-keys` and `seek-step-keys`.
 use native.Mathlib.Omega.{arith}
-use mathlib.Core.Bool.{true, false}
 use mathlib.Core.Path.{_≡_, sym, _∙_}
 use denote.Ref.{now}
 use borrow.Author.Needs.{needs}
-use Rattle.frontiers.specs.LookupLaws.{atMost-keys, seek-whole-keys, seek-up-keys, seek-down-keys}
+use Rattle.frontiers.specs.LookupLaws.{seek-whole-keys, seek-step-keys}
 use Rattle.frontiers.specs.WindowLaws.{place-within}
-use Rattle.frontiers.specs.Seek.{atMost}
-use Rattle.frontiers.specs.Seek.{keysOf}
+use Rattle.frontiers.specs.Seek.{bisect, gallop, seek, keysOf}
 use Rattle.frontiers.specs.Bytes.{frontiers}
+use Rattle.frontiers.specs.declared.Standing.{Standing}
+use Rattle.frontiers.specs.declared.Standing.the-variants.{Before, Same, Behind}
 use Rattle.frontiers.proofs.lookup.seek.Statement.{statement}
 use Rattle.frontiers.proofs.lookup.seek.Tie as tie
 
@@ -18,32 +18,47 @@ bisect-requires c κs = search needs
 returns : tie.Need-returns
 returns c =
     let a = c .before .before .before .args in
-    cc (seek-whole-keys (a .w) (now (a .s)) (a .n) (a .key) (a .hint) (search needs))
+    c .bisect .ensures ∙ sym (seek-whole-keys (a .w) (now (a .s)) (a .n) (a .key) (a .hint) (search needs))
 
-at-most-requires : tie.Need-at-most-requires
-at-most-requires c κs =
+standing-at-requires : tie.Need-standing-at-requires
+standing-at-requires c κs =
     let a = c .before .before .args in
     (search needs, (search needs, omega (arith, place-within (a .hint) (a .n) (a .w) (search needs))))
+
+-- What is done by how the counts at the hint stand to the key.
+turn : (c : tie.After-standing-at) (b : Standing) → c .standing-at .result ≡ b → let a = c .before .before .before .args in
+    seek (keysOf (frontiers (a .w) (now (a .s)) (a .n))) (a .key) (a .hint) ≡ elim b [
+      | Before ↦ gallop (keysOf (frontiers (a .w) (now (a .s)) (a .n))) (a .key) (a .n) (a .hint) 1
+      | Same ↦ a .hint
+      | Behind ↦ bisect (keysOf (frontiers (a .w) (now (a .s)) (a .n))) (a .key) (a .n) 0 (a .hint)
+    ]
+turn c b q =
+    let a = c .before .before .before .args in
+    seek-step-keys (a .w) (now (a .s)) (a .n) (a .key) (a .hint) (search needs) b (sym (c .standing-at .ensures) ∙ q)
+
+enum-told : tie.Need-enum-told
+enum-told c = search needs
+
+enum-told-2 : tie.Need-enum-told-2
+enum-told-2 c = search needs
 
 gallop-requires : tie.Need-gallop-requires
 gallop-requires c κs = search needs
 
-returns-2 : tie.Need-returns-2
-returns-2 c =
-    let a = c .before .before .before .before .before .args in
-    let test : atMost (keysOf (frontiers (a .w) (now (a .s)) (a .n))) (a .key) (a .hint) ≡ true =
-    atMost-keys (a .w) (now (a .s)) (a .n) (a .key) (a .hint) (search needs) ∙ sym (c .before .before .at-most .ensures) ∙ c .before .if2 .taken in
-    cc (seek-up-keys (a .w) (now (a .s)) (a .n) (a .key) (a .hint) (search needs) test)
+enum-told-3 : tie.Need-enum-told-3
+enum-told-3 c = search needs
 
 bisect-requires-2 : tie.Need-bisect-requires-2
 bisect-requires-2 c κs = search needs
 
+returns-2 : tie.Need-returns-2
+returns-2 c = sym (turn (c .before .before) Same (c .enum-told .given .1))
+
 returns-3 : tie.Need-returns-3
-returns-3 c =
-    let a = c .before .before .before .before .before .args in
-    let test : atMost (keysOf (frontiers (a .w) (now (a .s)) (a .n))) (a .key) (a .hint) ≡ false =
-    atMost-keys (a .w) (now (a .s)) (a .n) (a .key) (a .hint) (search needs) ∙ sym (c .before .before .at-most .ensures) ∙ c .before .if2 .left in
-    cc (seek-down-keys (a .w) (now (a .s)) (a .n) (a .key) (a .hint) (search needs) test)
+returns-3 c = c .gallop .ensures ∙ sym (turn (c .before .before .before) Before (c .before .enum-told2 .given .1))
+
+returns-4 : tie.Need-returns-4
+returns-4 c = c .bisect2 .ensures ∙ sym (turn (c .before .before .before) Behind (c .before .enum-told3 .given .1))
 
 pub seek-spec : {M : Type 1} → statement M
 seek-spec =
@@ -51,8 +66,12 @@ seek-spec =
     (tie.spec
     bisect-requires
     returns
-    at-most-requires
+    standing-at-requires
+    enum-told
+    enum-told-2
     gallop-requires
-    returns-2
+    enum-told-3
     bisect-requires-2
-    returns-3)
+    returns-2
+    returns-3
+    returns-4)

@@ -8,14 +8,14 @@ use borrow.Author.Needs.{needs}
 use Rattle.codec.specs.Little.{number}
 use Rattle.frontiers.specs.BytesLaws.{count-within}
 use Rattle.frontiers.specs.StoreLaws.{count-next}
-use Rattle.frontiers.specs.LookupLaws.{same-other, same-equal, same-end}
-use Rattle.frontiers.specs.Order.{same}
+use Rattle.frontiers.specs.LookupLaws.{standing-other, standing-equal, standing-end}
+use Rattle.frontiers.specs.Seek.{standing}
 use Rattle.frontiers.specs.Bytes.{frontierLength, frontierAt}
-use Rattle.frontiers.proofs.lookup.same_at.Statement.{statement}
-use Rattle.frontiers.proofs.lookup.same_at.Tie as tie
+use Rattle.frontiers.proofs.lookup.standing_at.Statement.{statement}
+use Rattle.frontiers.proofs.lookup.standing_at.Tie as tie
 
 abbrev Inv-loop : tie.InvT-loop
-Inv-loop s w i key next₀ p₀ next p = (p ≤ 8) × (next ≡ i * frontierLength w + p * w) × (length key ≡ 8) × (same (frontierAt w s i .counts) key ≡ same (drop p (frontierAt w s i .counts)) (drop p key))
+Inv-loop s w i key next₀ p₀ next p = (p ≤ 8) × (next ≡ i * frontierLength w + p * w) × (length key ≡ 8) × (standing (frontierAt w s i .counts) key ≡ standing (drop p (frontierAt w s i .counts)) (drop p key))
 
 abbrev μ-loop : tie.MeasureT-loop
 μ-loop s w i key next₀ p₀ next p = 8 - p
@@ -32,18 +32,23 @@ read-count-requires c κs =
     let a = c .before .before .before .before .args in
     (search needs, omega (arith, count-within (c .before .loop .p) 8 (a .w) (search needs)))
 
-mul-if1 : tie.Need-mul-if1 Inv-loop μ-loop
-mul-if1 c = search needs
+mul-wanted : tie.Need-mul-wanted Inv-loop μ-loop
+mul-wanted c = search needs
 
-array-read-if1 : tie.Need-array-read-if1 Inv-loop μ-loop
-array-read-if1 c = search needs
+array-read-wanted : tie.Need-array-read-wanted Inv-loop μ-loop
+array-read-wanted c = search needs
+
+standing-of-requires : tie.Need-standing-of-requires Inv-loop μ-loop
+standing-of-requires c κs = search needs
 
 returns : tie.Need-returns Inv-loop μ-loop
 returns c =
-    let a = c .before .before .before .before .before .before .args in
-    let p = c .before .before .before .loop .p in
-    let read : c .before .read-count .result ≡ number (now (a .s)) (a .i * frontierLength (a .w) + p * a .w) (a .w) = cc in
-    cc (same-other (a .w) (now (a .s)) (a .i) (a .t4) p (search needs) (search needs) (λ q. c .if1 .taken (read ∙ q)))
+    let d = c .before in
+    let a = d .before .before .before .before .before .before .args in
+    let p = d .before .before .before .loop .p in
+    let read : d .before .read-count .result ≡ number (now (a .s)) (a .i * frontierLength (a .w) + p * a .w) (a .w) = cc in
+    let other = standing-other (a .w) (now (a .s)) (a .i) (a .t4) p (search needs) (search needs) (λ q. d .if1 .taken (read ∙ q)) in
+    c .standing-of .ensures ∙ rw (read) (sym (d .before .before .before .loop .inv .3 ∙ other))
 
 add-next : tie.Need-add-next Inv-loop μ-loop
 unfolding frontierLength
@@ -62,16 +67,16 @@ loop-again c =
     let a = c .before .before .before .before .before .before .args in
     let p = c .before .before .before .loop .p in
     let read : c .before .read-count .result ≡ number (now (a .s)) (a .i * frontierLength (a .w) + p * a .w) (a .w) = cc in
-    (search needs, omega (arith, count-next p (a .w)), search needs, cc (same-equal (a .w) (now (a .s)) (a .i) (a .t4) p (search needs) (search needs) (sym read ∙ c .if1 .left)))
+    (search needs, omega (arith, count-next p (a .w)), search needs, cc (standing-equal (a .w) (now (a .s)) (a .i) (a .t4) p (search needs) (search needs) (sym read ∙ c .if1 .left)))
 
 returns-2 : tie.Need-returns-2 Inv-loop μ-loop
 returns-2 c =
     let a = c .before .before .before .before .args in
     let all : c .before .loop .p ≡ 8 = omega arith in
-    cc (same-end (a .w) (now (a .s)) (a .i) (a .t4) (search needs))
+    cc (standing-end (a .w) (now (a .s)) (a .i) (a .t4) (search needs))
 
-pub same-at-spec : {M : Type 1} → statement M
-same-at-spec =
+pub standing-at-spec : {M : Type 1} → statement M
+standing-at-spec =
     tie.close
     (tie.spec
     Inv-loop
@@ -79,8 +84,9 @@ same-at-spec =
     frontier-place-requires
     loop-holds
     read-count-requires
-    mul-if1
-    array-read-if1
+    mul-wanted
+    array-read-wanted
+    standing-of-requires
     returns
     add-next
     add-p
