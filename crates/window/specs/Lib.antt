@@ -8,6 +8,8 @@ pub mod Lists
 pub mod Many
 pub mod StepCode
 pub mod StepCodeLaws
+pub mod Prepared
+pub mod PreparedLaws
 pub mod GatherLaws
 pub mod ShapeLaws
 pub mod Laying

@@ -12,6 +12,7 @@ ghost use Rattle.clocks.specs.Tested.{ready};
 ghost use Rattle.frontiers.specs.Width.{Width};
 ghost use Rattle.frontiers.specs.Bytes.{frontierLength, frontierAt, frontiers};
 ghost use Rattle.window.specs.StepCode.{Fitting, settingWith, freshFrom, hintsFrom};
+ghost use Rattle.window.specs.Prepared.{fullBytes};
 
 // Frontier number i.
 pub fn frontier_at(window: &[u8], w: usize, i: usize) -> Frontier
@@ -42,6 +43,7 @@ pub fn lay_fresh(
     w: usize,
     j: usize,
     m: usize,
+    full: [u8; 8],
     e: Event,
     table: &[u8],
     lines: u32,
@@ -53,11 +55,12 @@ pub fn lay_fresh(
     requires { ⌜ (m ≤ 1024) × (m * frontierLength w + frontierLength w ≤ length (now scratch)) ⌝ }
     requires { ⌜ (lines ≤ 64) × (3 * lines ≤ length (now table)) ⌝ }
     requires { ⌜ T (ready 8 e (at (frontierAt w (now window) j .counts))) ⌝ }
+    requires { ⌜ full ≡ fullBytes (e .mask) ⌝ }
     ensures { λ r. ⌜ ((k closed : ℕ) (reached : List ℕ) → r ≡ hintsFrom (settingWith k closed (now (table .entry)) lines e reached) (frontiers w (now (scratch .entry)) m) hints (frontierAt w (now (window .entry)) j)) ⌝ }
     ensures { λ r. ⌜ ((k closed : ℕ) (reached : List ℕ) → frontiers w (now (scratch .exit)) (m + 1) ≡ frontiers w (now (scratch .entry)) m ++ (freshFrom (settingWith k closed (now (table .entry)) lines e reached) (frontiers w (now (scratch .entry)) m) hints (frontierAt w (now (window .entry)) j) ∷ [])) ⌝ }
 {
     let f = frontier_at(window, w, j);
-    let g = crate::advance::advanced(e, f);
+    let g = crate::advance::advanced(e, full, f);
     let mask = e.mask;
     let found = crate::gather::gather(scratch, w, m, mask, g, hints);
     let ors = found.ors;

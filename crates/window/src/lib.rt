@@ -6,6 +6,7 @@ pub mod kept;
 pub mod lay;
 pub mod merge;
 pub mod step;
+pub mod tests;
 
 // What is gathered from the cuts that precede a new frontier: the OR and the AND of their values, and where each process's look-up ended.
 pub struct Found {

@@ -101,13 +101,26 @@ pub fn lay_all(
     requires { ⌜ kept ≡ keptAfter (settingWith k closed (now table) lines e reached) (frontiers w (now window) n) ⌝ }
     ensures { λ r. ⌜ frontiers w (now (scratch .exit)) kept ≡ stepped (settingWith k closed (now (table .entry)) lines e reached) (frontiers w (now (window .entry)) n) ⌝ }
 {
+    let mask = e.mask;
+    let full = crate::advance::full_bytes(mask);
     let mut hints = [0usize; 8];
     let mut i = next_staying(window, w, n, 0, k, closed, reached);
     let mut j = next_enabled(window, w, n, 0, e);
     let mut m = 0;
     while m < kept {
         if fresh_first(window, w, n, i, j, e) {
-            let ended = crate::lay::lay_fresh(window, scratch, w, j, m, e, table, lines, hints);
+            let ended = crate::lay::lay_fresh(
+                window,
+                scratch,
+                w,
+                j,
+                m,
+                full,
+                e,
+                table,
+                lines,
+                hints,
+            );
             hints = ended;
             j = next_enabled(window, w, n, j + 1, e);
             m = m + 1;

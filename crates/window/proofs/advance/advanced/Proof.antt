@@ -15,8 +15,9 @@ renewed-requires-2 c κs = search needs
 
 returns : tie.Need-returns
 returns c = λ s h v. let a = c .before .before .before .before .before .before .before .args in
+    let full = c .before .before .before .before .before .before .before .pre .0 in
     advanced-parts s (a .e) (a .f) (c .before .before .apply .result) (c .before .renewed .result) (c .renewed2 .result) h v
-    (c .before .before .apply .ensures) (c .before .renewed .ensures) (c .renewed2 .ensures)
+    (c .before .before .apply .ensures) (c .before .renewed .ensures (a .e .mask) full) (c .renewed2 .ensures (a .e .mask) full)
 
 pub advanced-spec : {M : Type 1} → statement M
 advanced-spec = tie.close (tie.spec apply-requires renewed-requires renewed-requires-2 returns)

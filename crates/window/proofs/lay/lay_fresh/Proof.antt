@@ -24,7 +24,8 @@ frontier-at-requires c κs = search needs
 advanced-requires : tie.Need-advanced-requires
 advanced-requires c κs =
     let a = c .before .before .before .before .args in
-    subst (λ (f : Frontier). T (ready 8 (a .e) (at (f .counts)))) (sym (c .frontier-at .ensures)) (c .before .before .before .before .pre .1 .1 .1 .1 .1)
+    let p = c .before .before .before .before .pre in
+    (p .1 .1 .1 .1 .1 .1, subst (λ (f : Frontier). T (ready 8 (a .e) (at (f .counts)))) (sym (c .frontier-at .ensures)) (p .1 .1 .1 .1 .1 .0))
 
 gather-requires : tie.Need-gather-requires
 gather-requires c κs = search needs
@@ -45,7 +46,7 @@ proper c =
     let f = frontierAt (a .w) (now (a .window)) (a .j) in
     let small : c .judge .result < 256 ^ 8 = search needs in
     subst (λ (g : Frontier). Shaped (a .w) (record { counts = g .counts; labels = g .labels; masks = g .masks; values = c .judge .result })) (sym (leads (c .before .before .before .before .before .before) s refl refl))
-    (shaped-advanced (a .w) s (a .e) f (c .judge .result) refl refl (p .1 .0) (shaped-at (a .w) (now (a .window)) (a .j) (λ i. c .before .before .before .before .before .before .before .before .before .before .shared-slice-known .given i .fits) (p .1 .1 .0 .1)) (p .1 .1 .1 .1 .1) small)
+    (shaped-advanced (a .w) s (a .e) f (c .judge .result) refl refl (p .1 .0) (shaped-at (a .w) (now (a .window)) (a .j) (λ i. c .before .before .before .before .before .before .before .before .before .before .shared-slice-known .given i .fits) (p .1 .1 .0 .1)) (p .1 .1 .1 .1 .1 .0) small)
 
 lay-frontier-requires : tie.Need-lay-frontier-requires
 lay-frontier-requires c κs =

@@ -17,13 +17,16 @@ use Rattle.clocks.specs.EventLaws.{true-T}
 use Rattle.clocks.specs.Counts.{listOf}
 
 abbrev Inv-loop : tie.InvT-loop
-Inv-loop window scratch₀ w n kept k closed e reached table lines hints₀ i₀ j₀ m₀ scratch hints i j m =
+Inv-loop window scratch₀ w n kept k closed e reached table lines mask full hints₀ i₀ j₀ m₀ scratch hints i j m =
     (m ≤ kept) × (length scratch ≡ length scratch₀) × (i ≤ n) × (j ≤ n)
     × Laying (settingWith k closed table lines e reached) w window n kept (frontiers w scratch m) hints i j m
 
 abbrev μ-loop : tie.MeasureT-loop
-μ-loop window scratch₀ w n kept k closed e reached table lines hints₀ i₀ j₀ m₀ scratch hints i j m =
+μ-loop window scratch₀ w n kept k closed e reached table lines mask full hints₀ i₀ j₀ m₀ scratch hints i j m =
     kept - m
+
+full-bytes-requires : tie.Need-full-bytes-requires Inv-loop μ-loop
+full-bytes-requires c κs = search needs
 
 next-staying-requires : tie.Need-next-staying-requires Inv-loop μ-loop
 next-staying-requires c κs = search needs
@@ -34,12 +37,12 @@ next-enabled-requires c κs = search needs
 loop-holds : tie.Need-loop-holds Inv-loop μ-loop
 unfolding stays enabledAt frontiers listOf
 loop-holds c =
-    let a = c .before .before .before .before .before .args in (
+    let a = c .before .before .before .before .before .before .args in (
       search needs,
       refl,
       c .before .next-staying .ensures .0,
       c .next-enabled .ensures .0,
-      laying-start (settingWith (a .k) (a .closed) (now (a .table)) (a .lines) (a .e) (a .reached)) refl (a .w) (now (a .window)) (a .n) (a .kept) (c .before .before .before .before .before .pre .1 .1 .1 .1 .1 .1)
+      laying-start (settingWith (a .k) (a .closed) (now (a .table)) (a .lines) (a .e) (a .reached)) refl (a .w) (now (a .window)) (a .n) (a .kept) (c .before .before .before .before .before .before .pre .1 .1 .1 .1 .1 .1)
           (c .before .next-staying .result) (c .before .next-staying .ensures .0) (c .before .next-staying .ensures .1 .0) (c .before .next-staying .ensures .1 .1)
           (c .next-enabled .result) (c .next-enabled .ensures .0) (c .next-enabled .ensures .1 .0) (c .next-enabled .ensures .1 .1),
     )
@@ -49,30 +52,30 @@ unfolding enabledAt
 fresh-first-requires c κs = (search needs, (search needs, c .before .loop .inv .4 .leading-here))
 
 -- Where a new one comes first, there is one that the event leads on from.
-leading : (c : tie.After-lay-fresh-arg Inv-loop μ-loop) → c .before .before .before .before .loop .j < c .before .before .before .before .before .before .before .before .before .before .args .n
+leading : (c : tie.After-lay-fresh-arg Inv-loop μ-loop) → c .before .before .before .before .loop .j < c .before .before .before .before .before .before .before .before .before .before .before .args .n
 leading c =
-    let a = c .before .before .before .before .before .before .before .before .before .before .args in
+    let a = c .before .before .before .before .before .before .before .before .before .before .before .args in
     let l = c .before .before .before .before .loop in
     leading-left (settingWith (a .k) (a .closed) (now (a .table)) (a .lines) (a .e) (a .reached)) (a .e) refl refl (a .w) (now (a .window)) (a .n) (a .kept) (frontiers (a .w) (l .scratch) (l .m)) (l .hints) (l .i) (l .j) (l .m) (l .inv .4) (search needs) (sym (c .before .before .fresh-first .ensures) ∙ c .before .if1 .taken)
 
 lay-fresh-requires : tie.Need-lay-fresh-requires Inv-loop μ-loop
 unfolding enabledAt
 lay-fresh-requires c κs =
-    let a = c .before .before .before .before .before .before .before .before .before .before .args in
-    let p = c .before .before .before .before .before .before .before .before .before .before .pre in
+    let a = c .before .before .before .before .before .before .before .before .before .before .before .args in
+    let p = c .before .before .before .before .before .before .before .before .before .before .before .pre in
     let l = c .before .before .before .before .loop in
     let here : l .j < a .n = leading c in
     let room = place-within (l .m) (a .kept) (a .w) (search needs) in
-    (p .0, (p .1 .0, ((omega arith, omega (arith, place-within (l .j) (a .n) (a .w) here)), ((omega arith, omega (arith, room)), (p .1 .1 .1 .1 .0, true-T (l .inv .4 .leading-here here))))))
+    (p .0, (p .1 .0, ((omega arith, omega (arith, place-within (l .j) (a .n) (a .w) here)), ((omega arith, omega (arith, room)), (p .1 .1 .1 .1 .0, (true-T (l .inv .4 .leading-here here), c .before .before .before .before .before .before .before .full-bytes .ensures))))))
 
 add-next-enabled : tie.Need-add-next-enabled Inv-loop μ-loop
 add-next-enabled c = let here = leading (c .before .before .before) in search needs
 
 next-enabled-requires-2 : tie.Need-next-enabled-requires-2 Inv-loop μ-loop
-next-enabled-requires-2 c κs = let here = leading (c .before .before .before) in (search needs, (search needs, omega arith))
+next-enabled-requires-2 c κs = let here = leading (c .before .before .before) in (search needs, (c .before .before .before .before .before .before .before .before .before .before .before .before .before .before .pre .1 .1 .0, omega arith))
 
 add-m : tie.Need-add-m Inv-loop μ-loop
-add-m c = search needs
+add-m c = let room = c .before .before .before .before .before .before .before .before .before .before .before .before .before .before .before .pre .1 .1 .1 .0 .0 in search needs
 
 loop-less : tie.Need-loop-less Inv-loop μ-loop
 loop-less c = search needs
@@ -80,7 +83,7 @@ loop-less c = search needs
 loop-again : tie.Need-loop-again Inv-loop μ-loop
 unfolding stays enabledAt
 loop-again c =
-    let a = c .before .before .before .before .before .before .before .before .before .before .before .before .before .before .args in
+    let a = c .before .before .before .before .before .before .before .before .before .before .before .before .before .before .before .args in
     let l = c .before .before .before .before .before .before .before .before .loop in (
       search needs,
       search needs,
@@ -93,16 +96,16 @@ loop-again c =
     )
 
 -- Where none comes first, there is one that stays.
-remains : (c : tie.After-lay-staying-arg Inv-loop μ-loop) → c .before .before .before .before .loop .i < c .before .before .before .before .before .before .before .before .before .before .args .n
+remains : (c : tie.After-lay-staying-arg Inv-loop μ-loop) → c .before .before .before .before .loop .i < c .before .before .before .before .before .before .before .before .before .before .before .args .n
 remains c =
-    let a = c .before .before .before .before .before .before .before .before .before .before .args in
+    let a = c .before .before .before .before .before .before .before .before .before .before .before .args in
     let l = c .before .before .before .before .loop in
     staying-left (settingWith (a .k) (a .closed) (now (a .table)) (a .lines) (a .e) (a .reached)) (a .e) refl refl (a .w) (now (a .window)) (a .n) (a .kept) (frontiers (a .w) (l .scratch) (l .m)) (l .hints) (l .i) (l .j) (l .m) (l .inv .4) (search needs) (sym (c .before .before .fresh-first .ensures) ∙ c .before .if1 .left)
 
 lay-staying-requires : tie.Need-lay-staying-requires Inv-loop μ-loop
 lay-staying-requires c κs =
-    let a = c .before .before .before .before .before .before .before .before .before .before .args in
-    let p = c .before .before .before .before .before .before .before .before .before .before .pre in
+    let a = c .before .before .before .before .before .before .before .before .before .before .before .args in
+    let p = c .before .before .before .before .before .before .before .before .before .before .before .pre in
     let l = c .before .before .before .before .loop in
     let here : l .i < a .n = remains c in
     let room = place-within (l .m) (a .kept) (a .w) (search needs) in
@@ -112,7 +115,7 @@ add-next-staying : tie.Need-add-next-staying Inv-loop μ-loop
 add-next-staying c = let here = remains (c .before .before .before) in search needs
 
 next-staying-requires-2 : tie.Need-next-staying-requires-2 Inv-loop μ-loop
-next-staying-requires-2 c κs = let here = remains (c .before .before .before) in (search needs, (search needs, (omega arith, search needs)))
+next-staying-requires-2 c κs = let here = remains (c .before .before .before) in (search needs, (search needs, (omega arith, c .before .before .before .before .before .before .before .before .before .before .before .before .before .before .pre .1 .1 .1 .1 .1 .0)))
 
 add-m-2 : tie.Need-add-m-2 Inv-loop μ-loop
 add-m-2 c = search needs
@@ -123,7 +126,7 @@ loop-less-2 c = search needs
 loop-again-2 : tie.Need-loop-again-2 Inv-loop μ-loop
 unfolding stays enabledAt
 loop-again-2 c =
-    let a = c .before .before .before .before .before .before .before .before .before .before .before .before .before .before .args in
+    let a = c .before .before .before .before .before .before .before .before .before .before .before .before .before .before .before .args in
     let l = c .before .before .before .before .before .before .before .before .loop in (
       search needs,
       search needs,
@@ -139,7 +142,7 @@ same-length c = search needs
 
 returns : tie.Need-returns Inv-loop μ-loop
 returns c =
-    let a = c .before .before .before .before .before .before .before .args in
+    let a = c .before .before .before .before .before .before .before .before .args in
     let l = c .before .loop in
     let all : l .m ≡ a .kept = omega arith in
     ap (frontiers (a .w) (l .scratch)) (sym all) ∙ laid-all (settingWith (a .k) (a .closed) (now (a .table)) (a .lines) (a .e) (a .reached)) (a .e) refl refl (a .w) (now (a .window)) (a .n) (a .kept) (frontiers (a .w) (l .scratch) (l .m)) (l .hints) (l .i) (l .j) (l .m) (l .inv .4) (omega arith)
@@ -150,6 +153,7 @@ lay-all-spec =
     (tie.spec
     Inv-loop
     μ-loop
+    full-bytes-requires
     next-staying-requires
     next-enabled-requires
     loop-holds

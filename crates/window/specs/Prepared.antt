@@ -1,0 +1,40 @@
+-- What a step makes once, of its event and of the processes, so that no frontier costs a branch for each process.
+use Prim.Native.Nat.{ℕ, _-_}
+use mathlib.Core.Bool.{Bool, cond, not, _&&_}
+use mathlib.Core.List.{List}
+use lib.Dec.{eqb, ltb}
+use Rattle.codec.specs.Bit.{bit}
+use Rattle.clocks.specs.declared.Event.{Event}
+use Rattle.clocks.specs.Event.{involved, count}
+use Rattle.clocks.specs.Counts.{listOf}
+
+-- ---- To choose a new frontier's bytes by
+
+-- A byte to choose by: all its bits are set, or none.
+abbrev pub fullByte : Bool → ℕ
+fullByte b = cond b 255 0
+
+-- Full bytes at the processes in a mask, empty ones at the others.
+abbrev pub fullBytes : ℕ → List ℕ
+fullBytes mask = listOf 8 (λ p. fullByte (bit mask p))
+
+-- ---- To test a frontier's counts by
+
+-- The lowest and the highest count of a process at which an event with count n there may be taken; the lowest is above the highest where
+-- no count will do. (A count has four bytes.)
+abbrev pub lowest : Bool → ℕ → ℕ
+lowest b n = cond b (cond (eqb n 0) 1 (n - 1)) n
+
+abbrev pub highest : Bool → ℕ → ℕ
+highest b n = cond b (n - 1) 4294967295
+
+-- Those of each process.
+abbrev pub lowCounts : Event → List ℕ
+lowCounts e = listOf 8 (λ p. lowest (involved e p) (count e p))
+
+abbrev pub highCounts : Event → List ℕ
+highCounts e = listOf 8 (λ p. highest (involved e p) (count e p))
+
+-- Which of the eight are among the k processes, and open.
+abbrev pub openOnes : ℕ → ℕ → List Bool
+openOnes k closed = listOf 8 (λ p. ltb p k && not (bit closed p))

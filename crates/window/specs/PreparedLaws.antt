@@ -1,0 +1,103 @@
+-- What is made once says what it is made of.
+use Prim.Native.Nat.{ℕ, zero, suc, _+_, _-_, _≤_, _<_}
+use native.Mathlib.Omega.{arith}
+use native.Mathlib.Numerals.{add-one}
+use native.Mathlib.Nat.{mod-eq-of-lt}
+use mathlib.Core.Path.{_≡_, sym, ap, subst, _∙_}
+use mathlib.Core.Bool.{Bool, true, false, cond, not, _&&_, _||_}
+use mathlib.Core.List.{List}
+use lib.Dec.{T, eqb, leb, ltb, eqb·suc-zero, eqb→eq, leb→le, le→leb, ltb→lt, lt→ltb}
+use lib.ListN.{getD}
+use lib.Bits.{bitAnd, bitOr, bitXor, and-mask, and-zero-r, or-zero-r}
+use borrow.Author.Tests.{eq-eqb}
+use Rattle.codec.specs.Bit.{bit}
+use Rattle.clocks.specs.declared.Event.{Event}
+use Rattle.clocks.specs.Event.{involved, count}
+use Rattle.clocks.specs.EventLaws.{true-T}
+use Rattle.clocks.specs.Counts.{at}
+use Rattle.clocks.specs.CountsLaws.{getD-listOf}
+use Rattle.clocks.specs.Bounded.{allBelow, anyBelow}
+use Rattle.clocks.specs.BoundedLaws.{and-i, and-l, and-r, same-test, any-i, any-e}
+use Rattle.clocks.specs.Tested.{readyAt}
+use Rattle.window.specs.StepCode.{completeAt, complete}
+use Rattle.window.specs.Prepared.{fullByte, fullBytes, lowest, highest, lowCounts, highCounts, openOnes}
+
+-- ---- Choosing by a full or an empty byte
+and-full : (a : ℕ) → a < 256 → bitAnd a 255 ≡ a
+and-full a h = and-mask a 8 ∙ mod-eq-of-lt h
+
+pub chosen-byte : (first : Bool) (a b : ℕ) → a < 256 → b < 256 → bitOr (bitAnd a (fullByte first)) (bitAnd b (bitXor 255 (fullByte first))) ≡ cond first a b
+chosen-byte true a b h l = rw (and-full a h, and-zero-r, or-zero-r)
+chosen-byte false a b h l = rw (and-zero-r, and-full b l)
+
+pub fullBytes-at : (mask : ℕ) (full : List ℕ) (p : ℕ) → full ≡ fullBytes mask → p < 8 → getD full p 0 ≡ fullByte (bit mask p)
+fullBytes-at mask full p e l = ap (λ (bs : List ℕ). getD bs p 0) e ∙ getD-listOf 8 (λ q. fullByte (bit mask q)) p 0 l
+
+-- ---- Counts within an event's bounds
+pub between-ready : (b : Bool) (n c : ℕ) → c < 4294967296 → (leb (lowest b n) c && leb c (highest b n)) ≡ readyAt b n c
+between-ready false n c h =
+    same-test _ _ (and-l (leb n c) (leb c 4294967295)) (λ t. and-i (leb n c) (leb c 4294967295) t (le→leb c 4294967295 (omega arith)))
+between-ready true zero c h =
+    same-test _ _
+    (λ t. absurd (omega (arith, leb→le 1 c (and-l (leb 1 c) (leb c 0) t), leb→le c 0 (and-r (leb 1 c) (leb c 0) t))))
+    (λ t. absurd (omega (arith, eqb→eq 0 (c + 1) t)))
+between-ready true (suc n) c h =
+    let less : suc n - 1 ≡ n = omega arith in
+    rw (eqb·suc-zero n, less)
+    (same-test (leb n c && leb c n) (eqb (suc n) (c + 1))
+    (λ t. true-T (eq-eqb (suc n) (c + 1) (omega (arith, leb→le n c (and-l (leb n c) (leb c n) t), leb→le c n (and-r (leb n c) (leb c n) t)))))
+    (λ t. and-i (leb n c) (leb c n) (le→leb n c (omega (arith, eqb→eq (suc n) (c + 1) t))) (le→leb c n (omega (arith, eqb→eq (suc n) (c + 1) t)))))
+
+pub lowCounts-at : (e : Event) (low : List ℕ) (p : ℕ) → low ≡ lowCounts e → p < 8 → getD low p 0 ≡ lowest (involved e p) (count e p)
+lowCounts-at e low p h l = ap (λ (cs : List ℕ). getD cs p 0) h ∙ getD-listOf 8 (λ q. lowest (involved e q) (count e q)) p 0 l
+
+pub highCounts-at : (e : Event) (high : List ℕ) (p : ℕ) → high ≡ highCounts e → p < 8 → getD high p 0 ≡ highest (involved e p) (count e p)
+highCounts-at e high p h l = ap (λ (cs : List ℕ). getD cs p 0) h ∙ getD-listOf 8 (λ q. highest (involved e q) (count e q)) p 0 l
+
+-- ---- The tests of a loop that looks at every process
+pub all-more : (i : ℕ) (t : ℕ → Bool) → (t i && allBelow i t) ≡ allBelow (i + 1) t
+unfolding allBelow
+all-more i t = rw add-one
+
+pub any-more : (i : ℕ) (t : ℕ → Bool) → (t i || anyBelow i t) ≡ anyBelow (i + 1) t
+unfolding anyBelow
+any-more i t = rw add-one
+
+-- ---- Complete at an open process
+-- What a list of the open ones says of process p.
+abbrev pub completeIn : List Bool → List ℕ → List ℕ → ℕ → Bool
+completeIn opens reached counts p = getD opens p false && eqb (at counts p) (at reached p)
+
+openOnes-at : (k closed : ℕ) (opens : List Bool) (p : ℕ) → opens ≡ openOnes k closed → p < 8 → getD opens p false ≡ (ltb p k && not (bit closed p))
+openOnes-at k closed opens p e l = ap (λ (bs : List Bool). getD bs p false) e ∙ getD-listOf 8 (λ q. ltb q k && not (bit closed q)) p false l
+
+pub complete-open : (k closed : ℕ) (opens : List Bool) (reached counts : List ℕ) → k ≤ 8 → opens ≡ openOnes k closed
+    → anyBelow 8 (completeIn opens reached counts) ≡ complete k closed reached counts
+complete-open k closed opens reached counts h e =
+    same-test _ _ (λ t. fewer (any-e 8 (completeIn opens reached counts) t)) (λ t. more (any-e k (completeAt closed reached counts) t))
+  where
+    there : (p : ℕ) → p < 8 → T (completeIn opens reached counts p) → T ((ltb p k && not (bit closed p)) && eqb (at counts p) (at reached p))
+    there p l = subst (λ (b : Bool). T (b && eqb (at counts p) (at reached p))) (openOnes-at k closed opens p e l)
+
+    back : (p : ℕ) → p < 8 → T ((ltb p k && not (bit closed p)) && eqb (at counts p) (at reached p)) → T (completeIn opens reached counts p)
+    back p l = subst (λ (b : Bool). T (b && eqb (at counts p) (at reached p))) (sym (openOnes-at k closed opens p e l))
+
+    fewer : (p : ℕ) × (p < 8) × T (completeIn opens reached counts p) → T (complete k closed reached counts)
+    fewer w =
+        let p = w .0 in
+        let same = eqb (at counts p) (at reached p) in
+        let t = there p (w .1) (w .2) in
+        let o = and-l (ltb p k && not (bit closed p)) same t in
+        any-i k (completeAt closed reached counts) p (ltb→lt p k (and-l (ltb p k) (not (bit closed p)) o))
+        (and-i (not (bit closed p)) same (and-r (ltb p k) (not (bit closed p)) o) (and-r (ltb p k && not (bit closed p)) same t))
+
+    more : (p : ℕ) × (p < k) × T (completeAt closed reached counts p) → T (anyBelow 8 (completeIn opens reached counts))
+    more w =
+        let p = w .0 in
+        let same = eqb (at counts p) (at reached p) in
+        let l : p < 8 = omega (arith, w .1) in
+        any-i 8 (completeIn opens reached counts) p l
+        (back p l
+        (and-i (ltb p k && not (bit closed p)) same
+        (and-i (ltb p k) (not (bit closed p)) (lt→ltb p k (w .1)) (and-l (not (bit closed p)) same (w .2)))
+        (and-r (not (bit closed p)) same (w .2))))

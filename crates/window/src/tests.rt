@@ -1,0 +1,135 @@
+// Tests of a frontier's counts without a branch for each process, by what a counting pass makes once.
+
+use clocks::Event;
+ghost use Prim.Native.Nat.{ℕ, _≤_};
+ghost use mathlib.Core.Path.{_≡_};
+ghost use mathlib.Core.Bool.{Bool, not, _&&_};
+ghost use lib.Dec.{eqb, ltb};
+ghost use Rattle.clocks.specs.Counts.{at};
+ghost use Rattle.clocks.specs.Tested.{readyAt, ready};
+ghost use Rattle.clocks.specs.declared.Event as event;
+ghost use Rattle.window.specs.StepCode.{complete, staysWith};
+ghost use Rattle.window.specs.Prepared.{lowest, highest, lowCounts, highCounts, openOnes};
+
+// The lowest count of a process at which the event may be taken; n is the event's count there.
+fn lowest_count(involved: bool, n: u32) -> u32
+    ensures { λ r. ⌜ r ≡ lowest involved n ⌝ }
+{
+    if involved {
+        if n == 0 { 1 } else { n - 1 }
+    } else {
+        n
+    }
+}
+
+// The highest one.
+fn highest_count(involved: bool, n: u32) -> u32
+    ensures { λ r. ⌜ r ≡ highest involved n ⌝ }
+{
+    if involved {
+        if n == 0 { 0 } else { n - 1 }
+    } else {
+        4294967295
+    }
+}
+
+// The lowest counts at which the event is enabled.
+pub fn low_counts(e: Event) -> [u32; 8]
+    ensures { λ r. ⌜ r ≡ lowCounts e ⌝ }
+{
+    let mask = e.mask as u64;
+    let mut out = [0u32; 8];
+    let mut p: u32 = 0;
+    while p < 8 {
+        let i = p as usize;
+        out[i] = lowest_count(codec::has_bit(mask, p), e.clock[i]);
+        p = p + 1;
+    }
+    out
+}
+
+// The highest ones.
+pub fn high_counts(e: Event) -> [u32; 8]
+    ensures { λ r. ⌜ r ≡ highCounts e ⌝ }
+{
+    let mask = e.mask as u64;
+    let mut out = [0u32; 8];
+    let mut p: u32 = 0;
+    while p < 8 {
+        let i = p as usize;
+        out[i] = highest_count(codec::has_bit(mask, p), e.clock[i]);
+        p = p + 1;
+    }
+    out
+}
+
+// Whether the event may be taken at a count of a process, by the lowest and the highest.
+fn between(low: u32, high: u32, c: u32) -> bool
+    ensures { λ r. ⌜ ((involved : Bool) (n : ℕ) → low ≡ lowest involved n → high ≡ highest involved n → r ≡ readyAt involved n c) ⌝ }
+{
+    (low <= c) & (c <= high)
+}
+
+// Whether the event is enabled at the counts, by its lowest and its highest.
+pub fn within(low: [u32; 8], high: [u32; 8], counts: [u32; 8]) -> bool
+    ensures { λ r. ⌜ ((e : event.Event) → low ≡ lowCounts e → high ≡ highCounts e → r ≡ ready 8 e (at counts)) ⌝ }
+{
+    let mut all = true;
+    let mut p = 0;
+    while p < 8 {
+        all = between(low[p], high[p], counts[p]) & all;
+        p = p + 1;
+    }
+    all
+}
+
+// Whether process p is one of k, and open.
+fn is_open(p: u32, k: u32, closed: bool) -> bool
+    ensures { λ r. ⌜ r ≡ (ltb p k && not closed) ⌝ }
+{
+    (p < k) & !closed
+}
+
+// The open ones of k processes.
+pub fn open_ones(k: u32, closed: u64) -> [bool; 8]
+    ensures { λ r. ⌜ r ≡ openOnes k closed ⌝ }
+{
+    let mut out = [false; 8];
+    let mut p: u32 = 0;
+    while p < 8 {
+        let i = p as usize;
+        out[i] = is_open(p, k, codec::has_bit(closed, p));
+        p = p + 1;
+    }
+    out
+}
+
+// Whether an open process has all its taken events.
+fn complete_there(opened: bool, count: u32, taken: u32) -> bool
+    ensures { λ r. ⌜ r ≡ (opened && eqb count taken) ⌝ }
+{
+    opened & (count == taken)
+}
+
+// Whether some open process has all its taken events in the counts.
+fn some_complete(opens: [bool; 8], reached: [u32; 8], counts: [u32; 8]) -> bool
+    ensures { λ r. ⌜ ((k closed : ℕ) → k ≤ 8 → opens ≡ openOnes k closed → r ≡ complete k closed reached counts) ⌝ }
+{
+    let mut some = false;
+    let mut p = 0;
+    while p < 8 {
+        some = complete_there(opens[p], counts[p], reached[p]) | some;
+        p = p + 1;
+    }
+    some
+}
+
+// Whether a frontier with these counts stays.
+pub fn stays(opens: [bool; 8], reached: [u32; 8], counts: [u32; 8]) -> bool
+    ensures { λ r. ⌜ ((k closed : ℕ) → k ≤ 8 → opens ≡ openOnes k closed → r ≡ staysWith k closed reached counts) ⌝ }
+{
+    if some_complete(opens, reached, counts) {
+        return true;
+    }
+    frontiers::order::counts_same(counts, reached)
+}
