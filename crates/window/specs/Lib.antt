@@ -12,3 +12,4 @@ pub mod GatherLaws
 pub mod ShapeLaws
 pub mod Laying
 pub mod LayingLaws
+pub mod Marks
