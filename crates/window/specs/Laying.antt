@@ -13,12 +13,8 @@ use Rattle.frontiers.specs.declared.Frontier.{Frontier}
 use Rattle.frontiers.specs.Order.{before}
 use Rattle.frontiers.specs.Bytes.{frontierAt, frontiers}
 use Rattle.window.specs.Step.{Setting, Slot, staying, fresh, slotCounts, merge, advanced, stays, enabledAt, filtered, lay, stepped}
-use Rattle.window.specs.StepCode.{staysWith}
 
--- A frontier stays, by its counts; and the event is enabled there.
-abbrev pub keeps : ℕ → ℕ → List ℕ → Frontier → Bool
-keeps k closed reached f = staysWith k closed reached (f .counts)
-
+-- The event is enabled at a frontier, by its counts.
 abbrev pub takes : Event → Frontier → Bool
 takes e f = ready 8 e (at (f .counts))
 

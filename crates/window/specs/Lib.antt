@@ -14,3 +14,4 @@ pub mod GatherLaws
 pub mod ShapeLaws
 pub mod Laying
 pub mod LayingLaws
+pub mod Marks

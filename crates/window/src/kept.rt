@@ -11,7 +11,8 @@ ghost use Rattle.clocks.specs.Event.{one};
 ghost use Rattle.frontiers.specs.Width.{Width};
 ghost use Rattle.frontiers.specs.Bytes.{frontierLength, frontierAt, frontiers};
 ghost use Rattle.window.specs.Step.{keptAfter};
-ghost use Rattle.window.specs.StepCode.{settingWith, complete, staysWith, keptOf};
+ghost use Rattle.window.specs.StepCode.{settingWith, complete, staysWith};
+ghost use Rattle.window.specs.Marks.{Marked};
 
 // Whether an open process has all its taken events.
 fn complete_at(closed: bool, count: u32, taken: u32) -> bool
@@ -54,16 +55,6 @@ fn one_if(t: bool) -> usize
     if t { 1 } else { 0 }
 }
 
-// How many frontiers come of one with these counts.
-fn kept_of(k: u32, closed: u64, e: Event, reached: [u32; 8], counts: [u32; 8]) -> usize
-    requires { ⌜ k ≤ 8 ⌝ }
-    ensures { λ r. ⌜ (r ≡ keptOf k closed e reached counts) × (r ≤ 2) ⌝ }
-{
-    let here = one_if(stays(k, closed, reached, counts));
-    let there = one_if(clocks::step::ready(e, counts));
-    here + there
-}
-
 // The counts of frontier number i.
 pub fn counts_at(window: &[u8], w: usize, i: usize) -> [u32; 8]
     requires { ⌜ Width w ⌝ }
@@ -75,9 +66,10 @@ pub fn counts_at(window: &[u8], w: usize, i: usize) -> [u32; 8]
     frontiers::counts::read_counts(window, place, w)
 }
 
-// How many frontiers there are after the event.
+// How many frontiers there are after the event; each frontier's mark says what comes of it.
 pub fn count_after(
     window: &[u8],
+    marks: &mut [u8],
     w: usize,
     n: usize,
     k: u32,
@@ -89,14 +81,19 @@ pub fn count_after(
     requires { ⌜ n ≤ 1024 ⌝ }
     requires { ⌜ n * frontierLength w ≤ length (now window) ⌝ }
     requires { ⌜ k ≤ 8 ⌝ }
+    requires { ⌜ n ≤ length (now marks) ⌝ }
     ensures { λ r. ⌜ ((table : List ℕ) (lines : ℕ) → r ≡ keptAfter (settingWith k closed table lines e reached) (frontiers w (now (window .entry)) n)) ⌝ }
     ensures { λ r. ⌜ r ≤ 2048 ⌝ }
+    ensures { λ r. ⌜ ((table : List ℕ) (lines : ℕ) → Marked (settingWith k closed table lines e reached) w (now (window .entry)) n (now (marks .exit))) ⌝ }
 {
     let mut total = 0;
     let mut i = 0;
     while i < n {
         let counts = counts_at(window, w, i);
-        total = total + kept_of(k, closed, e, reached, counts);
+        let here = one_if(stays(k, closed, reached, counts));
+        let there = one_if(clocks::step::ready(e, counts));
+        marks[i] = (here + 2 * there) as u8;
+        total = total + here + there;
         i = i + 1;
     }
     total

@@ -1,37 +1,28 @@
 // The merge of the frontiers that stay and the new ones, in one pass over the window.
 
 use clocks::Event;
-ghost use Prim.Native.Nat.{_+_, _*_, _≤_, _<_};
+ghost use Prim.Native.Nat.{ℕ, _+_, _*_, _≤_, _<_};
 ghost use mathlib.Core.Path.{_≡_};
 ghost use mathlib.Core.Bool.{true};
+ghost use mathlib.Core.List.{List};
 ghost use lib.ListN.{length};
 ghost use Rattle.frontiers.specs.Width.{Width};
 ghost use Rattle.frontiers.specs.Bytes.{frontierLength, frontierAt, frontiers};
-ghost use Rattle.window.specs.Step.{keptAfter, stepped};
+ghost use Rattle.window.specs.Step.{Setting, stays, enabledAt, keptAfter, stepped};
 ghost use Rattle.window.specs.StepCode.{Fitting, settingWith};
-ghost use Rattle.window.specs.Laying.{keeps, takes, restOf, freshAt};
+ghost use Rattle.window.specs.Laying.{takes, restOf, freshAt};
+ghost use Rattle.window.specs.Marks.{Marked};
 
-// The first frontier from number i on that stays; n for none.
-pub fn next_staying(
-    window: &[u8],
-    w: usize,
-    n: usize,
-    i: usize,
-    k: u32,
-    closed: u64,
-    reached: [u32; 8],
-) -> usize
-    requires { ⌜ Width w ⌝ }
-    requires { ⌜ (n ≤ 1024) × (n * frontierLength w ≤ length (now window)) ⌝ }
-    requires { ⌜ (i ≤ n) × (k ≤ 8) ⌝ }
+// The first frontier from number i on that stays, by the marks; n for none.
+pub fn next_staying(marks: &[u8], n: usize, i: usize) -> usize
+    requires { ⌜ (n ≤ length (now marks)) × (i ≤ n) ⌝ }
     ensures { λ r. ⌜ r ≤ n ⌝ }
-    ensures { λ r. ⌜ restOf (keeps k closed reached) w (now (window .entry)) n i ≡ restOf (keeps k closed reached) w (now (window .entry)) n r ⌝ }
-    ensures { λ r. ⌜ (r < n → keeps k closed reached (frontierAt w (now (window .entry)) r) ≡ true) ⌝ }
+    ensures { λ r. ⌜ ((s : Setting) (w : ℕ) (window : List ℕ) → Marked s w window n (now (marks .entry)) → restOf (stays s) w window n i ≡ restOf (stays s) w window n r) ⌝ }
+    ensures { λ r. ⌜ ((s : Setting) (w : ℕ) (window : List ℕ) → Marked s w window n (now (marks .entry)) → r < n → stays s (frontierAt w window r) ≡ true) ⌝ }
 {
     let mut next = i;
     while next < n {
-        let counts = crate::kept::counts_at(window, w, next);
-        if crate::kept::stays(k, closed, reached, counts) {
+        if marks[next] % 2 == 1 {
             return next;
         }
         next = next + 1;
@@ -39,19 +30,16 @@ pub fn next_staying(
     n
 }
 
-// The first frontier from number j on at which the event is enabled; n for none.
-pub fn next_enabled(window: &[u8], w: usize, n: usize, j: usize, e: Event) -> usize
-    requires { ⌜ Width w ⌝ }
-    requires { ⌜ (n ≤ 1024) × (n * frontierLength w ≤ length (now window)) ⌝ }
-    requires { ⌜ j ≤ n ⌝ }
+// The first frontier from number j on at which the event is enabled, by the marks; n for none.
+pub fn next_enabled(marks: &[u8], n: usize, j: usize) -> usize
+    requires { ⌜ (n ≤ length (now marks)) × (j ≤ n) ⌝ }
     ensures { λ r. ⌜ r ≤ n ⌝ }
-    ensures { λ r. ⌜ restOf (takes e) w (now (window .entry)) n j ≡ restOf (takes e) w (now (window .entry)) n r ⌝ }
-    ensures { λ r. ⌜ (r < n → takes e (frontierAt w (now (window .entry)) r) ≡ true) ⌝ }
+    ensures { λ r. ⌜ ((s : Setting) (w : ℕ) (window : List ℕ) → Marked s w window n (now (marks .entry)) → restOf (enabledAt s) w window n j ≡ restOf (enabledAt s) w window n r) ⌝ }
+    ensures { λ r. ⌜ ((s : Setting) (w : ℕ) (window : List ℕ) → Marked s w window n (now (marks .entry)) → r < n → enabledAt s (frontierAt w window r) ≡ true) ⌝ }
 {
     let mut next = j;
     while next < n {
-        let counts = crate::kept::counts_at(window, w, next);
-        if clocks::step::ready(e, counts) {
+        if 2 <= marks[next] {
             return next;
         }
         next = next + 1;
@@ -78,9 +66,10 @@ pub fn fresh_first(window: &[u8], w: usize, n: usize, i: usize, j: usize, e: Eve
     frontiers::order::counts_before(there, here)
 }
 
-// Lays down in the scratch all frontiers that there are after the event.
+// Lays down in the scratch all frontiers that there are after the event, by the marks; k, closed and reached only say what was marked.
 pub fn lay_all(
     window: &[u8],
+    marks: &[u8],
     scratch: &mut [u8],
     w: usize,
     n: usize,
@@ -99,13 +88,15 @@ pub fn lay_all(
     requires { ⌜ (lines ≤ 64) × (3 * lines ≤ length (now table)) ⌝ }
     requires { ⌜ k ≤ 8 ⌝ }
     requires { ⌜ kept ≡ keptAfter (settingWith k closed (now table) lines e reached) (frontiers w (now window) n) ⌝ }
+    requires { ⌜ n ≤ length (now marks) ⌝ }
+    requires { ⌜ Marked (settingWith k closed (now table) lines e reached) w (now window) n (now marks) ⌝ }
     ensures { λ r. ⌜ frontiers w (now (scratch .exit)) kept ≡ stepped (settingWith k closed (now (table .entry)) lines e reached) (frontiers w (now (window .entry)) n) ⌝ }
 {
     let mask = e.mask;
     let full = crate::advance::full_bytes(mask);
     let mut hints = [0usize; 8];
-    let mut i = next_staying(window, w, n, 0, k, closed, reached);
-    let mut j = next_enabled(window, w, n, 0, e);
+    let mut i = next_staying(marks, n, 0);
+    let mut j = next_enabled(marks, n, 0);
     let mut m = 0;
     while m < kept {
         if fresh_first(window, w, n, i, j, e) {
@@ -122,11 +113,11 @@ pub fn lay_all(
                 hints,
             );
             hints = ended;
-            j = next_enabled(window, w, n, j + 1, e);
+            j = next_enabled(marks, n, j + 1);
             m = m + 1;
         } else {
             crate::lay::lay_staying(window, scratch, w, i, m);
-            i = next_staying(window, w, n, i + 1, k, closed, reached);
+            i = next_staying(marks, n, i + 1);
             m = m + 1;
         }
     }

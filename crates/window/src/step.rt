@@ -8,6 +8,7 @@ ghost use Rattle.frontiers.specs.Width.{Width};
 ghost use Rattle.frontiers.specs.Bytes.{frontierLength, frontiers, replaced};
 ghost use Rattle.window.specs.Step.{keptAfter, stepped};
 ghost use Rattle.window.specs.StepCode.{Fitting, settingWith};
+ghost use Rattle.window.specs.Marks.{Marked};
 
 // Makes every byte 0.
 pub fn clear(s: &mut [u8])
@@ -51,6 +52,7 @@ pub fn copy_back(window: &mut [u8], scratch: &mut [u8], w: usize, n: usize, m: u
 // The window after the event, of so many frontiers as are kept; the scratch is cleared.
 pub fn step(
     window: &mut [u8],
+    marks: &[u8],
     scratch: &mut [u8],
     w: usize,
     n: usize,
@@ -70,12 +72,15 @@ pub fn step(
     requires { ⌜ (lines ≤ 64) × (3 * lines ≤ length (now table)) ⌝ }
     requires { ⌜ k ≤ 8 ⌝ }
     requires { ⌜ kept ≡ keptAfter (settingWith k closed (now table) lines e reached) (frontiers w (now window) n) ⌝ }
+    requires { ⌜ n ≤ length (now marks) ⌝ }
+    requires { ⌜ Marked (settingWith k closed (now table) lines e reached) w (now window) n (now marks) ⌝ }
     ensures { λ r. ⌜ now (window .exit) ≡ replaced w (now (window .entry)) n (stepped (settingWith k closed (now (table .entry)) lines e reached) (frontiers w (now (window .entry)) n)) ⌝ }
     ensures { λ r. ⌜ now (scratch .exit) ≡ replicate (length (now (scratch .entry))) 0 ⌝ }
     ensures { λ r. ⌜ frontiers w (now (window .exit)) kept ≡ stepped (settingWith k closed (now (table .entry)) lines e reached) (frontiers w (now (window .entry)) n) ⌝ }
 {
     crate::merge::lay_all(
         window,
+        marks,
         scratch,
         w,
         n,

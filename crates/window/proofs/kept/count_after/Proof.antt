@@ -1,39 +1,76 @@
--- Each turn adds what comes of one more frontier: the law `keptAfter-more`.
+-- Each turn adds what comes of one more frontier, and marks it: the laws `keptAfter-more` and `marked-more`.
 use native.Mathlib.Omega.{arith}
-use mathlib.Core.Path.{_≡_, sym, ap, _∙_}
+use mathlib.Core.Path.{_≡_, refl, sym}
 use Prim.Native.Nat.{ℕ, _≤_, _-_, _*_}
 use mathlib.Core.List.{List}
+use lib.ListN.{length}
 use borrow.Author.Needs.{needs}
 use Rattle.window.proofs.kept.count_after.Statement.{statement}
 use Rattle.window.proofs.kept.count_after.Tie as tie
 use denote.Ref.{now}
+use Rattle.clocks.specs.Event.{one}
+use Rattle.clocks.specs.Counts.{at}
+use Rattle.clocks.specs.Tested.{ready}
 use Rattle.frontiers.specs.WindowLaws.{place-within}
 use Rattle.frontiers.specs.Bytes.{frontiers, frontierAt}
-use Rattle.window.specs.Step.{keptAfter}
-use Rattle.window.specs.StepCode.{settingWith, keptOf}
+use Rattle.window.specs.Step.{stays, enabledAt, keptAfter}
+use Rattle.window.specs.StepCode.{settingWith, staysWith}
 use Rattle.window.specs.StepCodeLaws.{keptAfter-none, keptAfter-more}
+use Rattle.window.specs.Marks.{Marked, marked-none, marked-more}
 
 abbrev Inv-loop : tie.InvT-loop
-Inv-loop window w n k closed e reached total₀ i₀ total i = (i ≤ n) × (total ≤ 2 * i) × ((table : List ℕ) (lines : ℕ) → total ≡ keptAfter (settingWith k closed table lines e reached) (frontiers w window i))
+Inv-loop window marks₀ w n k closed e reached total₀ i₀ marks total i =
+    (i ≤ n) × (total ≤ 2 * i) × (length marks ≡ length marks₀)
+    × ((table : List ℕ) (lines : ℕ) → total ≡ keptAfter (settingWith k closed table lines e reached) (frontiers w window i))
+    × ((table : List ℕ) (lines : ℕ) → Marked (settingWith k closed table lines e reached) w window i marks)
 
 abbrev μ-loop : tie.MeasureT-loop
-μ-loop window w n k closed e reached total₀ i₀ total i = n - i
+μ-loop window marks₀ w n k closed e reached total₀ i₀ marks total i = n - i
 
 loop-holds : tie.Need-loop-holds Inv-loop μ-loop
 loop-holds c =
-    let a = c .before .args in
-    (search needs, search needs, λ table lines. sym (keptAfter-none (settingWith (a .k) (a .closed) table lines (a .e) (a .reached)) (a .w) (now (a .window))))
+    let a = c .before .before .args in (
+      search needs,
+      search needs,
+      refl,
+      λ table lines. sym (keptAfter-none (settingWith (a .k) (a .closed) table lines (a .e) (a .reached)) (a .w) (now (a .window))),
+      λ table lines. marked-none (settingWith (a .k) (a .closed) table lines (a .e) (a .reached)) (a .w) (now (a .window)) (now (a .marks)),
+    )
 
 counts-at-requires : tie.Need-counts-at-requires Inv-loop μ-loop
 counts-at-requires c κs =
-    let a = c .before .before .before .args in
+    let a = c .before .before .before .before .args in
     (search needs, (search needs, omega (arith, place-within (c .before .loop .i) (a .n) (a .w) (search needs))))
 
-kept-of-requires : tie.Need-kept-of-requires Inv-loop μ-loop
-kept-of-requires c κs = search needs
+stays-requires : tie.Need-stays-requires Inv-loop μ-loop
+stays-requires c κs = search needs
+
+one-if-requires : tie.Need-one-if-requires Inv-loop μ-loop
+one-if-requires c κs = search needs
+
+ready-requires : tie.Need-ready-requires Inv-loop μ-loop
+ready-requires c κs = search needs
+
+one-if-requires-2 : tie.Need-one-if-requires-2 Inv-loop μ-loop
+one-if-requires-2 c κs = search needs
+
+mul-marks : tie.Need-mul-marks Inv-loop μ-loop
+mul-marks c = search needs
+
+add-marks : tie.Need-add-marks Inv-loop μ-loop
+add-marks c = search needs
+
+cast-marks : tie.Need-cast-marks Inv-loop μ-loop
+cast-marks c = search needs
+
+slice-write-marks : tie.Need-slice-write-marks Inv-loop μ-loop
+slice-write-marks c = search needs
 
 add-total : tie.Need-add-total Inv-loop μ-loop
 add-total c = search needs
+
+add-total-2 : tie.Need-add-total-2 Inv-loop μ-loop
+add-total-2 c = search needs
 
 add-i : tie.Need-add-i Inv-loop μ-loop
 add-i c = search needs
@@ -42,17 +79,29 @@ loop-less : tie.Need-loop-less Inv-loop μ-loop
 loop-less c = search needs
 
 loop-again : tie.Need-loop-again Inv-loop μ-loop
+unfolding stays enabledAt
 loop-again c =
-    let a = c .before .before .before .before .before .args in
-    let l = c .before .before .before .loop in
-    let e : c .kept-of .result ≡ keptOf (a .k) (a .closed) (a .e) (a .reached) (frontierAt (a .w) (now (a .window)) (l .i) .counts) =
-    c .kept-of .ensures .0 ∙ ap (keptOf (a .k) (a .closed) (a .e) (a .reached)) (c .before .counts-at .ensures) in
-    (search needs, search needs, λ table lines. rw (e, l .inv .2 table lines) (sym (keptAfter-more (a .k) (a .closed) table lines (a .e) (a .reached) (a .w) (now (a .window)) (l .i))))
+    let a = c .before .before .before .before .before .before .before .before .before .args in
+    let l = c .before .before .before .before .before .before .loop in
+    let f = frontierAt (a .w) (now (a .window)) (l .i) in
+    let here : c .before .before .one-if .result ≡ one (staysWith (a .k) (a .closed) (a .reached) (f .counts)) =
+    rw (c .before .before .one-if .ensures .0, c .before .before .before .stays .ensures, c .before .before .before .before .counts-at .ensures) in
+    let there : c .one-if2 .result ≡ one (ready 8 (a .e) (at (f .counts))) =
+    rw (c .one-if2 .ensures .0, c .before .ready .ensures, c .before .before .before .before .counts-at .ensures) in (
+      search needs,
+      search needs,
+      search needs,
+      λ table lines. rw (here, there, l .inv .3 table lines) (omega (arith, keptAfter-more (a .k) (a .closed) table lines (a .e) (a .reached) (a .w) (now (a .window)) (l .i))),
+      λ table lines. marked-more (settingWith (a .k) (a .closed) table lines (a .e) (a .reached)) (a .w) (now (a .window)) (l .i) (l .marks) _ (omega arith) (rw (here, there)) (l .inv .4 table lines),
+    )
+
+same-length : tie.Need-same-length Inv-loop μ-loop
+same-length c = search needs
 
 returns : tie.Need-returns Inv-loop μ-loop
 returns c =
-    let e : c .before .loop .i ≡ c .before .before .before .args .n = omega arith in
-    (λ table lines. rw (← e) (c .before .loop .inv .2 table lines), search needs)
+    let e : c .before .loop .i ≡ c .before .before .before .before .args .n = omega arith in
+    (λ table lines. rw (← e) (c .before .loop .inv .3 table lines), (search needs, λ table lines. rw (← e) (c .before .loop .inv .4 table lines)))
 
 pub count-after-spec : {M : Type 1} → statement M
 count-after-spec =
@@ -62,9 +111,18 @@ count-after-spec =
     μ-loop
     loop-holds
     counts-at-requires
-    kept-of-requires
+    stays-requires
+    one-if-requires
+    ready-requires
+    one-if-requires-2
+    mul-marks
+    add-marks
+    cast-marks
+    slice-write-marks
     add-total
+    add-total-2
     add-i
     loop-less
     loop-again
+    same-length
     returns)

@@ -10,12 +10,12 @@ use Rattle.frontiers.specs.Bytes.{replaced}
 
 lay-all-requires : tie.Need-lay-all-requires
 lay-all-requires c κs =
-    let p = c .before .before .before .before .before .pre in
-    (p .0, (p .1 .0, (p .1 .1 .0, (p .1 .1 .1 .0, (p .1 .1 .1 .1 .1 .0, (p .1 .1 .1 .1 .1 .1 .0, p .1 .1 .1 .1 .1 .1 .1))))))
+    let p = c .before .before .before .before .before .before .pre in
+    (p .0, (p .1 .0, (p .1 .1 .0, (p .1 .1 .1 .0, (p .1 .1 .1 .1 .1 .0, (p .1 .1 .1 .1 .1 .1 .0, (p .1 .1 .1 .1 .1 .1 .1 .0, (p .1 .1 .1 .1 .1 .1 .1 .1 .0, p .1 .1 .1 .1 .1 .1 .1 .1 .1))))))))
 
 copy-back-requires : tie.Need-copy-back-requires
 copy-back-requires c κs =
-    let p = c .before .before .before .before .before .before .before .before .before .before .pre in
+    let p = c .before .before .before .before .before .before .before .before .before .before .before .pre in
     (p .0, (p .1 .1 .0, ((p .1 .1 .1 .0 .0, p .1 .1 .1 .1 .0), search needs)))
 
 same-length : tie.Need-same-length
@@ -26,8 +26,8 @@ same-length-2 c = search needs
 
 returns : tie.Need-returns
 returns c =
-    let a = c .before .before .before .before .before .before .before .before .before .before .before .before .before .before .before .args in
-    let long : length (c .before .before .before .before .before .before .before .before .before .lay-all .last .1 .0) ≡ length (now (a .scratch)) = search needs in
+    let a = c .before .before .before .before .before .before .before .before .before .before .before .before .before .before .before .before .args in
+    let long : length (c .before .before .before .before .before .before .before .before .before .lay-all .last .1 .1 .0) ≡ length (now (a .scratch)) = search needs in
     (c .before .before .before .before .copy-back .ensures .0 ∙ ap (replaced (a .w) (now (a .window)) (a .n)) (c .before .before .before .before .before .before .before .before .before .lay-all .ensures), (c .before .before .before .before .copy-back .ensures .1 .0 ∙ ap (λ (n : ℕ). replicate n 0) long, c .before .before .before .before .copy-back .ensures .1 .1 ∙ c .before .before .before .before .before .before .before .before .before .lay-all .ensures))
 
 pub step-spec : {M : Type 1} → statement M
