@@ -28,7 +28,7 @@ unfolding lay
 length-lay s [] laid hints = omega arith
 length-lay s (staying f ∷ rest) laid hints = length-lay s rest (laid ++ (f ∷ [])) hints ∙ (simp length-append (omega arith))
 length-lay s (fresh g ∷ rest) laid hints =
-    let w = gathered s laid hints g (s .stored) in
+    let w = gathered s laid hints g (s .processes) in
     length-lay s rest (laid ++ (judgedBy s g w ∷ [])) (w .hints) ∙ (simp length-append (omega arith))
 
 -- ---- Theorem

@@ -16,7 +16,7 @@ use Rattle.clocks.specs.Counts.{at, listOf}
 use Rattle.clocks.specs.Tested.{ready}
 use Rattle.rules.specs.Judge.{judge}
 use Rattle.frontiers.specs.declared.Frontier.{Frontier}
-use Rattle.frontiers.specs.Seek.{seek, standsAt, keysOf}
+use Rattle.frontiers.specs.Seek.{seek, keysOf}
 use Rattle.frontiers.specs.Order.{before}
 
 -- What a step is taken in: how many processes are stored, how many there are, which are closed, the rule's table, the event, and the
@@ -81,7 +81,7 @@ slots s fs = merge slotCounts (map staying (filtered (stays s) fs)) (map (λ f. 
 
 -- ---- Judging a new frontier
 
--- What is gathered from the cuts that precede: the OR and the AND of their values, and where each process's look-up ended.
+-- What is gathered from the cuts that precede: the OR and the AND of their values, and where each process's next look-up begins.
 pub record Gathered : Type 0 where
   pub ors : ℕ
   pub ands : ℕ
@@ -99,15 +99,12 @@ withoutLast s g p = listOf (s .stored) (minus (getD (g .masks) p 0) (at (g .coun
 abbrev pub valuesAt : List Frontier → ℕ → ℕ
 valuesAt laid i = getD (map (λ f. f .values) laid) i 0
 
--- Process p is considered: looked up from its hint, and counted in where it is found.
+-- Process p is considered: looked up from its hint, and counted in where it is found; its next look-up begins behind that place.
 unfoldable pub consider : Setting → List Frontier → Frontier → ℕ → Gathered → Gathered
 consider s laid g p w =
     let place = seek (keysOf laid) (withoutLast s g p) (getD (w .hints) p 0) in
-    let hints = set (w .hints) p place in
-    cond (sought s g p)
-    (cond (standsAt (keysOf laid) (withoutLast s g p) place)
-    (record { ors = bitOr (w .ors) (valuesAt laid place); ands = bitAnd (w .ands) (valuesAt laid place); hints = hints })
-    (record { ors = w .ors; ands = w .ands; hints = hints }))
+    cond (sought s g p && ltb place (length laid))
+    (record { ors = bitOr (w .ors) (valuesAt laid place); ands = bitAnd (w .ands) (valuesAt laid place); hints = set (w .hints) p (place + 1) })
     w
 
 -- The first n processes are considered; the frontier that g came from precedes it always.
@@ -124,7 +121,7 @@ unfoldable pub lay : Setting → List Frontier → List ℕ → List Slot → Li
 lay s laid hints [] = laid
 lay s laid hints (staying f ∷ rest) = lay s (laid ++ (f ∷ [])) hints rest
 lay s laid hints (fresh g ∷ rest) =
-    let w = gathered s laid hints g (s .stored) in
+    let w = gathered s laid hints g (s .processes) in
     lay s (laid ++ (judgedBy s g w ∷ [])) (w .hints) rest
 
 -- The frontiers after the event.

@@ -59,9 +59,9 @@ gatheredOf r = record { ors = r .ors; ands = r .ands; hints = r .hints }
 
 -- What is gathered for the frontier that the event leads to from f, once the frontiers of a list are laid down.
 abbrev pub gatheredFrom : Setting → List Frontier → List ℕ → Frontier → Gathered
-gatheredFrom s laid hints f = gathered s laid hints (advanced s f) (s .stored)
+gatheredFrom s laid hints f = gathered s laid hints (advanced s f) (s .processes)
 
--- Where its look-ups ended.
+-- Where the next look-ups begin.
 abbrev pub hintsFrom : Setting → List Frontier → List ℕ → Frontier → List ℕ
 hintsFrom s laid hints f = gatheredFrom s laid hints f .hints
 

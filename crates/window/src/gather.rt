@@ -4,11 +4,10 @@ use crate::Found;
 use frontiers::Frontier;
 ghost use Prim.Native.Nat.{_+_, _*_, _≤_, _<_};
 ghost use mathlib.Core.Path.{_≡_};
-ghost use mathlib.Core.Bool.{true};
-ghost use lib.ListN.{length, getD};
+ghost use lib.ListN.{length};
 ghost use Rattle.frontiers.specs.Width.{Width};
 ghost use Rattle.frontiers.specs.Bytes.{frontierLength, frontierAt, frontiers};
-ghost use Rattle.window.specs.Step.{Setting, consider as considered, gathered};
+ghost use Rattle.window.specs.Step.{Setting, gathered};
 ghost use Rattle.window.specs.StepCode.{soughtWith, gatheredOf};
 
 // Whether process p's last event may lead to a new frontier: it is not the event itself, and p is the first of its processes.
@@ -37,65 +36,47 @@ fn values_at(s: &[u8], w: usize, i: usize) -> u64
     frontiers::stored::read_values(s, place, w)
 }
 
-// Process p, which is sought, is considered: looked up from its hint among the m frontiers laid down, and counted in where it is found.
-fn consider(
+// All of the k processes that are sought are considered, each looked up from its hint among the m frontiers laid down; the frontier that
+// g came from precedes it always.
+pub fn gather(
     scratch: &[u8],
     w: usize,
     m: usize,
+    k: u32,
     mask: u8,
     g: Frontier,
-    p: u32,
-    prior: Found,
+    hints: [usize; 8],
 ) -> Found
     requires { ⌜ Width w ⌝ }
     requires { ⌜ m ≤ 1024 ⌝ }
     requires { ⌜ m * frontierLength w ≤ length (now scratch) ⌝ }
-    requires { ⌜ p < 8 ⌝ }
-    requires { ⌜ soughtWith mask (getD (g .masks) p 0) p ≡ true ⌝ }
-    ensures { λ r. ⌜ ((s : Setting) → s .stored ≡ 8 → s .event .mask ≡ mask → gatheredOf r ≡ considered s (frontiers w (now (scratch .entry)) m) g p (gatheredOf prior)) ⌝ }
+    requires { ⌜ k ≤ 8 ⌝ }
+    ensures { λ r. ⌜ ((s : Setting) → s .stored ≡ 8 → s .event .mask ≡ mask → gatheredOf r ≡ gathered s (frontiers w (now (scratch .entry)) m) hints g k) ⌝ }
 {
-    let i = p as usize;
-    let last = g.masks[i];
-    let counts = g.counts;
-    let key = clocks::step::minus(last, counts);
-    let mut hints = prior.hints;
-    let place = frontiers::lookup::seek(scratch, w, m, key, hints[i]);
-    hints[i] = place;
-    let ors = prior.ors;
-    let ands = prior.ands;
-    if !frontiers::lookup::stands_at(scratch, w, m, key, place) {
-        return Found { ors, ands, hints };
-    }
-    let values = values_at(scratch, w, place);
-    Found {
-        ors: codec::or_words(ors, values),
-        ands: codec::and_words(ands, values),
-        hints,
-    }
-}
-
-// All processes that are sought are considered; the frontier that g came from precedes it always.
-pub fn gather(scratch: &[u8], w: usize, m: usize, mask: u8, g: Frontier, hints: [usize; 8]) -> Found
-    requires { ⌜ Width w ⌝ }
-    requires { ⌜ m ≤ 1024 ⌝ }
-    requires { ⌜ m * frontierLength w ≤ length (now scratch) ⌝ }
-    ensures { λ r. ⌜ ((s : Setting) → s .stored ≡ 8 → s .event .mask ≡ mask → gatheredOf r ≡ gathered s (frontiers w (now (scratch .entry)) m) hints g 8) ⌝ }
-{
-    let mut found = Found {
-        ors: g.values,
-        ands: g.values,
-        hints,
-    };
+    let mut ors = g.values;
+    let mut ands = g.values;
+    let mut begins = hints;
     let masks = g.masks;
+    let counts = g.counts;
     let mut p: u32 = 0;
-    while p < 8 {
+    while p < k {
         let i = p as usize;
         let last = masks[i];
         if is_sought(mask, last, p) {
-            let next = consider(scratch, w, m, mask, g, p, found);
-            found = next;
+            let key = clocks::step::minus(last, counts);
+            let place = frontiers::lookup::seek(scratch, w, m, key, begins[i]);
+            if place < m {
+                let values = values_at(scratch, w, place);
+                ors = codec::or_words(ors, values);
+                ands = codec::and_words(ands, values);
+                begins[i] = place + 1;
+            }
         }
         p = p + 1;
     }
-    found
+    Found {
+        ors,
+        ands,
+        hints: begins,
+    }
 }

@@ -36,13 +36,14 @@ pub fn lay_staying(window: &[u8], scratch: &mut [u8], w: usize, i: usize, m: usi
     frontiers::stored::lay_frontier(scratch, w, m, f);
 }
 
-// The event leads on from frontier j of the window: the new frontier is judged and laid down as number m. Gives where the look-ups ended.
+// The event leads on from frontier j of the window: the new frontier is judged and laid down as number m. Gives where the next look-ups begin.
 pub fn lay_fresh(
     window: &[u8],
     scratch: &mut [u8],
     w: usize,
     j: usize,
     m: usize,
+    k: u32,
     full: [u8; 8],
     e: Event,
     table: &[u8],
@@ -54,15 +55,16 @@ pub fn lay_fresh(
     requires { ⌜ (j ≤ 1024) × (j * frontierLength w + frontierLength w ≤ length (now window)) ⌝ }
     requires { ⌜ (m ≤ 1024) × (m * frontierLength w + frontierLength w ≤ length (now scratch)) ⌝ }
     requires { ⌜ (lines ≤ 64) × (3 * lines ≤ length (now table)) ⌝ }
+    requires { ⌜ k ≤ 8 ⌝ }
     requires { ⌜ T (ready 8 e (at (frontierAt w (now window) j .counts))) ⌝ }
     requires { ⌜ full ≡ fullBytes (e .mask) ⌝ }
-    ensures { λ r. ⌜ ((k closed : ℕ) (reached : List ℕ) → r ≡ hintsFrom (settingWith k closed (now (table .entry)) lines e reached) (frontiers w (now (scratch .entry)) m) hints (frontierAt w (now (window .entry)) j)) ⌝ }
-    ensures { λ r. ⌜ ((k closed : ℕ) (reached : List ℕ) → frontiers w (now (scratch .exit)) (m + 1) ≡ frontiers w (now (scratch .entry)) m ++ (freshFrom (settingWith k closed (now (table .entry)) lines e reached) (frontiers w (now (scratch .entry)) m) hints (frontierAt w (now (window .entry)) j) ∷ [])) ⌝ }
+    ensures { λ r. ⌜ ((closed : ℕ) (reached : List ℕ) → r ≡ hintsFrom (settingWith k closed (now (table .entry)) lines e reached) (frontiers w (now (scratch .entry)) m) hints (frontierAt w (now (window .entry)) j)) ⌝ }
+    ensures { λ r. ⌜ ((closed : ℕ) (reached : List ℕ) → frontiers w (now (scratch .exit)) (m + 1) ≡ frontiers w (now (scratch .entry)) m ++ (freshFrom (settingWith k closed (now (table .entry)) lines e reached) (frontiers w (now (scratch .entry)) m) hints (frontierAt w (now (window .entry)) j) ∷ [])) ⌝ }
 {
     let f = frontier_at(window, w, j);
     let g = crate::advance::advanced(e, full, f);
     let mask = e.mask;
-    let found = crate::gather::gather(scratch, w, m, mask, g, hints);
+    let found = crate::gather::gather(scratch, w, m, k, mask, g, hints);
     let ors = found.ors;
     let ands = found.ands;
     let counts = g.counts;

@@ -8,7 +8,7 @@ pub mod merge;
 pub mod step;
 pub mod tests;
 
-// What is gathered from the cuts that precede a new frontier: the OR and the AND of their values, and where each process's look-up ended.
+// What is gathered from the cuts that precede a new frontier: the OR and the AND of their values, and where each process's next look-up begins.
 pub struct Found {
     pub ors: u64,
     pub ands: u64,

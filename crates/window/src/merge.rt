@@ -106,6 +106,7 @@ pub fn lay_all(
                 w,
                 j,
                 m,
+                k,
                 full,
                 e,
                 table,

@@ -25,7 +25,7 @@ advanced-requires : tie.Need-advanced-requires
 advanced-requires c κs =
     let a = c .before .before .before .before .args in
     let p = c .before .before .before .before .pre in
-    (p .1 .1 .1 .1 .1 .1, subst (λ (f : Frontier). T (ready 8 (a .e) (at (f .counts)))) (sym (c .frontier-at .ensures)) (p .1 .1 .1 .1 .1 .0))
+    (p .1 .1 .1 .1 .1 .1 .1, subst (λ (f : Frontier). T (ready 8 (a .e) (at (f .counts)))) (sym (c .frontier-at .ensures)) (p .1 .1 .1 .1 .1 .1 .0))
 
 gather-requires : tie.Need-gather-requires
 gather-requires c κs = search needs
@@ -46,7 +46,7 @@ proper c =
     let f = frontierAt (a .w) (now (a .window)) (a .j) in
     let small : c .judge .result < 256 ^ 8 = search needs in
     subst (λ (g : Frontier). Shaped (a .w) (record { counts = g .counts; labels = g .labels; masks = g .masks; values = c .judge .result })) (sym (leads (c .before .before .before .before .before .before) s refl refl))
-    (shaped-advanced (a .w) s (a .e) f (c .judge .result) refl refl (p .1 .0) (shaped-at (a .w) (now (a .window)) (a .j) (λ i. c .before .before .before .before .before .before .before .before .before .before .shared-slice-known .given i .fits) (p .1 .1 .0 .1)) (p .1 .1 .1 .1 .1 .0) small)
+    (shaped-advanced (a .w) s (a .e) f (c .judge .result) refl refl (p .1 .0) (shaped-at (a .w) (now (a .window)) (a .j) (λ i. c .before .before .before .before .before .before .before .before .before .before .shared-slice-known .given i .fits) (p .1 .1 .0 .1)) (p .1 .1 .1 .1 .1 .1 .0) small)
 
 lay-frontier-requires : tie.Need-lay-frontier-requires
 lay-frontier-requires c κs =
@@ -66,11 +66,11 @@ returns c =
     let f = frontierAt (a .w) (now (a .window)) (a .j) in
     let g = d .before .before .advanced .result in
     let r = d .gather .result in
-    let on : (k closed : ℕ) (reached : List ℕ) → Setting = λ k closed reached. settingWith k closed (now (a .table)) (a .lines) (a .e) reached in (
-      λ k closed reached. hints-are (on k closed reached) laid (a .hints) f g r refl (leads (d .before .before) (on k closed reached) refl refl) (d .gather .ensures (on k closed reached) refl refl),
-      λ k closed reached. ap (λ (bs : List ℕ). frontiers (a .w) bs (a .m + 1)) (c .before .before .before .lay-frontier .ensures)
+    let on : (closed : ℕ) (reached : List ℕ) → Setting = λ closed reached. settingWith (a .k) closed (now (a .table)) (a .lines) (a .e) reached in (
+      λ closed reached. hints-are (on closed reached) laid (a .hints) f g r (leads (d .before .before) (on closed reached) refl refl) (d .gather .ensures (on closed reached) refl refl),
+      λ closed reached. ap (λ (bs : List ℕ). frontiers (a .w) bs (a .m + 1)) (c .before .before .before .lay-frontier .ensures)
           ∙ frontiers-stored (a .w) (now (a .scratch)) (a .m) _ (proper b) (p .1 .1 .1 .0 .1)
-          ∙ ap (λ (x : Frontier). laid ++ (x ∷ [])) (fresh-is (on k closed reached) laid (a .hints) f g r refl (leads (d .before .before) (on k closed reached) refl refl) (d .gather .ensures (on k closed reached) refl refl) (b .judge .result) (b .judge .ensures)),
+          ∙ ap (λ (x : Frontier). laid ++ (x ∷ [])) (fresh-is (on closed reached) laid (a .hints) f g r (leads (d .before .before) (on closed reached) refl refl) (d .gather .ensures (on closed reached) refl refl) (b .judge .result) (b .judge .ensures)),
     )
 
 pub lay-fresh-spec : {M : Type 1} → statement M
