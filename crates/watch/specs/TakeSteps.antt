@@ -17,6 +17,7 @@ use Rattle.clocks.specs.CountsLaws.{length-listOf, at-listOf-all, at-beyond}
 use Rattle.rules.specs.TableBytes.{linesOf}
 use Rattle.window.specs.Step.{fits, keptAfter}
 use Rattle.window.specs.StepCode.{settingWith}
+use Rattle.window.specs.Marks.{Marked}
 use Rattle.codec.specs.BitLaws.{bit-above}
 use Rattle.codec.specs.Little.{number}
 use Rattle.watch.specs.Take.{settingIn, Decision, tried, undecided, false-clock, chosen}
@@ -29,6 +30,10 @@ unfoldable pub choiceFor : ℕ → List ℕ → List Frontier → Decision → C
 choiceFor w s fs (undecided seen) = Undecided seen
 choiceFor w s fs (false-clock i) = Falsified i
 choiceFor w s fs (chosen i) = Chosen i (keptAfter (settingIn w s (pendingAt w s i)) fs)
+
+-- The marks of a window's n frontiers are those of the event that a choice takes.
+abbrev pub MarkedFor : ℕ → List ℕ → List ℕ → ℕ → List ℕ → Choice → Type 0
+MarkedFor w s window n marks c = (i kept : ℕ) → c ≡ Chosen i kept → Marked (settingIn w s (pendingAt w s i)) w window n marks
 
 -- The trial from pending event i on.
 unfoldable pub triedFrom : ℕ → List ℕ → ℕ → List Frontier → ℕ → Bool → Decision

@@ -29,26 +29,29 @@ ghost use Rattle.frontiers.specs.Width.{Width};
 ghost use Rattle.frontiers.specs.Bytes.{frontierLength, frontiers, replaced};
 ghost use Rattle.window.specs.Step.{keptAfter, stepped};
 ghost use Rattle.window.specs.StepCode.{Fitting};
+ghost use Rattle.window.specs.Marks.{Marked};
 ghost use Rattle.records.specs.Record.{recordLength, processCount, lineTotal, pendingCount, keptCount, pendingAt, pendingEvents, removed, counted};
 ghost use Rattle.watch.specs.Answer.{turnedBack, nothingReady, replyWord};
 ghost use Rattle.records.specs.Refusals.{roomOf};
 ghost use Rattle.watch.specs.Take.{settingIn, tried, chosen, decided, takeWithin, takeCall};
 ghost use Rattle.records.specs.Record.{readyIn};
-ghost use Rattle.watch.specs.TakeSteps.{choiceFor};
+ghost use Rattle.watch.specs.TakeSteps.{choiceFor, MarkedFor};
 ghost use Rattle.watch.specs.TakeCallSteps.{takeFault};
 
-// How many frontiers are kept once a ready event is taken.
-pub fn kept_with(s: &[u8], w: usize, window: &[u8], n: usize, e: Event) -> usize
+// How many frontiers are kept once a ready event is taken; the marks say what comes of each.
+pub fn kept_with(s: &[u8], w: usize, window: &[u8], marks: &mut [u8], n: usize, e: Event) -> usize
     requires { ⌜ Width w ⌝ }
     requires { ⌜ length (now s) ≡ recordLength w ⌝ }
     requires { ⌜ processCount (now s) ≤ 8 ⌝ }
     requires { ⌜ (n ≤ 1024) × (n * frontierLength w ≤ length (now window)) ⌝ }
     requires { ⌜ T (readyIn w (now s) e) ⌝ }
+    requires { ⌜ n ≤ length (now marks) ⌝ }
     ensures { λ r. ⌜ r ≡ keptAfter (settingIn w (now (s .entry)) e) (frontiers w (now (window .entry)) n) ⌝ }
+    ensures { λ r. ⌜ Marked (settingIn w (now (s .entry)) e) w (now (window .entry)) n (now (marks .exit)) ⌝ }
 {
     let k = process_count(s);
     let reached = clocks::step::apply(e, taken_counts(s, w));
-    window::kept::count_after(window, w, n, k, 0, e, reached)
+    window::kept::count_after(window, marks, w, n, k, 0, e, reached)
 }
 
 // So many frontiers fit where at most so many are allowed; none at all never fit.
@@ -61,14 +64,23 @@ fn fitting(kept: usize, allowed: usize) -> bool
     kept <= allowed
 }
 
-// The first pending event that has a false clock, or that fits; or none, and whether one was ready.
-pub fn decide(s: &[u8], w: usize, window: &[u8], n: usize, allowed: usize) -> Choice
+// The first pending event that has a false clock, or that fits, with its marks; or none, and whether one was ready.
+pub fn decide(
+    s: &[u8],
+    w: usize,
+    window: &[u8],
+    marks: &mut [u8],
+    n: usize,
+    allowed: usize,
+) -> Choice
     requires { ⌜ Width w ⌝ }
     requires { ⌜ length (now s) ≡ recordLength w ⌝ }
     requires { ⌜ processCount (now s) ≤ 8 ⌝ }
     requires { ⌜ pendingCount (now s) ≤ 32 ⌝ }
     requires { ⌜ (n ≤ 1024) × (n * frontierLength w ≤ length (now window)) ⌝ }
+    requires { ⌜ n ≤ length (now marks) ⌝ }
     ensures { λ r. ⌜ r ≡ choiceFor w (now (s .entry)) (frontiers w (now (window .entry)) n) (tried w (now (s .entry)) allowed (frontiers w (now (window .entry)) n) 0 false (pendingEvents w (now (s .entry)))) ⌝ }
+    ensures { λ r. ⌜ MarkedFor w (now (s .entry)) (now (window .entry)) n (now (marks .exit)) r ⌝ }
 {
     let taken = taken_counts(s, w);
     let last = last_clocks(s, w);
@@ -82,7 +94,7 @@ pub fn decide(s: &[u8], w: usize, window: &[u8], n: usize, allowed: usize) -> Ch
                 choice = Choice::Falsified { place: i };
                 break 'events;
             }
-            let kept = kept_with(s, w, window, n, e);
+            let kept = kept_with(s, w, window, marks, n, e);
             if fitting(kept, allowed) {
                 choice = Choice::Chosen { place: i, kept };
                 break 'events;
@@ -99,6 +111,7 @@ fn step_window(
     s: &[u8],
     w: usize,
     window: &mut [u8],
+    marks: &[u8],
     scratch: &mut [u8],
     n: usize,
     kept: usize,
@@ -113,6 +126,8 @@ fn step_window(
     requires { ⌜ Fitting w e ⌝ }
     requires { ⌜ T (readyIn w (now s) e) ⌝ }
     requires { ⌜ kept ≡ keptAfter (settingIn w (now s) e) (frontiers w (now window) n) ⌝ }
+    requires { ⌜ n ≤ length (now marks) ⌝ }
+    requires { ⌜ Marked (settingIn w (now s) e) w (now window) n (now marks) ⌝ }
     ensures window { λ r. ⌜ now (window .exit) ≡ replaced w (now (window .entry)) n (stepped (settingIn w (now (s .entry)) e) (frontiers w (now (window .entry)) n)) ⌝ }
     ensures scratch { λ r. ⌜ now (scratch .exit) ≡ replicate (length (now (scratch .entry))) 0 ⌝ }
     ensures frontiers { λ r. ⌜ frontiers w (now (window .exit)) kept ≡ stepped (settingIn w (now (s .entry)) e) (frontiers w (now (window .entry)) n) ⌝ }
@@ -123,6 +138,7 @@ fn step_window(
     let place = table_place(w);
     window::step::step(
         window,
+        marks,
         scratch,
         w,
         n,
@@ -165,6 +181,7 @@ fn take_event(
     s: &mut [u8],
     w: usize,
     window: &mut [u8],
+    marks: &[u8],
     scratch: &mut [u8],
     n: usize,
     i: usize,
@@ -179,6 +196,8 @@ fn take_event(
     requires { ⌜ (i < pendingCount (now s)) × (pendingCount (now s) ≤ 32) ⌝ }
     requires { ⌜ T (readyIn w (now s) (pendingAt w (now s) i)) ⌝ }
     requires { ⌜ kept ≡ keptAfter (settingIn w (now s) (pendingAt w (now s) i)) (frontiers w (now window) n) ⌝ }
+    requires { ⌜ n ≤ length (now marks) ⌝ }
+    requires { ⌜ Marked (settingIn w (now s) (pendingAt w (now s) i)) w (now window) n (now marks) ⌝ }
     ensures reply { λ r. ⌜ r ≡ replyWord (decided w (now (s .entry)) (now (window .entry)) (frontiers w (now (window .entry)) n) (chosen i) .answer) ⌝ }
     ensures bytes { λ r. ⌜ now (s .exit) ≡ decided w (now (s .entry)) (now (window .entry)) (frontiers w (now (window .entry)) n) (chosen i) .bytes ⌝ }
     ensures window { λ r. ⌜ now (window .exit) ≡ decided w (now (s .entry)) (now (window .entry)) (frontiers w (now (window .entry)) n) (chosen i) .window ⌝ }
@@ -186,7 +205,7 @@ fn take_event(
 {
     let e = pending_event(s, w, i);
     let lines = line_total(s);
-    step_window(s, w, window, scratch, n, kept, e);
+    step_window(s, w, window, marks, scratch, n, kept, e);
     count_event(s, w, i, e, kept as u32);
     state_word(verdict(window, w, kept, lines), kept as u32)
 }
@@ -219,7 +238,8 @@ pub fn take_within(
     ensures scratch { λ r. ⌜ now (scratch .exit) ≡ takeWithin w allowed (now (s .entry)) (now (window .entry)) .scratch ⌝ }
 {
     let n = kept_count(s) as usize;
-    let choice = decide(s, w, window, n, allowed);
+    let mut marks = [0u8; 1024];
+    let choice = decide(s, w, window, &mut marks, n, allowed);
     match choice {
         Choice::Undecided { seen } => {
             window::step::clear(scratch);
@@ -230,7 +250,7 @@ pub fn take_within(
             window::step::clear(scratch);
             35
         }
-        Choice::Chosen { place, kept } => take_event(s, w, window, scratch, n, place, kept),
+        Choice::Chosen { place, kept } => take_event(s, w, window, &marks, scratch, n, place, kept),
     }
 }
 

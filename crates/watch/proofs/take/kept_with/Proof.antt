@@ -1,4 +1,4 @@
--- The counts that the event leads to are the setting's, and the table does not matter for how many frontiers are kept.
+-- The counts that the event leads to are the setting's, and the table does not matter for how many frontiers are kept, nor for their marks.
 use Rattle.watch.proofs.take.kept_with.Tie as tie
 use native.Mathlib.Omega.{arith}
 use mathlib.Core.Path.{_≡_, sym, ap, _∙_}
@@ -22,18 +22,23 @@ taken-counts-requires c κs = search needs
 
 apply-requires : tie.Need-apply-requires
 unfolding readyIn
-apply-requires c κs = rw (c .taken-counts .ensures) (c .before .before .before .before .pre .1 .1 .1 .1)
+apply-requires c κs = rw (c .taken-counts .ensures) (c .before .before .before .before .before .pre .1 .1 .1 .1 .0)
 
 count-after-requires : tie.Need-count-after-requires
 count-after-requires c κs = search needs
 
+same-length : tie.Need-same-length
+same-length c = search needs
+
 returns : tie.Need-returns
 returns c =
-    let a = c .before .before .before .before .before .before .args in
+    let a = c .before .before .before .before .before .before .before .before .before .before .args in
     let small : a .e .mask < 256 = omega arith in
-    let counts : c .before .apply .result ≡ listOf 8 (apply (a .e) (at (takenCounts (a .w) (now (a .s))))) =
-    c .before .apply .ensures ∙ ap (λ (l : List ℕ). listOf 8 (apply (a .e) (at l))) (c .before .before .taken-counts .ensures) in
-    rw (setting-with (a .w) (now (a .s)) (a .e) small, ← counts, ← (c .before .before .before .process-count .ensures .0)) (c .count-after .ensures .0 _ _)
+    let counts : c .before .before .before .before .apply .result ≡ listOf 8 (apply (a .e) (at (takenCounts (a .w) (now (a .s))))) =
+    c .before .before .before .before .apply .ensures ∙ ap (λ (l : List ℕ). listOf 8 (apply (a .e) (at l))) (c .before .before .before .before .before .taken-counts .ensures) in (
+      rw (setting-with (a .w) (now (a .s)) (a .e) small, ← counts, ← (c .before .before .before .before .before .before .process-count .ensures .0)) (c .before .before .count-after .ensures .0 _ _),
+      rw (setting-with (a .w) (now (a .s)) (a .e) small, ← counts, ← (c .before .before .before .before .before .before .process-count .ensures .0)) (c .before .before .count-after .ensures .1 .1 _ _),
+    )
 
 pub kept-with-spec : {M : Type 1} → statement M
 kept-with-spec =
@@ -43,4 +48,5 @@ kept-with-spec =
     taken-counts-requires
     apply-requires
     count-after-requires
+    same-length
     returns)

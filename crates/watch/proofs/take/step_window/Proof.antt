@@ -29,7 +29,7 @@ taken-counts-requires c κs = search needs
 
 apply-requires : tie.Need-apply-requires
 unfolding readyIn
-apply-requires c κs = rw (c .taken-counts .ensures) (c .before .before .before .before .before .before .pre .1 .1 .1 .1 .1 .1 .1 .0)
+apply-requires c κs = rw (c .taken-counts .ensures) (c .before .before .before .before .before .before .before .pre .1 .1 .1 .1 .1 .1 .1 .0)
 
 table-place-requires : tie.Need-table-place-requires
 table-place-requires c κs = search needs
@@ -44,18 +44,18 @@ part-step-end : tie.Need-part-step-end
 part-step-end c = search needs
 
 -- The step's parameters make the record's setting.
-setting : (c : tie.After-table-place) → let a = c .before .before .before .before .before .before .before .before .args in
+setting : (c : tie.After-table-place) → let a = c .before .before .before .before .before .before .before .before .before .args in
     settingIn (a .w) (now (a .s)) (a .e) ≡ settingWith (c .before .before .before .before .process-count .result) 0 (take (length (now (a .s)) - c .table-place .result) (drop (c .table-place .result) (now (a .s)))) (c .before .before .before .line-total .result) (a .e) (c .before .apply .result)
 setting c =
-    let a = c .before .before .before .before .before .before .before .before .args in
+    let a = c .before .before .before .before .before .before .before .before .before .args in
     let counts : c .before .apply .result ≡ listOf 8 (apply (a .e) (at (takenCounts (a .w) (now (a .s))))) =
     c .before .apply .ensures ∙ ap (λ (l : List ℕ). listOf 8 (apply (a .e) (at l))) (c .before .before .taken-counts .ensures) in
     setting-lent (a .w) (now (a .s)) (a .e) _ _ _ _ (omega arith) (c .before .before .before .before .process-count .ensures .0) (c .table-place .ensures .0) (c .before .before .before .line-total .ensures .0) counts
 
 step-requires : tie.Need-step-requires
 step-requires c κs =
-    let a = c .before .before .before .before .before .before .before .before .before .before .before .args in
-    let asked = c .before .before .before .before .before .before .before .before .before .before .before .pre in (
+    let a = c .before .before .before .before .before .before .before .before .before .before .before .before .args in
+    let asked = c .before .before .before .before .before .before .before .before .before .before .before .before .pre in (
       search needs,
       (
         asked .1 .1 .1 .1 .1 .1 .0,
@@ -69,7 +69,10 @@ step-requires c κs =
                 (search needs, simp (length-take, length-drop) (omega arith)),
                 (
                   search needs,
-                  asked .1 .1 .1 .1 .1 .1 .1 .1 ∙ ap (λ (t : Setting). keptAfter t (frontiers (a .w) (now (a .window)) (a .n))) (setting (c .before .before .before)),
+                  (
+                    asked .1 .1 .1 .1 .1 .1 .1 .1 .0 ∙ ap (λ (t : Setting). keptAfter t (frontiers (a .w) (now (a .window)) (a .n))) (setting (c .before .before .before)),
+                    (asked .1 .1 .1 .1 .1 .1 .1 .1 .1 .0, rw (setting (c .before .before .before)) at (asked .1 .1 .1 .1 .1 .1 .1 .1 .1 .1)),
+                  ),
                 ),
               ),
             ),

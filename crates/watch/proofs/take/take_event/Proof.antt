@@ -19,29 +19,29 @@ line-total-requires c κs = search needs
 
 step-window-requires : tie.Need-step-window-requires
 step-window-requires c κs =
-    let a = c .before .before .before .before .before .before .before .before .before .before .args in
-    let asked = c .before .before .before .before .before .before .before .before .before .before .pre in
+    let a = c .before .before .before .before .before .before .before .before .before .before .before .args in
+    let asked = c .before .before .before .before .before .before .before .before .before .before .before .pre in
     let event = c .before .before .before .before .before .pending-event .ensures in
-    (search needs, (search needs, (search needs, (search needs, (search needs, (search needs, (rw event (pending-fits (a .w) (now (a .s)) (a .i) (λ j. c .before .before .before .before .before .before .before .before .before .slice-known .given j .fits)), (rw event (asked .1 .1 .1 .1 .1 .1 .1 .0), rw event (asked .1 .1 .1 .1 .1 .1 .1 .1)))))))))
+    (search needs, (search needs, (search needs, (search needs, (search needs, (search needs, (rw event (pending-fits (a .w) (now (a .s)) (a .i) (λ j. c .before .before .before .before .before .before .before .before .before .before .slice-known .given j .fits)), (rw event (asked .1 .1 .1 .1 .1 .1 .1 .0), (rw event (asked .1 .1 .1 .1 .1 .1 .1 .1 .0), (asked .1 .1 .1 .1 .1 .1 .1 .1 .1 .0, rw event (asked .1 .1 .1 .1 .1 .1 .1 .1 .1 .1)))))))))))
 
 cast-count-event : tie.Need-cast-count-event
 cast-count-event c = search needs
 
 count-event-requires : tie.Need-count-event-requires
 count-event-requires c κs =
-    let a = c .before .before .before .before .before .before .before .before .before .before .before .before .before .before .before .before .args in
-    let asked = c .before .before .before .before .before .before .before .before .before .before .before .before .before .before .before .before .pre in
+    let a = c .before .before .before .before .before .before .before .before .before .before .before .before .before .before .before .before .before .args in
+    let asked = c .before .before .before .before .before .before .before .before .before .before .before .before .before .before .before .before .before .pre in
     let event = c .before .before .before .before .before .before .before .before .before .before .before .pending-event .ensures in
-    (search needs, (search needs, (search needs, (rw event (pending-fits (a .w) (now (a .s)) (a .i) (λ j. c .before .before .before .before .before .before .before .before .before .before .before .before .before .before .before .slice-known .given j .fits) .clock-fits), rw event (asked .1 .1 .1 .1 .1 .1 .1 .0)))))
+    (search needs, (search needs, (search needs, (rw event (pending-fits (a .w) (now (a .s)) (a .i) (λ j. c .before .before .before .before .before .before .before .before .before .before .before .before .before .before .before .before .slice-known .given j .fits) .clock-fits), rw event (asked .1 .1 .1 .1 .1 .1 .1 .0)))))
 
 verdict-requires : tie.Need-verdict-requires
 verdict-requires c κs =
-    let asked = c .before .before .before .before .before .before .before .before .before .before .before .before .before .before .before .before .before .before .before .before .pre in
+    let asked = c .before .before .before .before .before .before .before .before .before .before .before .before .before .before .before .before .before .before .before .before .before .pre in
     let kept = asked .1 .1 .1 .1 .0 in
     (search needs, ((kept .0, kept .1, omega (arith, kept .2)), search needs))
 
 cast-state-word : tie.Need-cast-state-word
-cast-state-word c = let asked = c .before .before .before .before .before .before .before .before .before .before .before .before .before .before .before .before .before .before .before .before .before .pre in omega (arith, asked .1 .1 .1 .1 .0 .1)
+cast-state-word c = let asked = c .before .before .before .before .before .before .before .before .before .before .before .before .before .before .before .before .before .before .before .before .before .before .pre in omega (arith, asked .1 .1 .1 .1 .0 .1)
 
 state-word-requires : tie.Need-state-word-requires
 state-word-requires c κs = search needs
@@ -58,9 +58,9 @@ same-length-3 c = search needs
 returns : tie.Need-returns
 unfolding decided
 returns c =
-    let a = c .before .before .before .before .before .before .before .before .before .before .before .before .before .before .before .before .before .before .before .before .before .before .args in
-    let asked = c .before .before .before .before .before .before .before .before .before .before .before .before .before .before .before .before .before .before .before .before .before .before .pre in
-    let kept = asked .1 .1 .1 .1 .1 .1 .1 .1 in
+    let a = c .before .before .before .before .before .before .before .before .before .before .before .before .before .before .before .before .before .before .before .before .before .before .before .args in
+    let asked = c .before .before .before .before .before .before .before .before .before .before .before .before .before .before .before .before .before .before .before .before .before .before .before .pre in
+    let kept = asked .1 .1 .1 .1 .1 .1 .1 .1 .0 in
     let event = c .before .before .before .before .before .before .before .before .before .before .before .before .before .before .before .before .before .pending-event .ensures in
     let step = c .before .before .before .before .before .before .before .before .before .before .before .step-window .ensures in (
       taken-answer (a .w) (now (a .s)) (now (a .window)) (a .n) (a .i) (a .kept) kept (c .before .before .before .before .before .before .before .before .before .before .before .step-window .last .1 .1 .0) _ _ _ (rw event at (step .1 .1)) (c .before .before .before .before .before .before .before .before .before .before .before .before .before .before .before .line-total .ensures .0) (c .before .verdict .ensures) (c .state-word .ensures),
