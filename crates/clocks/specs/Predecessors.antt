@@ -14,7 +14,7 @@ use Rattle.clocks.specs.History.{In, Precedes, Causal}
 use Rattle.clocks.specs.Event.{Cut, involved, count, less}
 use Rattle.clocks.specs.ClockRule.{history-causal}
 use Rattle.clocks.specs.EventLaws.{either, true-T, T-true, ready-next, ready-known, ready-i, apply-next, apply-other, less-next, less-other, apply-less}
-use Rattle.clocks.specs.TestedLaws.{in-takeable, consistent-test}
+use Rattle.clocks.specs.TestedLaws.{in-takeable, involved-below, consistent-test}
 use Rattle.clocks.specs.Preceding.{precedes-last}
 use Rattle.clocks.specs.BoundedLaws.{and-i, and-l, and-r, all-i, all-e}
 use Rattle.clocks.specs.Tested.{consistent, leadsTo, through, predecessors}
@@ -36,11 +36,9 @@ module _ (n : ℕ) (valid : List Event → Event → Type 0) (r : ClockRule n va
   -- ---- an event that passes leads here
   asks-own : (f : Event) → T (leadsTo n f S) → In f ts → (p : ℕ) → involved f p ≡ true → count f p ≡ S p
   unfolding leadsTo
-  asks-own f t m p b = go (decLt p n)
-    where
-      go : Dec (p < n) → count f p ≡ S p
-      go (yes l) = let q : T (asks f p) = all-e n (asks f) t p l in eqb→eq (count f p) (S p) (rw b at q)
-      go (no l) = absurd (true≢false (sym b ∙ in-takeable n valid ts h f m .below p (omega arith)))
+  asks-own f t m p b =
+      let q : T (asks f p) = all-e n (asks f) t p (involved-below n f (in-takeable n valid ts h f m) p b) in
+      eqb→eq (count f p) (S p) (rw b at q)
 
   asks-other : (f : Event) → T (leadsTo n f S) → In f ts → (p : ℕ) → involved f p ≡ false → count f p ≤ S p
   unfolding leadsTo

@@ -4,8 +4,8 @@
 use Prim.Native.Nat.{ℕ, _+_, _≤_, _<_}
 use native.Mathlib.Omega.{arith}
 use native.Mathlib.Decide.{decLt}
-use mathlib.Core.Path.{_≡_, refl}
-use mathlib.Core.Bool.{Bool, true, false, _&&_}
+use mathlib.Core.Path.{_≡_, refl, sym, _∙_}
+use mathlib.Core.Bool.{Bool, true, false, _&&_, true≢false}
 use mathlib.Core.List.{List, [], _∷_, List·Memᴰ·cases-cons, List·Memᴰ·not-nil}
 use mathlib.Core.Logic.{_⊎_, inl, inr, _↔_}
 use lib.Dec.{T, leb, leb→le, le→leb, eqb→eq}
@@ -20,6 +20,14 @@ use Rattle.clocks.specs.Lattice.{clock-zero}
 use Rattle.clocks.specs.Tested.{readyAt, ready, consistent}
 use Rattle.clocks.specs.Valid.{WellFormed, History}
 use Rattle.clocks.specs.CausalLaws.{clock-cases}
+
+-- A process that takes part is one of the n.
+pub involved-below : (n : ℕ) (e : Event) → WellFormed n e → (p : ℕ) → involved e p ≡ true → p < n
+involved-below n e w p b = go (decLt p n)
+  where
+    go : Dec (p < n) → p < n
+    go (yes l) = l
+    go (no l) = absurd (true≢false (sym b ∙ w .below p (omega arith)))
 
 pub in-takeable : (n : ℕ) (valid : List Event → Event → Type 0) (ts : List Event) → History n valid ts → (f : Event) → In f ts → WellFormed n f
 in-takeable n valid [] h f m = absurd (List·Memᴰ·not-nil m)

@@ -27,6 +27,7 @@ use Rattle.rules.specs.Reader.{formed}
 use Rattle.clocks.specs.Bounded.{anyBelow}
 use Rattle.clocks.specs.KeyLaws.{lowest-lt, lowest-involved}
 use Rattle.clocks.specs.BoundedLaws.{any-i, any-of-i}
+use Rattle.clocks.specs.TestedLaws.{involved-below}
 use Rattle.clocks.specs.Valid.{WellFormed}
 use Rattle.records.specs.Record.{processCount, pendingCount, takenCounts, pendingEvents, inserted}
 use Rattle.records.specs.Refusals.{badRecordLength, badState, alreadyTaken, conflicting, conflicts}
@@ -147,12 +148,8 @@ module _ (w k : ℕ) (table : List Line) (start : Cut) (R : Rule w k table start
   offered-clear : conflicting e (L .pending) ≡ false → (f : Event) → List·Memᴰ f (L .pending) → Faultless k e → NoClash e f
   unfolding conflicting conflicts
   offered-clear h f m g p a b q =
-      let meets : T (conflicts e f) = any-i 8 (λ o. (involved e o && involved f o) && eqb (count e o) (count f o)) p (below (decLt p 8)) (rw (a, b, eq-eqb (count e p) (count f p) q) tt) in
+      let meets : T (conflicts e f) = any-i 8 (λ o. (involved e o && involved f o) && eqb (count e o) (count f o)) p (omega (arith, R .eight-processes, involved-below k e (g .formed) p a)) (rw (a, b, eq-eqb (count e p) (count f p) q) tt) in
       subst T h (any-of-i (conflicts e) (L .pending) f m meets)
-    where
-      below : Dec (p < 8) → p < 8
-      below (yes l) = l
-      below (no l) = absurd (true≢false (sym a ∙ g .formed .below p (omega (arith, R .eight-processes))))
 
   -- ---- the watch with it
   module _ (h7 : badMask (processCount bytes) mask ≡ false) (h8 : badClock (processCount bytes) mask clock ≡ false) (h9 : badLabels mask labels ≡ false)
@@ -176,11 +173,7 @@ module _ (w k : ℕ) (table : List Line) (start : Cut) (R : Rule w k table start
     eight-e = record { counts = passed .1; labels = passed .3 }
 
     untaken-e : (p : ℕ) → involved e p ≡ true → taken (L .history) p < count e p
-    untaken-e p b = offered-untaken (rw (says-taken w k table start R L bytes window X) at h31) p (below p b (decLt p 8)) b
-      where
-        below : (p : ℕ) → involved e p ≡ true → Dec (p < 8) → p < 8
-        below p b (yes l) = l
-        below p b (no l) = absurd (true≢false (sym b ∙ g .formed .below p (omega (arith, R .eight-processes))))
+    untaken-e p b = offered-untaken (rw (says-taken w k table start R L bytes window X) at h31) p (omega (arith, R .eight-processes, involved-below k e (g .formed) p b)) b
 
     -- of each pending event, the new one or an old one
     pub accepted-watching : Watching w k table start with-event (inserted w bytes (placeAmong e (pendingEvents w bytes)) e) window

@@ -15,7 +15,7 @@ use Rattle.clocks.specs.ClockRule.{consistent-silent}
 use Rattle.clocks.specs.Bounded.{anyOf}
 use Rattle.clocks.specs.EventLaws.{T-true, apply-next, apply-up}
 use Rattle.clocks.specs.Predecessors.{predecessor}
-use Rattle.clocks.specs.TestedLaws.{in-takeable}
+use Rattle.clocks.specs.TestedLaws.{in-takeable, involved-below}
 use Rattle.clocks.specs.BoundedLaws.{and-i, and-l, and-r, or-l, or-r, or-e, any-of-i, any-of-e}
 use Rattle.clocks.specs.Valid.{WellFormed, History, ClockRule}
 use Rattle.rules.specs.Truth.{Model, Property, before, allOf, size, unrolled, recursive, eyHolds, esStep, esHolds, asStep, notHolds, andHolds, asHolds}
@@ -93,11 +93,7 @@ module _ (M : Model) (valid : List Event → Event → Type 0) (m : Ruled M vali
       let b : involved e o ≡ true = T-true (involved e o) (w .occupied .1) in
       size-lt (M .processes) S′ S
       (λ p. omega (arith, ap (λ (R : Cut). R p) (h .leads), apply-up e S′ p))
-      o (below o b w (decLt o (M .processes))) (omega (arith, ap (λ (R : Cut). R o) (h .leads), apply-next e S′ o b))
-    where
-      below : (o : ℕ) → involved (h .by) o ≡ true → WellFormed (M .processes) (h .by) → Dec (o < M .processes) → o < M .processes
-      below o b w (yes l) = l
-      below o b w (no l) = absurd (true≢false (sym b ∙ w .below o (omega arith)))
+      o (involved-below (M .processes) e w o b) (omega (arith, ap (λ (R : Cut). R o) (h .leads), apply-next e S′ o b))
 
   -- ---- a property given by what it is at the preceding cuts is so given
   module _ (F : Property → Property) (looks : (x y : Property) (S : Cut) → ((S′ : Cut) → List·Memᴰ S′ (before M S) → x S′ ≡ y S′) → F x S ≡ F y S) where

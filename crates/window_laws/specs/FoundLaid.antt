@@ -3,7 +3,6 @@ use Prim.Native.Nat.{ℕ, zero, suc, _<_}
 use native.Mathlib.Omega.{arith}
 use mathlib.Core.Path.{_≡_, sym, ap, _∙_}
 use mathlib.Core.List.{List, [], _∷_, map, List·Memᴰ}
-use lib.Dec.{T}
 use lib.ListN.{length, getD, length-map}
 use Rattle.clocks.specs.declared.Event.{Event}
 use Rattle.clocks.specs.Event.{Cut}
@@ -11,13 +10,13 @@ use Rattle.clocks.specs.Counts.{listOf, at}
 use Rattle.clocks.specs.Lattice.{zeros}
 use Rattle.rules.specs.ReaderFrom.{place}
 use Rattle.frontiers.specs.declared.Frontier.{Frontier}
-use Rattle.frontiers.specs.Seek.{seek, standsAt}
+use Rattle.frontiers.specs.Seek.{seek}
 use Rattle.window.specs.Step.{valuesAt}
 use Rattle.frontiers.specs.Seek.{keysOf}
 use Rattle.window_laws.specs.Represents.{World, frontierOf, Sorted}
 use Rattle.frontiers.specs.Order.{Ascending}
 use Rattle.window.specs.Lists.{map-map, getD-mapped}
-use Rattle.frontiers.specs.SeekLaws.{seek-finds, standsAt-e, standsAt-i}
+use Rattle.frontiers.specs.SeekLaws.{seek-finds, seek-ends}
 use Rattle.frontiers.specs.ListLaws.{place-member, member-place}
 
 pub sorted-ascending : (n : ℕ) (cuts : List Cut) → Sorted n cuts → Ascending (map (listOf n) cuts)
@@ -43,22 +42,22 @@ module _ (W : World) (us : List Event) (laid : List Cut) (s : Sorted (W .stored)
   key-at : (i : ℕ) → i < length laid → getD keys i [] ≡ listOf (W .stored) (getD laid i zeros)
   key-at i l = ap (λ (ks : List (List ℕ)). getD ks i []) keys-are ∙ getD-mapped (listOf (W .stored)) laid i zeros [] l
 
-  pub found-e : (key : List ℕ) (place : ℕ) → T (standsAt keys key place)
-      → (R : Cut) × List·Memᴰ R laid × (key ≡ listOf (W .stored) R) × (valuesAt (map (frontierOf W us) laid) place ≡ frontierOf W us R .values)
-  found-e key place t =
-      let w = standsAt-e keys key place t in
-      let l : place < length laid = omega (arith, w .0, many) in (
+  pub found-e : (key : List ℕ) (hint : ℕ) → let place = seek keys key hint in
+      place < length laid → (R : Cut) × List·Memᴰ R laid × (key ≡ listOf (W .stored) R) × (valuesAt (map (frontierOf W us) laid) place ≡ frontierOf W us R .values)
+  found-e key hint l =
+      let place = seek keys key hint in
+      (
         getD laid place zeros,
         place-member laid place zeros l,
-        sym (w .1) ∙ key-at place l,
+        sym (seek-ends keys key hint (omega (arith, many))) ∙ key-at place l,
         ap (λ (vs : List ℕ). getD vs place 0) (map-map (λ (f : Frontier). f .values) (frontierOf W us) laid) ∙ getD-mapped (λ (S : Cut). frontierOf W us S .values) laid place zeros 0 l,
       )
 
-  pub found-i : (R : Cut) → List·Memᴰ R laid → (hint : ℕ) → T (standsAt keys (listOf (W .stored) R) (seek keys (listOf (W .stored) R) hint))
+  pub found-i : (R : Cut) → List·Memᴰ R laid → (hint : ℕ) → seek keys (listOf (W .stored) R) hint < length laid
   found-i R m hint =
       let w = member-place laid R zeros m in
       let k : getD keys (w .0) [] ≡ listOf (W .stored) R = key-at (w .0) (w .1) ∙ ap (listOf (W .stored)) (w .2) in
       let l : w .0 < length keys = omega (arith, w .1, many) in
       let a : Ascending keys = rw keys-are (sorted-ascending (W .stored) laid s) in
       let p : seek keys (listOf (W .stored) R) hint ≡ w .0 = rw k at (seek-finds keys a (w .0) l hint) in
-      rw p (standsAt-i keys (listOf (W .stored) R) (w .0) l k)
+      rw p (w .1)

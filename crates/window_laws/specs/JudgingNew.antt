@@ -8,8 +8,8 @@ use mathlib.Core.Bool.{true, false, not, _&&_, true≢false, Bool}
 use mathlib.Core.List.{List, _∷_, map, List·Memᴰ}
 use mathlib.Core.Logic.{_⊎_, inl, inr, ⊎-elim, _≢_}
 use mathlib.Core.Option.{some}
-use lib.Dec.{T, eqb, T-not}
-use lib.ListN.{getD, length}
+use lib.Dec.{T, eqb, ltb, ltb→lt, lt→ltb, T-not}
+use lib.ListN.{getD, length, length-map}
 use lib.Count.{trailingZeros}
 use borrow.Author.Tests.{eq-eqb, ne-eqb}
 use Rattle.clocks.specs.declared.Event.{Event}
@@ -24,9 +24,9 @@ use Rattle.clocks.specs.Step.{consistent-new, Advanced}
 use Rattle.clocks.specs.Counts.{at, listOf}
 use Rattle.clocks.specs.Tested.{ready, consistent}
 use Rattle.clocks.specs.CountsLaws.{getD-listOf, listOf-same, at-listOf}
-use Rattle.clocks.specs.Valid.{Takeable, History}
+use Rattle.clocks.specs.Valid.{WellFormed, Takeable, History}
 use Rattle.clocks.specs.EventLaws.{either, true-T, ready-same, apply-next, apply-up, less-minus, less-apply}
-use Rattle.clocks.specs.TestedLaws.{in-takeable}
+use Rattle.clocks.specs.TestedLaws.{in-takeable, involved-below}
 use Rattle.clocks.specs.BoundedLaws.{and-l, and-r}
 use Rattle.clocks.specs.HistoryLaws.{event-zero, event-next}
 use Rattle.codec.specs.Bit.{bit}
@@ -43,7 +43,7 @@ use Rattle.window.specs.Step.{Setting, advanced, sought, withoutLast, Gathered,
 use Rattle.frontiers.specs.Seek.{keysOf}
 use Rattle.window_laws.specs.Represents.{World, modelOf, openIn, KeptIn, frontierOf, Sorted, settingOf, Proper, wordOf}
 use Rattle.frontiers.specs.Order.{before, same}
-use Rattle.frontiers.specs.Seek.{seek, standsAt}
+use Rattle.frontiers.specs.Seek.{seek}
 use Rattle.window_laws.specs.FoundLaid.{found-e, found-i}
 use Rattle.window_laws.specs.OrderCuts.{before-pointwise}
 use Rattle.window_laws.specs.StoredCuts.{listOf-injective, first-process}
@@ -86,11 +86,7 @@ module _ (W : World) (valid : List Event → Event → Type 0) (ts : List Event)
   silent R c p l = consistent-silent (W .processes) valid us later R c p (omega (arith, P .room))
 
   in-open : (p : ℕ) → involved e p ≡ true → (p < W .processes) × T (openIn W p)
-  in-open p b = (below p b (decLt p (W .processes)), opens p b)
-    where
-      below : (p : ℕ) → involved e p ≡ true → Dec (p < W .processes) → p < W .processes
-      below p b (yes l) = l
-      below p b (no l) = absurd (true≢false (sym b ∙ tk .formed .below p (omega arith)))
+  in-open p b = (involved-below (W .processes) e (tk .formed) p b, opens p b)
 
   -- ---- the masks of the new frontier, and the counts less them
   mask-at : (p : ℕ) → p < W .stored → getD (g .masks) p 0 ≡ maskOf us p (S p)
@@ -131,17 +127,18 @@ module _ (W : World) (valid : List Event → Event → Type 0) (ts : List Event)
             let n : m ≡ 0 = mask-at p l ∙ ap (λ (x : ℕ). maskOf us p x) z ∙ ap (ofEvent 0 (λ (f : Event). f .mask)) (event-zero us p) in
             absurd (T-not (eqb m 0) (and-l (not (eqb m 0)) (eqb (trailingZeros (W .stored) m) p) (and-r (not (involved e p)) (not (eqb m 0) && eqb (trailingZeros (W .stored) m) p) t)) (true-T (eq-eqb m 0 n)))
 
-    from-leads : (S′ : Cut) → From (W .stored) S′ → Leads M S′ S
+    from-leads : (S′ : Cut) → From (W .processes) S′ → Leads M S′ S
     from-leads S′ (inl q) = rw q (origin-precedes e ts S₀ c₀ r₀)
     from-leads S′ (inr w) =
         let p = w .0 in
+        let within : p < W .stored = omega (arith, w .1, P .room) in
         let same : S′ ≡ minus (maskOf us p (S p)) S =
-        listOf-injective (W .stored) S′ (minus (maskOf us p (S p)) S) (silent S′ (kept S′ (w .3) .consistent)) (minus-silent p) (sym (w .4) ∙ without-is p (w .1)) in
-        rw same (mask-precedes us causal S new-cut p (counted p (w .1) (w .2)) .1 (rw same at (kept S′ (w .3) .consistent)))
+        listOf-injective (W .stored) S′ (minus (maskOf us p (S p)) S) (silent S′ (kept S′ (w .3) .consistent)) (minus-silent p) (sym (w .4) ∙ without-is p within) in
+        rw same (mask-precedes us causal S new-cut p (counted p within (w .2)) .1 (rw same at (kept S′ (w .3) .consistent)))
 
     -- ---- and nothing else precedes
     -- an old event's first process is considered, and what it leads from stands before the new cut
-    leads-from : (S′ : Cut) → Leads M S′ S → From (W .stored) S′
+    leads-from : (S′ : Cut) → Leads M S′ S → From (W .processes) S′
     unfolding sought
     leads-from S′ l = ⊎-elim inl (λ a. new a (either (involved e first))) (precedes-new e ts (causal .1) follows S₀ S′ r₀ l)
       where
@@ -151,9 +148,12 @@ module _ (W : World) (valid : List Event → Event → Type 0) (ts : List Event)
         first : ℕ
         first = trailingZeros (W .stored) (f .mask)
 
+        formed-f : WellFormed (W .processes) f
+        formed-f = in-takeable (W .processes) valid us later f (l .among)
+
         -- it is below the number stored, it takes part, and the mask is not 0
         lowest : (first < W .stored) × (involved f first ≡ true) × (f .mask ≢ 0)
-        lowest = first-process (W .stored) (W .processes) f (P .room) (in-takeable (W .processes) valid us later f (l .among))
+        lowest = first-process (W .stored) (W .processes) f (P .room) formed-f
 
         last : (event us first (S first) ≡ some f) × (S′ ≡ less f S)
         last = precedes-last us causal S′ S l first (lowest .1)
@@ -179,11 +179,11 @@ module _ (W : World) (valid : List Event → Event → Type 0) (ts : List Event)
             (before-pointwise (W .stored) S′ S (λ p. omega (arith, ap (λ (R : Cut). R p) (l .leads), apply-up f S′ p)) first (lowest .0)
             (omega (arith, ap (λ (R : Cut). R first) (l .leads), apply-next f S′ first (lowest .1))))
 
-        new : Advanced ts e S′ → (involved e first ≡ true) ⊎ (involved e first ≡ false) → From (W .stored) S′
+        new : Advanced ts e S′ → (involved e first ≡ true) ⊎ (involved e first ≡ false) → From (W .processes) S′
         new a (inl b) = inl (own b)
         new a (inr b) = inr (
           first,
-          lowest .0,
+          involved-below (W .processes) f formed-f first (lowest .1),
           seen b,
           standing a,
           without-is first (lowest .0) ∙ ap (λ (x : ℕ). listOf (W .stored) (minus x S)) (mask-some us first (S first) f (last .0)) ∙ ap (listOf (W .stored)) (sym (less-minus f S) ∙ sym (last .1)),
@@ -243,23 +243,29 @@ module _ (W : World) (valid : List Event → Event → Type 0) (ts : List Event)
 
       right-more : (p i : ℕ) → i < length (W .table) → Right p i → Right (suc p) i
       unfolding gathered consider
-      right-more p i l r = go (sought s g p) refl (standsAt (keysOf frontiersLaid) key place) refl
+      right-more p i l r = go (sought s g p) refl (ltb place (length frontiersLaid)) refl
         where
           key : List ℕ
           key = withoutLast s g p
 
-          place : ℕ
-          place = seek (keysOf frontiersLaid) key (getD (G p .hints) p 0)
+          hint : ℕ
+          hint = getD (G p .hints) p 0
 
-          go : (b : Bool) → sought s g p ≡ b → (d : Bool) → standsAt (keysOf frontiersLaid) key place ≡ d → Right (suc p) i
+          place : ℕ
+          place = seek (keysOf frontiersLaid) key hint
+
+          many : length frontiersLaid ≡ length laid
+          many = length-map laid (frontierOf W us)
+
+          go : (b : Bool) → sought s g p ≡ b → (d : Bool) → ltb place (length frontiersLaid) ≡ d → Right (suc p) i
           go false b d k = gathers-same (lineTruth M (W .table) i) (From p) (From (suc p)) i (G p .ors) (G p .ands) (G (suc p) .ors) (G (suc p) .ands) (rw b) (rw b) (from-more p) (λ S′ w. ⊎-elim (λ x. x) (λ x. absurd (subst T b (x .0))) (from-cases p S′ w)) r
           go true b false k = gathers-same (lineTruth M (W .table) i) (From p) (From (suc p)) i (G p .ors) (G p .ands) (G (suc p) .ors) (G (suc p) .ands) (rw (b, k)) (rw (b, k)) (from-more p)
               (λ S′ w. ⊎-elim (λ x. x) (λ x. absurd (missing S′ (x .1) (x .2))) (from-cases p S′ w)) r
             where
               missing : (S′ : Cut) → List·Memᴰ S′ laid → key ≡ listOf (W .stored) S′ → ⊥
-              missing S′ m q = subst T k (rw q (found-i W us laid sorted S′ m (getD (G p .hints) p 0)))
+              missing S′ m q = subst T k (lt→ltb place (length frontiersLaid) (omega (arith, many, rw (← q) at (found-i W us laid sorted S′ m hint))))
           go true b true k =
-              let w = found-e W us laid sorted key place (true-T k) in
+              let w = found-e W us laid sorted key hint (omega (arith, many, ltb→lt place (length frontiersLaid) (true-T k))) in
               gathers-added (lineTruth M (W .table) i) (From p) (From (suc p)) i (G p .ors) (G p .ands) (G (suc p) .ors) (G (suc p) .ands) (w .0) (valuesAt frontiersLaid place) (rw (b, k)) (rw (b, k)) (from-more p) (ap (λ (x : ℕ). bit x i) (w .3) ∙ value-bit (w .0) i l)
               (inr (p, omega arith, true-T b, w .1, w .2))
               (λ S′ x. ⊎-elim (λ y. inl y) (λ y. inr (only (w .0) (w .1) (w .2) S′ (y .1) (y .2))) (from-cases p S′ x)) r
@@ -271,15 +277,15 @@ module _ (W : World) (valid : List Event → Event → Type 0) (ts : List Event)
       right zero i l = right-start i l
       right (suc p) i l = right-more p i l (right p i l)
 
-      preceding : Preceding M (W .table) S (G (W .stored) .ors) (G (W .stored) .ands) true
+      preceding : Preceding M (W .table) S (G (W .processes) .ors) (G (W .processes) .ands) true
       preceding = record {
         some-has = λ i l. (
-          (λ t. let w = right (W .stored) i l .some-has .0 t in (w .0, from-leads (w .0) (w .1), w .2)),
-          λ w. right (W .stored) i l .some-has .1 (w .0, leads-from (w .0) (w .1), w .2),
+          (λ t. let w = right (W .processes) i l .some-has .0 t in (w .0, from-leads (w .0) (w .1), w .2)),
+          λ w. right (W .processes) i l .some-has .1 (w .0, leads-from (w .0) (w .1), w .2),
         );
         all-have = λ _ i l. (
-          (λ t S′ k. right (W .stored) i l .all-have .0 t S′ (leads-from S′ k)),
-          λ h. right (W .stored) i l .all-have .1 (λ S′ w. h S′ (from-leads S′ w)),
+          (λ t S′ k. right (W .processes) i l .all-have .0 t S′ (leads-from S′ k)),
+          λ h. right (W .processes) i l .all-have .1 (λ S′ w. h S′ (from-leads S′ w)),
         );
         some-precedes = ((λ t. (S₀, origin-precedes e ts S₀ c₀ r₀)), λ w. tt);
       }
@@ -288,12 +294,12 @@ module _ (W : World) (valid : List Event → Event → Type 0) (ts : List Event)
       labels-at p l = ap (λ (xs : List ℕ). getD xs p 0) (advanced-labels W ts e (tk .ready) S₀ c₀ r₀)
           ∙ getD-listOf (W .stored) (λ q. labelOf (W .start) us q (S q)) p 0 (omega (arith, P .room))
 
-      judged-values : judge (g .labels) (G (W .stored) .ors) (G (W .stored) .ands) true (W .table) ≡ wordOf (length (W .table)) (λ i. lineTruth M (W .table) i S)
-      judged-values = word-is (length (W .table)) (λ i. lineTruth M (W .table) i S) (judge (g .labels) (G (W .stored) .ors) (G (W .stored) .ands) true (W .table))
-          (λ i l. judged-right M valid ruled (W .table) (P .good) S new-cut (g .labels) labels-at (G (W .stored) .ors) (G (W .stored) .ands) true preceding i l)
-          (λ i l. judge-above (g .labels) (G (W .stored) .ors) (G (W .stored) .ands) true (W .table) i l)
+      judged-values : judge (g .labels) (G (W .processes) .ors) (G (W .processes) .ands) true (W .table) ≡ wordOf (length (W .table)) (λ i. lineTruth M (W .table) i S)
+      judged-values = word-is (length (W .table)) (λ i. lineTruth M (W .table) i S) (judge (g .labels) (G (W .processes) .ors) (G (W .processes) .ands) true (W .table))
+          (λ i l. judged-right M valid ruled (W .table) (P .good) S new-cut (g .labels) labels-at (G (W .processes) .ors) (G (W .processes) .ands) true preceding i l)
+          (λ i l. judge-above (g .labels) (G (W .processes) .ors) (G (W .processes) .ands) true (W .table) i l)
 
       -- ---- Theorem
-      pub judged-new : judgedBy s g (gathered s frontiersLaid hints g (W .stored)) ≡ frontierOf W us S
+      pub judged-new : judgedBy s g (gathered s frontiersLaid hints g (W .processes)) ≡ frontierOf W us S
       unfolding judgedBy frontierOf
       judged-new = rw (judged-values, advanced-labels W ts e (tk .ready) S₀ c₀ r₀, advanced-masks W ts e (tk .ready) S₀ c₀ r₀, advanced-counts W ts e (tk .ready) S₀ c₀ r₀)

@@ -18,7 +18,7 @@ use Rattle.clocks.specs.ClockRule.{history-causal, taken-silent, consistent-sil
 use Rattle.clocks.specs.Kept.{Kept}
 use Rattle.clocks.specs.Bounded.{allBelow, anyBelow}
 use Rattle.clocks.specs.EventLaws.{true-T, T-true, ready-same, apply-next}
-use Rattle.clocks.specs.TestedLaws.{ready-test}
+use Rattle.clocks.specs.TestedLaws.{involved-below, ready-test}
 use Rattle.clocks.specs.Counts.{at, listOf}
 use Rattle.clocks.specs.BoundedLaws.{and-i, and-l, and-r, or-l, or-r, or-e, all-i, all-e, any-i, any-e}
 use Rattle.clocks.specs.CountsLaws.{length-listOf, getD-listOf, at-beyond}
@@ -60,11 +60,7 @@ module _ (W : World) (valid : List Event → Event → Type 0) (ts : List Event)
   follows = causal .0
 
   in-open : (p : ℕ) → involved e p ≡ true → (p < W .processes) × T (openIn W p)
-  in-open p b = (below p b (decLt p (W .processes)), opens p b)
-    where
-      below : (p : ℕ) → involved e p ≡ true → Dec (p < W .processes) → p < W .processes
-      below p b (yes l) = l
-      below p b (no l) = absurd (true≢false (sym b ∙ tk .formed .below p (omega arith)))
+  in-open p b = (involved-below (W .processes) e (tk .formed) p b, opens p b)
 
   -- a cut that is stored whole
   at-whole : (S : Cut) → ((p : ℕ) → n ≤ p → S p ≡ 0) → at (listOf n S) ≡ S
@@ -188,7 +184,7 @@ module _ (W : World) (valid : List Event → Event → Type 0) (ts : List Event)
       let h : Sound (grown S) = sound (grown S) (List·Memᴰ·head refl) in
       let C : Cut = apply e S in
       let g : Frontier = advanced s (frontierOf W ts S) in
-      let G : Gathered = gathered s (map F done) hints g n in
+      let G : Gathered = gathered s (map F done) hints g (W .processes) in
       let j : judgedBy s g G ≡ F C = judged-new W valid ts e P tk opens S (h .0 .consistent) (h .1) done
       (sorted-front (listOf n) done (C ∷ map cutOf todo) (w .sorted))
       (λ R m. w .kept R (Memᴰ·append-left (C ∷ map cutOf todo) m))
@@ -258,15 +254,11 @@ module _ (W : World) (valid : List Event → Event → Type 0) (ts : List Event)
     old-new S Q c r q =
         let o : ℕ = f .occupied .0 in
         let b : involved e o ≡ true = T-true (involved e o) (f .occupied .1) in
-        let l : o < n = inside o b (decLt o n) in
+        let l : o < n = involved-below n e f o b in
         omega (arith, sym (getD-listOf n S o 0 l) ∙ ap (λ (xs : List ℕ). getD xs o 0) q ∙ getD-listOf n (apply e Q) o 0 l, c .within o, apply-next e Q o b, ready-same e Q (taken ts) r (tk .ready) o b)
       where
         f : WellFormed n e
         f = formed
-
-        inside : (o : ℕ) → involved e o ≡ true → Dec (o < n) → o < n
-        inside o b (yes l) = l
-        inside o b (no l) = absurd (true≢false (sym b ∙ formed .below o (omega arith)))
 
     todo-sorted : SortedBy key todo
     unfolding todo
