@@ -26,7 +26,7 @@ use Rattle.rules.specs.Table.{tableBytes, goodLine, goodFrom}
 use Rattle.rules.specs.TableBytes.{lineAt, linesFrom}
 use Rattle.rules.specs.Judge.{propositionJudged, notJudged, andJudged, eyJudged, esJudged, asJudged, judgeLine, judgeFrom}
 use Rattle.frontiers.specs.Order.{before, same}
-use Rattle.frontiers.specs.Seek.{atMost, bisect, gallop, seek, standsAt}
+use Rattle.frontiers.specs.Seek.{standing, bisect, gallop, seek}
 use Rattle.window.specs.Step.{stays, enabledAt, advanced, filtered, slotCounts, mergeInto, merge, slots, sought, withoutLast, consider, gathered, judgedBy, lay, stepped, keptAfter, fits}
 use Rattle.window.specs.Start.{startFrontier}
 use Rattle.frontiers.specs.Bytes.{frontierLength, countBytes, frontierBytes, frontierFrom, frontierAt, frontiers, framed, windowBytes, replaced}
@@ -157,7 +157,7 @@ frontiersAt21 =
     ∷ []
 
 pub starred : StarredExamples
-unfolding badStart restAt aWordAt eWordAt wordAt andThen expect expectDigit closeAt atomAt innerWith unaryWith binaryWith bodyWith formAt readRule lineCount constantWeight unaryWeight binaryWeight trueLines constantLines linesBefore linesAfter linesBetween linesAfterBoth linesAt startFrontier firstRecord openTable openRead openCall trailingZeros bit bytesOf valueOf number put involved count apply minus listOf allBelow anyBelow anyOf ready joinTo validBy lowest keyOf keyBefore badMask badClock badLabels stays enabledAt advanced filtered slotCounts mergeInto merge slots sought withoutLast consider gathered judgedBy lay stepped keptAfter fits frontierLength countBytes frontierBytes frontierFrom frontierAt frontiers framed windowBytes replaced before same atMost bisect gallop seek standsAt tableBytes goodLine goodFrom lineAt linesFrom propositionJudged notJudged andJudged eyJudged esJudged asJudged judgeLine judgeFrom takenCounts lastClocks tableLines pendingAt pendingEvents eventBytes inserted removed clocksSet counted badRecordLength badWindowLength roomOf badProcesses badState alreadyTaken conflicts conflicting placeAmong offerCall settingIn readyIn validIn tried stateOf decided takeWithin takeCall after run decisionOf ledgerAfter offeredLedger insertAt removeAt headed vectors sourceKeeps consistent redundant redundantWithin served taken clockOf event isNumber
+unfolding badStart restAt aWordAt eWordAt wordAt andThen expect expectDigit closeAt atomAt innerWith unaryWith binaryWith bodyWith formAt readRule lineCount constantWeight unaryWeight binaryWeight trueLines constantLines linesBefore linesAfter linesBetween linesAfterBoth linesAt startFrontier firstRecord openTable openRead openCall trailingZeros bit bytesOf valueOf number put involved count apply minus listOf allBelow anyBelow anyOf ready joinTo validBy lowest keyOf keyBefore badMask badClock badLabels stays enabledAt advanced filtered slotCounts mergeInto merge slots sought withoutLast consider gathered judgedBy lay stepped keptAfter fits frontierLength countBytes frontierBytes frontierFrom frontierAt frontiers framed windowBytes replaced before same standing bisect gallop seek tableBytes goodLine goodFrom lineAt linesFrom propositionJudged notJudged andJudged eyJudged esJudged asJudged judgeLine judgeFrom takenCounts lastClocks tableLines pendingAt pendingEvents eventBytes inserted removed clocksSet counted badRecordLength badWindowLength roomOf badProcesses badState alreadyTaken conflicts conflicting placeAmong offerCall settingIn readyIn validIn tried stateOf decided takeWithin takeCall after run decisionOf ledgerAfter offeredLedger insertAt removeAt headed vectors sourceKeeps consistent redundant redundantWithin served taken clockOf event isNumber
 starred =
     let ab : watch 2 someOrder (a1 ++ a2 ++ b1) .window ≡ windowBytes 2 200 frontiersAt21 = refl in
     let ba : watch 2 someOrder (b1 ++ a1 ++ a2) .window ≡ windowBytes 2 200 frontiersAt21 = refl in

@@ -1,52 +1,16 @@
-// Which frontiers stay, and how many there are after an event.
+// How many frontiers there are after an event, and what comes of each.
 
 use clocks::Event;
 ghost use Prim.Native.Nat.{ℕ, _+_, _*_, _≤_};
 ghost use mathlib.Core.Path.{_≡_};
-ghost use mathlib.Core.Bool.{not, _&&_};
 ghost use mathlib.Core.List.{List};
-ghost use lib.Dec.{eqb};
 ghost use lib.ListN.{length};
 ghost use Rattle.clocks.specs.Event.{one};
 ghost use Rattle.frontiers.specs.Width.{Width};
 ghost use Rattle.frontiers.specs.Bytes.{frontierLength, frontierAt, frontiers};
 ghost use Rattle.window.specs.Step.{keptAfter};
-ghost use Rattle.window.specs.StepCode.{settingWith, complete, staysWith};
+ghost use Rattle.window.specs.StepCode.{settingWith};
 ghost use Rattle.window.specs.Marks.{Marked};
-
-// Whether an open process has all its taken events.
-fn complete_at(closed: bool, count: u32, taken: u32) -> bool
-    ensures { λ r. ⌜ r ≡ (not closed && eqb count taken) ⌝ }
-{
-    if closed { false } else { count == taken }
-}
-
-// Whether some open process has all its taken events in the counts.
-fn is_complete(k: u32, closed: u64, reached: [u32; 8], counts: [u32; 8]) -> bool
-    requires { ⌜ k ≤ 8 ⌝ }
-    ensures { λ r. ⌜ r ≡ complete k closed reached counts ⌝ }
-{
-    let mut p: u32 = 0;
-    while p < k {
-        let i = p as usize;
-        if complete_at(codec::has_bit(closed, p), counts[i], reached[i]) {
-            return true;
-        }
-        p = p + 1;
-    }
-    false
-}
-
-// Whether a frontier with these counts stays.
-pub fn stays(k: u32, closed: u64, reached: [u32; 8], counts: [u32; 8]) -> bool
-    requires { ⌜ k ≤ 8 ⌝ }
-    ensures { λ r. ⌜ r ≡ staysWith k closed reached counts ⌝ }
-{
-    if is_complete(k, closed, reached, counts) {
-        return true;
-    }
-    frontiers::order::counts_same(counts, reached)
-}
 
 // 1 for yes, 0 for no.
 fn one_if(t: bool) -> usize
@@ -86,12 +50,15 @@ pub fn count_after(
     ensures { λ r. ⌜ r ≤ 2048 ⌝ }
     ensures { λ r. ⌜ ((table : List ℕ) (lines : ℕ) → Marked (settingWith k closed table lines e reached) w (now (window .entry)) n (now (marks .exit))) ⌝ }
 {
+    let low = crate::prepared::low_counts(e);
+    let high = crate::prepared::high_counts(e);
+    let opens = crate::prepared::open_ones(k, closed);
     let mut total = 0;
     let mut i = 0;
     while i < n {
         let counts = counts_at(window, w, i);
-        let here = one_if(stays(k, closed, reached, counts));
-        let there = one_if(clocks::step::ready(e, counts));
+        let here = one_if(crate::prepared::stays(opens, reached, counts));
+        let there = one_if(crate::prepared::within(low, high, counts));
         marks[i] = (here + 2 * there) as u8;
         total = total + here + there;
         i = i + 1;

@@ -5,8 +5,8 @@ pub mod gather;
 pub mod kept;
 pub mod lay;
 pub mod merge;
+pub mod prepared;
 pub mod step;
-pub mod tests;
 
 // What is gathered from the cuts that precede a new frontier: the OR and the AND of their values, and where each process's next look-up begins.
 pub struct Found {

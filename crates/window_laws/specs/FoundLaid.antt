@@ -45,8 +45,7 @@ module _ (W : World) (us : List Event) (laid : List Cut) (s : Sorted (W .stored)
   pub found-e : (key : List ℕ) (hint : ℕ) → let place = seek keys key hint in
       place < length laid → (R : Cut) × List·Memᴰ R laid × (key ≡ listOf (W .stored) R) × (valuesAt (map (frontierOf W us) laid) place ≡ frontierOf W us R .values)
   found-e key hint l =
-      let place = seek keys key hint in
-      (
+      let place = seek keys key hint in (
         getD laid place zeros,
         place-member laid place zeros l,
         sym (seek-ends keys key hint (omega (arith, many))) ∙ key-at place l,

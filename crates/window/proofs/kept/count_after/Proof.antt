@@ -8,6 +8,7 @@ use borrow.Author.Needs.{needs}
 use Rattle.window.proofs.kept.count_after.Statement.{statement}
 use Rattle.window.proofs.kept.count_after.Tie as tie
 use denote.Ref.{now}
+use Rattle.clocks.specs.declared.Event.{Event}
 use Rattle.clocks.specs.Event.{one}
 use Rattle.clocks.specs.Counts.{at}
 use Rattle.clocks.specs.Tested.{ready}
@@ -16,30 +17,40 @@ use Rattle.frontiers.specs.Bytes.{frontiers, frontierAt}
 use Rattle.window.specs.Step.{stays, enabledAt, keptAfter}
 use Rattle.window.specs.StepCode.{settingWith, staysWith}
 use Rattle.window.specs.StepCodeLaws.{keptAfter-none, keptAfter-more}
+use Rattle.window.specs.Prepared.{lowCounts, highCounts}
 use Rattle.window.specs.Marks.{Marked, marked-none, marked-more}
 
 abbrev Inv-loop : tie.InvT-loop
-Inv-loop window marks₀ w n k closed e reached total₀ i₀ marks total i =
+Inv-loop window marks₀ w n k closed reached low high opens total₀ i₀ marks total i =
     (i ≤ n) × (total ≤ 2 * i) × (length marks ≡ length marks₀)
-    × ((table : List ℕ) (lines : ℕ) → total ≡ keptAfter (settingWith k closed table lines e reached) (frontiers w window i))
-    × ((table : List ℕ) (lines : ℕ) → Marked (settingWith k closed table lines e reached) w window i marks)
+    × ((e : Event) (table : List ℕ) (lines : ℕ) → low ≡ lowCounts e → high ≡ highCounts e
+    → (total ≡ keptAfter (settingWith k closed table lines e reached) (frontiers w window i)) × Marked (settingWith k closed table lines e reached) w window i marks)
 
 abbrev μ-loop : tie.MeasureT-loop
-μ-loop window marks₀ w n k closed e reached total₀ i₀ marks total i = n - i
+μ-loop window marks₀ w n k closed reached low high opens total₀ i₀ marks total i = n - i
+
+low-counts-requires : tie.Need-low-counts-requires Inv-loop μ-loop
+low-counts-requires c κs = search needs
+
+high-counts-requires : tie.Need-high-counts-requires Inv-loop μ-loop
+high-counts-requires c κs = search needs
+
+open-ones-requires : tie.Need-open-ones-requires Inv-loop μ-loop
+open-ones-requires c κs = search needs
 
 loop-holds : tie.Need-loop-holds Inv-loop μ-loop
 loop-holds c =
-    let a = c .before .before .args in (
+    let a = c .before .before .before .before .before .args in (
       search needs,
       search needs,
       refl,
-      λ table lines. sym (keptAfter-none (settingWith (a .k) (a .closed) table lines (a .e) (a .reached)) (a .w) (now (a .window))),
-      λ table lines. marked-none (settingWith (a .k) (a .closed) table lines (a .e) (a .reached)) (a .w) (now (a .window)) (now (a .marks)),
+      λ e table lines p q. let s = settingWith (a .k) (a .closed) table lines e (a .reached) in
+          (sym (keptAfter-none s (a .w) (now (a .window))), marked-none s (a .w) (now (a .window)) (now (a .marks))),
     )
 
 counts-at-requires : tie.Need-counts-at-requires Inv-loop μ-loop
 counts-at-requires c κs =
-    let a = c .before .before .before .before .args in
+    let a = c .before .before .before .before .before .before .before .args in
     (search needs, (search needs, omega (arith, place-within (c .before .loop .i) (a .n) (a .w) (search needs))))
 
 stays-requires : tie.Need-stays-requires Inv-loop μ-loop
@@ -48,8 +59,8 @@ stays-requires c κs = search needs
 one-if-requires : tie.Need-one-if-requires Inv-loop μ-loop
 one-if-requires c κs = search needs
 
-ready-requires : tie.Need-ready-requires Inv-loop μ-loop
-ready-requires c κs = search needs
+within-requires : tie.Need-within-requires Inv-loop μ-loop
+within-requires c κs = search needs
 
 one-if-requires-2 : tie.Need-one-if-requires-2 Inv-loop μ-loop
 one-if-requires-2 c κs = search needs
@@ -81,18 +92,21 @@ loop-less c = search needs
 loop-again : tie.Need-loop-again Inv-loop μ-loop
 unfolding stays enabledAt
 loop-again c =
-    let a = c .before .before .before .before .before .before .before .before .before .args in
+    let b = c .before .before .before .before .before .before .before in
+    let a = b .before .before .before .before .before .args in
     let l = c .before .before .before .before .before .before .loop in
     let f = frontierAt (a .w) (now (a .window)) (l .i) in
     let here : c .before .before .one-if .result ≡ one (staysWith (a .k) (a .closed) (a .reached) (f .counts)) =
-    rw (c .before .before .one-if .ensures .0, c .before .before .before .stays .ensures, c .before .before .before .before .counts-at .ensures) in
-    let there : c .one-if2 .result ≡ one (ready 8 (a .e) (at (f .counts))) =
-    rw (c .one-if2 .ensures .0, c .before .ready .ensures, c .before .before .before .before .counts-at .ensures) in (
+    rw (c .before .before .one-if .ensures .0, c .before .before .before .stays .ensures (a .k) (a .closed) (search needs) (b .open-ones .ensures), c .before .before .before .before .counts-at .ensures) in (
       search needs,
       search needs,
       search needs,
-      λ table lines. rw (here, there, l .inv .3 table lines) (omega (arith, keptAfter-more (a .k) (a .closed) table lines (a .e) (a .reached) (a .w) (now (a .window)) (l .i))),
-      λ table lines. marked-more (settingWith (a .k) (a .closed) table lines (a .e) (a .reached)) (a .w) (now (a .window)) (l .i) (l .marks) _ (omega arith) (rw (here, there)) (l .inv .4 table lines),
+      λ e table lines p q. let there : c .one-if2 .result ≡ one (ready 8 e (at (f .counts))) =
+          rw (c .one-if2 .ensures .0, c .before .within .ensures e p q, c .before .before .before .before .counts-at .ensures) in
+          let old = l .inv .3 e table lines p q in (
+            rw (here, there, old .0) (omega (arith, keptAfter-more (a .k) (a .closed) table lines e (a .reached) (a .w) (now (a .window)) (l .i))),
+            marked-more (settingWith (a .k) (a .closed) table lines e (a .reached)) (a .w) (now (a .window)) (l .i) (l .marks) _ (omega arith) (rw (here, there)) (old .1),
+          ),
     )
 
 same-length : tie.Need-same-length Inv-loop μ-loop
@@ -100,8 +114,13 @@ same-length c = search needs
 
 returns : tie.Need-returns Inv-loop μ-loop
 returns c =
-    let e : c .before .loop .i ≡ c .before .before .before .before .args .n = omega arith in
-    (λ table lines. rw (← e) (c .before .loop .inv .3 table lines), (search needs, λ table lines. rw (← e) (c .before .loop .inv .4 table lines)))
+    let b = c .before .before in
+    let a = b .before .before .before .before .before .args in
+    let l = c .before .loop in
+    let e : l .i ≡ a .n = omega arith in
+    let low = b .before .before .low-counts .ensures in
+    let high = b .before .high-counts .ensures in
+    (λ table lines. rw (← e) (l .inv .3 (a .e) table lines low high .0), (search needs, λ table lines. rw (← e) (l .inv .3 (a .e) table lines low high .1)))
 
 pub count-after-spec : {M : Type 1} → statement M
 count-after-spec =
@@ -109,11 +128,14 @@ count-after-spec =
     (tie.spec
     Inv-loop
     μ-loop
+    low-counts-requires
+    high-counts-requires
+    open-ones-requires
     loop-holds
     counts-at-requires
     stays-requires
     one-if-requires
-    ready-requires
+    within-requires
     one-if-requires-2
     mul-marks
     add-marks

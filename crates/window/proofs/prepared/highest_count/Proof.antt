@@ -1,8 +1,8 @@
 -- The cases of the definition.
 use native.Mathlib.Omega.{arith}
 use borrow.Author.Needs.{needs}
-use Rattle.window.proofs.tests.highest_count.Statement.{statement}
-use Rattle.window.proofs.tests.highest_count.Tie as tie
+use Rattle.window.proofs.prepared.highest_count.Statement.{statement}
+use Rattle.window.proofs.prepared.highest_count.Tie as tie
 
 sub-result : tie.Need-sub-result
 sub-result c = search needs

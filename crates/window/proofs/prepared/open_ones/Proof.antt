@@ -8,8 +8,8 @@ use lib.Dec.{ltb}
 use lib.ListN.{length, getD}
 use Rattle.codec.specs.Bit.{bit}
 use Rattle.clocks.specs.CountsLaws.{filled, fill-next}
-use Rattle.window.proofs.tests.open_ones.Statement.{statement}
-use Rattle.window.proofs.tests.open_ones.Tie as tie
+use Rattle.window.proofs.prepared.open_ones.Statement.{statement}
+use Rattle.window.proofs.prepared.open_ones.Tie as tie
 
 abbrev Inv-loop : tie.InvT-loop
 Inv-loop k closed out₀ p₀ out p = (p ≤ 8) × (length out ≡ 8) × ((q : ℕ) → q < p → getD out q false ≡ (ltb q k && not (bit closed q)))

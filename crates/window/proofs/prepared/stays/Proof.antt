@@ -4,8 +4,8 @@ use mathlib.Core.Path.{_≡_, sym, _∙_}
 use mathlib.Core.Bool.{true, false}
 use Rattle.window.specs.StepCode.{complete}
 use Rattle.window.specs.StepCodeLaws.{same-all}
-use Rattle.window.proofs.tests.stays.Statement.{statement}
-use Rattle.window.proofs.tests.stays.Tie as tie
+use Rattle.window.proofs.prepared.stays.Statement.{statement}
+use Rattle.window.proofs.prepared.stays.Tie as tie
 
 some-complete-requires : tie.Need-some-complete-requires
 some-complete-requires c κs = search needs

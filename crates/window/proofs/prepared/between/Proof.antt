@@ -6,8 +6,8 @@ use mathlib.Core.Bool.{_&&_}
 use lib.Dec.{leb}
 use Rattle.window.specs.Prepared.{lowest}
 use Rattle.window.specs.PreparedLaws.{between-ready}
-use Rattle.window.proofs.tests.between.Statement.{statement}
-use Rattle.window.proofs.tests.between.Tie as tie
+use Rattle.window.proofs.prepared.between.Statement.{statement}
+use Rattle.window.proofs.prepared.between.Tie as tie
 
 returns : tie.Need-returns
 returns c = λ b n l h. let a = c .args in

@@ -13,8 +13,8 @@ use Rattle.clocks.specs.BoundedSteps.{all-none}
 use Rattle.clocks.specs.Tested.{readyAt, ready}
 use Rattle.window.specs.Prepared.{lowCounts, highCounts}
 use Rattle.window.specs.PreparedLaws.{all-more, lowCounts-at, highCounts-at}
-use Rattle.window.proofs.tests.within.Statement.{statement}
-use Rattle.window.proofs.tests.within.Tie as tie
+use Rattle.window.proofs.prepared.within.Statement.{statement}
+use Rattle.window.proofs.prepared.within.Tie as tie
 
 -- What the event asks of process p.
 abbrev test : Event → List ℕ → ℕ → Bool

@@ -1,8 +1,8 @@
 -- The cases of the definition.
 use borrow.Author.Needs.{needs}
 use borrow.Author.Tests.{eq-eqb, ne-eqb}
-use Rattle.window.proofs.tests.lowest_count.Statement.{statement}
-use Rattle.window.proofs.tests.lowest_count.Tie as tie
+use Rattle.window.proofs.prepared.lowest_count.Statement.{statement}
+use Rattle.window.proofs.prepared.lowest_count.Tie as tie
 
 sub-result : tie.Need-sub-result
 sub-result c = search needs

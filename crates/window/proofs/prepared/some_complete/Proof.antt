@@ -7,8 +7,8 @@ use mathlib.Core.Bool.{Bool, _||_}
 use Rattle.clocks.specs.Bounded.{anyBelow}
 use Rattle.clocks.specs.BoundedSteps.{any-none}
 use Rattle.window.specs.PreparedLaws.{completeIn, any-more, complete-open}
-use Rattle.window.proofs.tests.some_complete.Statement.{statement}
-use Rattle.window.proofs.tests.some_complete.Tie as tie
+use Rattle.window.proofs.prepared.some_complete.Statement.{statement}
+use Rattle.window.proofs.prepared.some_complete.Tie as tie
 
 abbrev Inv-loop : tie.InvT-loop
 Inv-loop opens reached counts some₀ p₀ some p = (p ≤ 8) × (some ≡ anyBelow p (completeIn opens reached counts))
