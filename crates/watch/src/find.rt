@@ -8,11 +8,36 @@ use records::refusal::bad_window_length;
 use records::refusal::room_of;
 ghost use Prim.Native.Nat.{_≤_, _<_, _*_};
 ghost use mathlib.Core.Path.{_≡_};
+ghost use mathlib.Core.Bool.{true};
 ghost use lib.ListN.{length};
 ghost use Rattle.frontiers.specs.Width.{Width};
-ghost use Rattle.frontiers.specs.Bytes.{frontierLength, frontiers};
+ghost use Rattle.frontiers.specs.Bytes.{frontierLength, frontierAt, frontiers};
+ghost use Rattle.codec.specs.Bit.{bit};
 ghost use Rattle.watch.specs.Find.{findFrom, findCall};
+ghost use Rattle.watch.specs.FindSteps.{replyFrom};
 ghost use Rattle.watch.specs.Answer.{replyWord};
+
+// The number of the first of so many frontiers at which a line holds; so many as there are for none.
+fn first_holding(w: usize, line: u32, window: &[u8], kept: usize) -> usize
+    requires { ⌜ Width w ⌝ }
+    requires { ⌜ line < 64 ⌝ }
+    requires { ⌜ kept ≤ 1024 ⌝ }
+    requires { ⌜ kept * frontierLength w ≤ length (now window) ⌝ }
+    ensures { λ r. ⌜ r ≤ kept ⌝ }
+    ensures { λ r. ⌜ replyFrom w line (now (window .entry)) kept 0 ≡ replyFrom w line (now (window .entry)) kept r ⌝ }
+    ensures { λ r. ⌜ (r < kept → bit (frontierAt w (now (window .entry)) r .values) line ≡ true) ⌝ }
+{
+    let mut i = 0;
+    while i < kept {
+        let place = frontiers::place::frontier_place(w, i);
+        let values = frontiers::stored::read_values(window, place, w);
+        if codec::has_bit(values, line) {
+            return i;
+        }
+        i += 1;
+    }
+    kept
+}
 
 // The reply for the first of so many frontiers at which a line holds.
 pub fn find_first(w: usize, line: u32, window: &[u8], kept: usize) -> u64
@@ -22,16 +47,12 @@ pub fn find_first(w: usize, line: u32, window: &[u8], kept: usize) -> u64
     requires { ⌜ kept * frontierLength w ≤ length (now window) ⌝ }
     ensures { λ r. ⌜ r ≡ replyWord (findFrom line 0 (frontiers w (now (window .entry)) kept)) ⌝ }
 {
-    let mut i = 0;
-    while i < kept {
-        let place = frontiers::place::frontier_place(w, i);
-        let values = frontiers::stored::read_values(window, place, w);
-        if codec::has_bit(values, line) {
-            return 256 + 65536 * (i as u64);
-        }
-        i += 1;
+    let i = first_holding(w, line, window, kept);
+    if i < kept {
+        256 + 65536 * (i as u64)
+    } else {
+        0
     }
-    0
 }
 
 // Finds the first kept frontier at which a line holds: the reply.
