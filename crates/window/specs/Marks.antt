@@ -1,13 +1,13 @@
 -- The marks of a step: one byte for each frontier that says what comes of it, left by the counting and read by the merge.
-use Prim.Native.Nat.{ℕ, _+_, _*_, _%_, _<_}
+use Prim.Native.Nat.{ℕ, _+_, _*_, _<_}
 use native.Mathlib.Omega.{arith}
 use native.Mathlib.Decide.{decLt}
 use mathlib.Core.Path.{_≡_, refl, ap, _∙_}
 use mathlib.Core.Bool.{Bool, true, false}
 use mathlib.Core.List.{List}
-use lib.Dec.{eqb, leb}
 use lib.ListN.{length, getD, set}
 use lib.Seq.{getD-set-same, getD-set-other}
+use Rattle.codec.specs.Bit.{bit}
 use Rattle.clocks.specs.Event.{one}
 use Rattle.frontiers.specs.declared.Frontier.{Frontier}
 use Rattle.frontiers.specs.Bytes.{frontierAt}
@@ -21,26 +21,32 @@ markOf s f = one (stays s f) + 2 * one (enabledAt s f)
 abbrev pub Marked : Setting → ℕ → List ℕ → ℕ → List ℕ → Type 0
 Marked s w window n marks = (i : ℕ) → i < n → getD marks i 0 ≡ markOf s (frontierAt w window i)
 
--- ---- What a mark says
+-- A bit of the marks tells a test of the frontiers.
+abbrev pub Tells : ℕ → (Frontier → Bool) → ℕ → List ℕ → ℕ → List ℕ → Type 0
+Tells p t w window n marks = (i : ℕ) → i < n → t (frontierAt w window i) ≡ bit (getD marks i 0) p
 
-staying-bit : (a b : Bool) → a ≡ eqb ((one a + 2 * one b) % 2) 1
+-- ---- What the two bits of a mark say
+
+staying-bit : (a b : Bool) → a ≡ bit (one a + 2 * one b) 0
+unfolding bit
 staying-bit true true = refl
 staying-bit true false = refl
 staying-bit false true = refl
 staying-bit false false = refl
 
-enabled-bit : (a b : Bool) → b ≡ leb 2 (one a + 2 * one b)
+enabled-bit : (a b : Bool) → b ≡ bit (one a + 2 * one b) 1
+unfolding bit
 enabled-bit true true = refl
 enabled-bit true false = refl
 enabled-bit false true = refl
 enabled-bit false false = refl
 
-module _ (s : Setting) (w : ℕ) (window : List ℕ) (n : ℕ) (marks : List ℕ) (M : Marked s w window n marks) (i : ℕ) (l : i < n) where
-  pub marked-stays : stays s (frontierAt w window i) ≡ eqb (getD marks i 0 % 2) 1
-  marked-stays = rw (M i l) (staying-bit (stays s (frontierAt w window i)) (enabledAt s (frontierAt w window i)))
+module _ (s : Setting) (w : ℕ) (window : List ℕ) (n : ℕ) (marks : List ℕ) (M : Marked s w window n marks) where
+  pub tells-stays : Tells 0 (stays s) w window n marks
+  tells-stays i l = rw (M i l) (staying-bit (stays s (frontierAt w window i)) (enabledAt s (frontierAt w window i)))
 
-  pub marked-enabled : enabledAt s (frontierAt w window i) ≡ leb 2 (getD marks i 0)
-  marked-enabled = rw (M i l) (enabled-bit (stays s (frontierAt w window i)) (enabledAt s (frontierAt w window i)))
+  pub tells-enabled : Tells 1 (enabledAt s) w window n marks
+  tells-enabled i l = rw (M i l) (enabled-bit (stays s (frontierAt w window i)) (enabledAt s (frontierAt w window i)))
 
 -- ---- One more mark
 

@@ -3,43 +3,42 @@
 use clocks::Event;
 ghost use Prim.Native.Nat.{ℕ, _+_, _*_, _≤_, _<_};
 ghost use mathlib.Core.Path.{_≡_};
-ghost use mathlib.Core.Bool.{true};
+ghost use mathlib.Core.Bool.{Bool, true};
 ghost use mathlib.Core.List.{List};
 ghost use lib.ListN.{length};
+ghost use Rattle.codec.specs.Bit.{bit};
+ghost use Rattle.frontiers.specs.declared.Frontier.{Frontier};
 ghost use Rattle.frontiers.specs.Width.{Width};
 ghost use Rattle.frontiers.specs.Bytes.{frontierLength, frontierAt, frontiers};
-ghost use Rattle.window.specs.Step.{Setting, stays, enabledAt, keptAfter, stepped};
+ghost use Rattle.window.specs.Step.{keptAfter, stepped};
 ghost use Rattle.window.specs.StepCode.{Fitting, settingWith};
 ghost use Rattle.window.specs.Laying.{takes, restOf, freshAt};
-ghost use Rattle.window.specs.Marks.{Marked};
+ghost use Rattle.window.specs.Marks.{Marked, Tells};
 
-// The first frontier from number i on that stays, by the marks; n for none.
-pub fn next_staying(marks: &[u8], n: usize, i: usize) -> usize
-    requires { ⌜ (n ≤ length (now marks)) × (i ≤ n) ⌝ }
-    ensures { λ r. ⌜ r ≤ n ⌝ }
-    ensures { λ r. ⌜ ((s : Setting) (w : ℕ) (window : List ℕ) → Marked s w window n (now (marks .entry)) → restOf (stays s) w window n i ≡ restOf (stays s) w window n r) ⌝ }
-    ensures { λ r. ⌜ ((s : Setting) (w : ℕ) (window : List ℕ) → Marked s w window n (now (marks .entry)) → r < n → stays s (frontierAt w window r) ≡ true) ⌝ }
+// The bits of a mark: the frontier stays; the event leads on from it.
+const STAYS: u32 = 0;
+
+const LEADS: u32 = 1;
+
+// Whether a mark has bit p.
+fn is_marked(mark: u8, p: u32) -> bool
+    requires { ⌜ p < 64 ⌝ }
+    ensures { λ r. ⌜ r ≡ bit mark p ⌝ }
 {
-    let mut next = i;
-    while next < n {
-        if marks[next] % 2 == 1 {
-            return next;
-        }
-        next = next + 1;
-    }
-    n
+    codec::has_bit(mark as u64, p)
 }
 
-// The first frontier from number j on at which the event is enabled, by the marks; n for none.
-pub fn next_enabled(marks: &[u8], n: usize, j: usize) -> usize
-    requires { ⌜ (n ≤ length (now marks)) × (j ≤ n) ⌝ }
+// The first frontier from a number on whose mark has bit p; n for none.
+pub fn next_marked(marks: &[u8], n: usize, from: usize, p: u32) -> usize
+    requires { ⌜ (n ≤ length (now marks)) × (from ≤ n) ⌝ }
+    requires { ⌜ p < 64 ⌝ }
     ensures { λ r. ⌜ r ≤ n ⌝ }
-    ensures { λ r. ⌜ ((s : Setting) (w : ℕ) (window : List ℕ) → Marked s w window n (now (marks .entry)) → restOf (enabledAt s) w window n j ≡ restOf (enabledAt s) w window n r) ⌝ }
-    ensures { λ r. ⌜ ((s : Setting) (w : ℕ) (window : List ℕ) → Marked s w window n (now (marks .entry)) → r < n → enabledAt s (frontierAt w window r) ≡ true) ⌝ }
+    ensures { λ r. ⌜ ((t : Frontier → Bool) (w : ℕ) (window : List ℕ) → Tells p t w window n (now (marks .entry)) → restOf t w window n from ≡ restOf t w window n r) ⌝ }
+    ensures { λ r. ⌜ ((t : Frontier → Bool) (w : ℕ) (window : List ℕ) → Tells p t w window n (now (marks .entry)) → r < n → t (frontierAt w window r) ≡ true) ⌝ }
 {
-    let mut next = j;
+    let mut next = from;
     while next < n {
-        if 2 <= marks[next] {
+        if is_marked(marks[next], p) {
             return next;
         }
         next = next + 1;
@@ -95,8 +94,8 @@ pub fn lay_all(
     let mask = e.mask;
     let full = crate::advance::full_bytes(mask);
     let mut hints = [0usize; 8];
-    let mut i = next_staying(marks, n, 0);
-    let mut j = next_enabled(marks, n, 0);
+    let mut i = next_marked(marks, n, 0, STAYS);
+    let mut j = next_marked(marks, n, 0, LEADS);
     let mut m = 0;
     while m < kept {
         if fresh_first(window, w, n, i, j, e) {
@@ -114,11 +113,11 @@ pub fn lay_all(
                 hints,
             );
             hints = ended;
-            j = next_enabled(marks, n, j + 1);
+            j = next_marked(marks, n, j + 1, LEADS);
             m = m + 1;
         } else {
             crate::lay::lay_staying(window, scratch, w, i, m);
-            i = next_staying(marks, n, i + 1);
+            i = next_marked(marks, n, i + 1, STAYS);
             m = m + 1;
         }
     }

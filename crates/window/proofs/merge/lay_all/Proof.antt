@@ -12,9 +12,9 @@ use denote.Ref.{now}
 use Rattle.frontiers.specs.Bytes.{frontiers}
 use Rattle.frontiers.specs.WindowLaws.{place-within}
 use Rattle.window.specs.StepCode.{settingWith}
-use Rattle.window.specs.Step.{enabledAt, keptAfter}
+use Rattle.window.specs.Step.{stays, enabledAt, keptAfter}
 use Rattle.window.specs.Laying.{Laying}
-use Rattle.window.specs.Marks.{Marked}
+use Rattle.window.specs.Marks.{Marked, tells-stays, tells-enabled}
 use Rattle.window.specs.LayingLaws.{laying-start, staying-left, leading-left, laid-staying, laid-fresh, laid-all}
 use Rattle.clocks.specs.EventLaws.{true-T}
 use Rattle.clocks.specs.Counts.{listOf}
@@ -32,11 +32,11 @@ abbrev μ-loop : tie.MeasureT-loop
 full-bytes-requires : tie.Need-full-bytes-requires Inv-loop μ-loop
 full-bytes-requires c κs = search needs
 
-next-staying-requires : tie.Need-next-staying-requires Inv-loop μ-loop
-next-staying-requires c κs = search needs
+next-marked-requires : tie.Need-next-marked-requires Inv-loop μ-loop
+next-marked-requires c κs = search needs
 
-next-enabled-requires : tie.Need-next-enabled-requires Inv-loop μ-loop
-next-enabled-requires c κs = search needs
+next-marked-requires-2 : tie.Need-next-marked-requires-2 Inv-loop μ-loop
+next-marked-requires-2 c κs = search needs
 
 loop-holds : tie.Need-loop-holds Inv-loop μ-loop
 unfolding frontiers listOf
@@ -44,12 +44,12 @@ loop-holds c =
     let a = c .before .before .before .before .before .before .before .args in (
       search needs,
       refl,
-      c .before .next-staying .ensures .0,
-      c .next-enabled .ensures .0,
+      c .before .next-marked .ensures .0,
+      c .next-marked2 .ensures .0,
       λ reached M q. let s = settingWith (a .k) (a .closed) (now (a .table)) (a .lines) (a .e) reached in
           laying-start s refl (a .w) (now (a .window)) (a .n) (a .kept) q
-          (c .before .next-staying .result) (c .before .next-staying .ensures .0) (c .before .next-staying .ensures .1 .0 s (a .w) (now (a .window)) M) (c .before .next-staying .ensures .1 .1 s (a .w) (now (a .window)) M)
-          (c .next-enabled .result) (c .next-enabled .ensures .0) (c .next-enabled .ensures .1 .0 s (a .w) (now (a .window)) M) (c .next-enabled .ensures .1 .1 s (a .w) (now (a .window)) M),
+          (c .before .next-marked .result) (c .before .next-marked .ensures .0) (c .before .next-marked .ensures .1 .0 (stays s) (a .w) (now (a .window)) (tells-stays s (a .w) (now (a .window)) (a .n) (now (a .marks)) M)) (c .before .next-marked .ensures .1 .1 (stays s) (a .w) (now (a .window)) (tells-stays s (a .w) (now (a .window)) (a .n) (now (a .marks)) M))
+          (c .next-marked2 .result) (c .next-marked2 .ensures .0) (c .next-marked2 .ensures .1 .0 (enabledAt s) (a .w) (now (a .window)) (tells-enabled s (a .w) (now (a .window)) (a .n) (now (a .marks)) M)) (c .next-marked2 .ensures .1 .1 (enabledAt s) (a .w) (now (a .window)) (tells-enabled s (a .w) (now (a .window)) (a .n) (now (a .marks)) M)),
     )
 
 -- The loop's invariant at the taken counts that the function is given.
@@ -81,14 +81,14 @@ lay-fresh-requires c κs =
     let room = place-within (l .m) (a .kept) (a .w) (search needs) in
     (p .0, (p .1 .0, ((omega arith, omega (arith, place-within (l .j) (a .n) (a .w) here)), ((omega arith, omega (arith, room)), (p .1 .1 .1 .1 .0, (p .1 .1 .1 .1 .1 .0, (true-T (laying (c .before .before .before) .leading-here here), c .before .before .before .before .before .before .before .full-bytes .ensures)))))))
 
-add-next-enabled : tie.Need-add-next-enabled Inv-loop μ-loop
-add-next-enabled c = let here = leading (c .before .before .before) in search needs
+add-next-marked : tie.Need-add-next-marked Inv-loop μ-loop
+add-next-marked c = let here = leading (c .before .before .before) in search needs
 
-next-enabled-requires-2 : tie.Need-next-enabled-requires-2 Inv-loop μ-loop
-next-enabled-requires-2 c κs = let here = leading (c .before .before .before) in (c .before .before .before .before .before .before .before .before .before .before .before .before .before .before .before .pre .1 .1 .1 .1 .1 .1 .1 .0, omega arith)
+next-marked-requires-3 : tie.Need-next-marked-requires-3 Inv-loop μ-loop
+next-marked-requires-3 c κs = let here = leading (c .before .before .before) in ((c .before .before .before .before .before .before .before .before .before .before .before .before .before .before .before .pre .1 .1 .1 .1 .1 .1 .1 .0, omega arith), omega arith)
 
 add-m : tie.Need-add-m Inv-loop μ-loop
-add-m c = search needs
+add-m c = let room = c .before .before .before .before .before .before .before .before .before .before .before .before .before .before .before .before .pre .1 .1 .1 .0 .0 in search needs
 
 loop-less : tie.Need-loop-less Inv-loop μ-loop
 loop-less c = search needs
@@ -100,12 +100,12 @@ loop-again c =
       search needs,
       search needs,
       search needs,
-      c .next-enabled2 .ensures .0,
+      c .next-marked3 .ensures .0,
       λ reached M q. let s = settingWith (a .k) (a .closed) (now (a .table)) (a .lines) (a .e) reached in
           laid-fresh s (a .e) refl refl (a .w) (now (a .window)) (a .n) (a .kept) (frontiers (a .w) (l .scratch) (l .m)) (l .hints) (l .i) (l .j) (l .m) (l .inv .4 reached M q) (search needs) (sym (c .before .before .before .before .before .before .fresh-first .ensures) ∙ c .before .before .before .before .before .if1 .taken)
           (frontiers (a .w) (c .before .before .before .lay-fresh .last .1 .0) (l .m + 1)) (c .before .before .before .lay-fresh .ensures .1 (a .closed) reached)
           (c .before .before .before .lay-fresh .result) (c .before .before .before .lay-fresh .ensures .0 (a .closed) reached)
-          (c .next-enabled2 .result) (c .next-enabled2 .ensures .0) (c .next-enabled2 .ensures .1 .0 s (a .w) (now (a .window)) M) (c .next-enabled2 .ensures .1 .1 s (a .w) (now (a .window)) M),
+          (c .next-marked3 .result) (c .next-marked3 .ensures .0) (c .next-marked3 .ensures .1 .0 (enabledAt s) (a .w) (now (a .window)) (tells-enabled s (a .w) (now (a .window)) (a .n) (now (a .marks)) M)) (c .next-marked3 .ensures .1 .1 (enabledAt s) (a .w) (now (a .window)) (tells-enabled s (a .w) (now (a .window)) (a .n) (now (a .marks)) M)),
     )
 
 -- Where none comes first, there is one that stays.
@@ -124,11 +124,11 @@ lay-staying-requires c κs =
     let room = place-within (l .m) (a .kept) (a .w) (search needs) in
     (p .0, ((omega arith, omega (arith, place-within (l .i) (a .n) (a .w) here)), (omega arith, omega (arith, room))))
 
-add-next-staying : tie.Need-add-next-staying Inv-loop μ-loop
-add-next-staying c = let here = remains (c .before .before .before) in search needs
+add-next-marked-2 : tie.Need-add-next-marked-2 Inv-loop μ-loop
+add-next-marked-2 c = let here = remains (c .before .before .before) in search needs
 
-next-staying-requires-2 : tie.Need-next-staying-requires-2 Inv-loop μ-loop
-next-staying-requires-2 c κs = let here = remains (c .before .before .before) in (c .before .before .before .before .before .before .before .before .before .before .before .before .before .before .before .pre .1 .1 .1 .1 .1 .1 .1 .0, omega arith)
+next-marked-requires-4 : tie.Need-next-marked-requires-4 Inv-loop μ-loop
+next-marked-requires-4 c κs = let here = remains (c .before .before .before) in ((c .before .before .before .before .before .before .before .before .before .before .before .before .before .before .before .pre .1 .1 .1 .1 .1 .1 .1 .0, omega arith), omega arith)
 
 add-m-2 : tie.Need-add-m-2 Inv-loop μ-loop
 add-m-2 c = search needs
@@ -142,12 +142,12 @@ loop-again-2 c =
     let l = c .before .before .before .before .before .before .before .before .loop in (
       search needs,
       search needs,
-      c .next-staying2 .ensures .0,
+      c .next-marked4 .ensures .0,
       search needs,
       λ reached M q. let s = settingWith (a .k) (a .closed) (now (a .table)) (a .lines) (a .e) reached in
           laid-staying s (a .e) refl refl (a .w) (now (a .window)) (a .n) (a .kept) (frontiers (a .w) (l .scratch) (l .m)) (l .hints) (l .i) (l .j) (l .m) (l .inv .4 reached M q) (search needs) (sym (c .before .before .before .before .before .before .fresh-first .ensures) ∙ c .before .before .before .before .before .if1 .left)
           (frontiers (a .w) (c .before .before .before .lay-staying .last .1 .0) (l .m + 1)) (c .before .before .before .lay-staying .ensures)
-          (c .next-staying2 .result) (c .next-staying2 .ensures .0) (c .next-staying2 .ensures .1 .0 s (a .w) (now (a .window)) M) (c .next-staying2 .ensures .1 .1 s (a .w) (now (a .window)) M),
+          (c .next-marked4 .result) (c .next-marked4 .ensures .0) (c .next-marked4 .ensures .1 .0 (stays s) (a .w) (now (a .window)) (tells-stays s (a .w) (now (a .window)) (a .n) (now (a .marks)) M)) (c .next-marked4 .ensures .1 .1 (stays s) (a .w) (now (a .window)) (tells-stays s (a .w) (now (a .window)) (a .n) (now (a .marks)) M)),
     )
 
 same-length : tie.Need-same-length Inv-loop μ-loop
@@ -168,19 +168,19 @@ lay-all-spec =
     Inv-loop
     μ-loop
     full-bytes-requires
-    next-staying-requires
-    next-enabled-requires
+    next-marked-requires
+    next-marked-requires-2
     loop-holds
     fresh-first-requires
     lay-fresh-requires
-    add-next-enabled
-    next-enabled-requires-2
+    add-next-marked
+    next-marked-requires-3
     add-m
     loop-less
     loop-again
     lay-staying-requires
-    add-next-staying
-    next-staying-requires-2
+    add-next-marked-2
+    next-marked-requires-4
     add-m-2
     loop-less-2
     loop-again-2
