@@ -19,11 +19,11 @@ fn read_text(line: &[u8], k: u32) -> RuleRead
 {
     let mut table = [0u8; 192];
     if line.len() < 7 {
-        return rules::read_rule(b"", k, &mut table);
+        return rules::reading::read_rule(b"", k, &mut table);
     }
     let end = line.len() - 1;
     let text = &line[6..end];
-    rules::read_rule(text, k, &mut table)
+    rules::reading::read_rule(text, k, &mut table)
 }
 
 // The line's last byte, and before it the rule's own faults.

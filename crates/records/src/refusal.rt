@@ -105,7 +105,7 @@ pub fn bad_state(s: &[u8], w: usize, room: usize) -> bool
         return true;
     }
     let place = table_place(w);
-    !rules::good_table(k, &s[place..], lines)
+    !rules::table::good_table(k, &s[place..], lines)
 }
 
 // What 31 asks of one process: it takes part, and its count is taken.

@@ -47,9 +47,9 @@ fn print_judged(table: &[u8], lines: u32, labels: [u8; 8]) {
     if table.len() < 192 {
         return;
     }
-    print_number(rules::judge(table, lines, labels, 0, 0, false));
-    print_number(rules::judge(table, lines, labels, 0xaaaa_aaaa_aaaa_aaaa, 0, true));
-    print_number(rules::judge(
+    print_number(rules::judging::judge(table, lines, labels, 0, 0, false));
+    print_number(rules::judging::judge(table, lines, labels, 0xaaaa_aaaa_aaaa_aaaa, 0, true));
+    print_number(rules::judging::judge(
         table,
         lines,
         labels,
@@ -64,7 +64,7 @@ fn print_accepted(k: u32, table: &[u8], lines: u32) {
     print_number(lines as u64);
     if lines <= 64 {
         if table.len() == 192 {
-            if rules::good_table(k, table, lines) {
+            if rules::table::good_table(k, table, lines) {
                 io::write_all(OUT, b" good:");
             } else {
                 io::write_all(OUT, b" bad:");
@@ -82,7 +82,7 @@ fn print_accepted(k: u32, table: &[u8], lines: u32) {
 
 fn answer(k: u32, text: &[u8]) {
     let mut table = [255u8; 192];
-    let read = rules::read_rule(text, k, &mut table);
+    let read = rules::reading::read_rule(text, k, &mut table);
     match read {
         rules::RuleRead::Accepted { lines } => print_accepted(k, &table, lines),
         rules::RuleRead::Refused { number, place } => {
@@ -121,7 +121,7 @@ fn main() {
     answer_lines(&input[..n]);
     // a table of a wrong length
     let mut short = [7u8; 191];
-    let read = rules::read_rule(b"(true)", 1, &mut short);
+    let read = rules::reading::read_rule(b"(true)", 1, &mut short);
     if let rules::RuleRead::Refused { number, place } = read {
         print_number(number as u64);
         print_number(place as u64);

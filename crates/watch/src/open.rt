@@ -81,7 +81,7 @@ pub fn open_table(
     ensures bytes { λ r. ⌜ now (s .exit) ≡ openTable w (linesOf (now (table .entry)) lines) k labels (length (now (window .entry))) .bytes ⌝ }
     ensures window { λ r. ⌜ now (window .exit) ≡ openTable w (linesOf (now (table .entry)) lines) k labels (length (now (window .entry))) .window ⌝ }
 {
-    let values = rules::judge(table, lines, labels, 0, 0, false);
+    let values = rules::judging::judge(table, lines, labels, 0, 0, false);
     write_record(s, w, k, table, lines);
     write_window(window, w, labels, values);
     state_word(codec::has_bit(values, lines - 1), 1)
@@ -119,7 +119,7 @@ pub fn open(w: usize, rule: &[u8], k: u64, labels: [u8; 8], s: &mut [u8], window
         return fault;
     }
     let mut table = [0u8; 192];
-    let read = rules::read_rule(rule, k as u32, &mut table);
+    let read = rules::reading::read_rule(rule, k as u32, &mut table);
     match read {
         RuleRead::Refused { number, place } => turned_word(number, place),
         RuleRead::Accepted { lines } => open_table(w, k as u32, labels, &table, lines, s, window),

@@ -70,7 +70,7 @@ pub fn lay_fresh(
     let counts = g.counts;
     let labels = g.labels;
     let masks = g.masks;
-    let values = rules::judge(table, lines, labels, ors, ands, true);
+    let values = rules::judging::judge(table, lines, labels, ors, ands, true);
     let judged = Frontier {
         counts,
         labels,
