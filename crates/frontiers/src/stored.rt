@@ -8,7 +8,7 @@ ghost use lib.Seq.{sets};
 ghost use Rattle.codec.specs.Little.{number};
 ghost use Rattle.clocks.specs.Counts.{at};
 ghost use Rattle.frontiers.specs.Width.{Width};
-ghost use Rattle.frontiers.specs.Bytes.{frontierLength, frontierBytes, frontierFrom};
+ghost use Rattle.frontiers.specs.Bytes.{frontierLength, frontierBytes, frontierFrom, frontierAt};
 
 // Eight bytes from a place on.
 pub fn read_eight(s: &[u8], place: usize) -> [u8; 8]
@@ -43,6 +43,17 @@ pub fn read_values(s: &[u8], place: usize, w: usize) -> u64
     ensures { λ r. ⌜ r ≡ frontierFrom w (now (s .entry)) place .values ⌝ }
 {
     codec::read_u64(s, place + 8 * w + 16)
+}
+
+// The values of frontier number i.
+pub fn values_at(s: &[u8], w: usize, i: usize) -> u64
+    requires { ⌜ Width w ⌝ }
+    requires { ⌜ i ≤ 1024 ⌝ }
+    requires { ⌜ i * frontierLength w + frontierLength w ≤ length (now s) ⌝ }
+    ensures { λ r. ⌜ r ≡ frontierAt w (now (s .entry)) i .values ⌝ }
+{
+    let place = crate::place::frontier_place(w, i);
+    read_values(s, place, w)
 }
 
 // The frontier whose bytes begin at a place.

@@ -2,13 +2,16 @@
 use Prim.Native.Nat.{ℕ, _+_, _*_, _≤_, _<_}
 use native.Mathlib.Omega.{arith}
 use native.Mathlib.Nat.{le-div-iff-mul-le}
-use mathlib.Core.Path.{_≡_}
+use mathlib.Core.Path.{_≡_, sym, ap, _∙_}
 use mathlib.Core.Bool.{true, false}
 use mathlib.Core.List.{List}
+use lib.Bits.{bitOr}
 use lib.ListN.{drop}
 use Rattle.codec.specs.Bit.{bit}
+use Rattle.codec.specs.BitLaws.{bit-or}
 use Rattle.frontiers.specs.Bytes.{frontierAt, frontiers, frontierLength}
 use Rattle.records.specs.ListSteps.{rest-next, rest-end}
+use Rattle.records.specs.RefusalSteps.{or-false-e}
 use Rattle.watch.specs.Find.{findFrom}
 use Rattle.watch.specs.Answer.{replyWord}
 use Rattle.records.specs.Refusals.{roomOf}
@@ -31,6 +34,31 @@ module _ (w line : ℕ) (window : List ℕ) (kept i : ℕ) where
   pub find-none : kept ≤ i → replyFrom w line window kept i ≡ 0
   unfolding findFrom frontiers replyWord
   find-none l = rw (rest-end kept (frontierAt w window) i l)
+
+-- ---- Four frontiers at once
+
+-- The bits that any of four frontiers has in its values, from number i on.
+abbrev pub fourValues : ℕ → List ℕ → ℕ → ℕ
+fourValues w window i =
+    bitOr (bitOr (frontierAt w window i .values) (frontierAt w window (i + 1) .values)) (bitOr (frontierAt w window (i + 2) .values) (frontierAt w window (i + 3) .values))
+
+pub find-further-four : (w line : ℕ) (window : List ℕ) (kept i : ℕ) → i + 4 ≤ kept → bit (fourValues w window i) line ≡ false
+    → replyFrom w line window kept i ≡ replyFrom w line window kept (i + 4)
+find-further-four w line window kept i l h =
+    let halves : (bit (bitOr (v i) (v (i + 1))) line ≡ false) × (bit (bitOr (v (i + 2)) (v (i + 3))) line ≡ false) = neither (bitOr (v i) (v (i + 1))) (bitOr (v (i + 2)) (v (i + 3))) h in
+    let front : (bit (v i) line ≡ false) × (bit (v (i + 1)) line ≡ false) = neither (v i) (v (i + 1)) (halves .0) in
+    let back : (bit (v (i + 2)) line ≡ false) × (bit (v (i + 3)) line ≡ false) = neither (v (i + 2)) (v (i + 3)) (halves .1) in
+    further i (i + 1) (omega arith) (omega arith) (front .0) ∙ further (i + 1) (i + 2) (omega arith) (omega arith) (front .1)
+    ∙ further (i + 2) (i + 3) (omega arith) (omega arith) (back .0) ∙ further (i + 3) (i + 4) (omega arith) (omega arith) (back .1)
+  where
+    v : ℕ → ℕ
+    v j = frontierAt w window j .values
+
+    neither : (a b : ℕ) → bit (bitOr a b) line ≡ false → (bit a line ≡ false) × (bit b line ≡ false)
+    neither a b e = or-false-e (bit a line) (bit b line) (sym (bit-or a b line) ∙ e)
+
+    further : (j k : ℕ) → j < kept → j + 1 ≡ k → bit (v j) line ≡ false → replyFrom w line window kept j ≡ replyFrom w line window kept k
+    further j k b q e = find-further w line window kept j b e ∙ ap (replyFrom w line window kept) q
 
 -- As many frontiers as there is room for lie within the window.
 pub room-within : (w kept n : ℕ) → kept ≤ roomOf w n → kept * frontierLength w ≤ n

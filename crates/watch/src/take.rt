@@ -159,8 +159,7 @@ fn verdict(window: &[u8], w: usize, kept: usize, lines: u32) -> bool
     requires { ⌜ (1 ≤ lines) × (lines ≤ 64) ⌝ }
     ensures { λ r. ⌜ r ≡ bit (getD (map (λ f. f .values) (frontiers w (now (window .entry)) kept)) (kept - 1) 0) (lines - 1) ⌝ }
 {
-    let place = frontiers::place::frontier_place(w, kept - 1);
-    codec::has_bit(frontiers::stored::read_values(window, place, w), lines - 1)
+    codec::has_bit(frontiers::stored::values_at(window, w, kept - 1), lines - 1)
 }
 
 // Pending event number i leaves and is counted as taken.

@@ -2,11 +2,11 @@
 
 use crate::Found;
 use frontiers::Frontier;
-ghost use Prim.Native.Nat.{_+_, _*_, _≤_, _<_};
+ghost use Prim.Native.Nat.{_*_, _≤_, _<_};
 ghost use mathlib.Core.Path.{_≡_};
 ghost use lib.ListN.{length};
 ghost use Rattle.frontiers.specs.Width.{Width};
-ghost use Rattle.frontiers.specs.Bytes.{frontierLength, frontierAt, frontiers};
+ghost use Rattle.frontiers.specs.Bytes.{frontierLength, frontiers};
 ghost use Rattle.window.specs.Step.{Setting, gathered};
 ghost use Rattle.window.specs.StepCode.{soughtWith, gatheredOf};
 
@@ -23,17 +23,6 @@ fn is_sought(mask: u8, last: u8, p: u32) -> bool
         return false;
     }
     codec::lowest_bit(last) == p
-}
-
-// The values of frontier number i.
-fn values_at(s: &[u8], w: usize, i: usize) -> u64
-    requires { ⌜ Width w ⌝ }
-    requires { ⌜ i ≤ 1024 ⌝ }
-    requires { ⌜ i * frontierLength w + frontierLength w ≤ length (now s) ⌝ }
-    ensures { λ r. ⌜ r ≡ frontierAt w (now (s .entry)) i .values ⌝ }
-{
-    let place = frontiers::place::frontier_place(w, i);
-    frontiers::stored::read_values(s, place, w)
 }
 
 // All of the k processes that are sought are considered, each looked up from its hint among the m frontiers laid down; the frontier that
@@ -66,7 +55,7 @@ pub fn gather(
             let key = clocks::step::minus(last, counts);
             let place = frontiers::lookup::seek(scratch, w, m, key, begins[i]);
             if place < m {
-                let values = values_at(scratch, w, place);
+                let values = frontiers::stored::values_at(scratch, w, place);
                 ors = codec::or_words(ors, values);
                 ands = codec::and_words(ands, values);
                 begins[i] = place + 1;

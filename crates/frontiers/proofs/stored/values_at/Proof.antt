@@ -2,10 +2,10 @@
 use mathlib.Core.Path.{ap, _∙_}
 use Prim.Native.Nat.{ℕ}
 use borrow.Author.Needs.{needs}
-use Rattle.window.proofs.gather.values_at.Statement.{statement}
-use Rattle.window.proofs.gather.values_at.Tie as tie
+use Rattle.frontiers.proofs.stored.values_at.Statement.{statement}
+use Rattle.frontiers.proofs.stored.values_at.Tie as tie
 use denote.Ref.{now}
 use Rattle.frontiers.specs.Bytes.{frontierAt, frontierFrom}
 
 frontier-place-requires : tie.Need-frontier-place-requires
 frontier-place-requires c κs = search needs
