@@ -104,9 +104,6 @@ before-asym a b t u = before-irrefl a (before-trans a b a t u)
 pub before-differ : (a b : List ℕ) → T (before a b) → a ≡ b → ⊥
 before-differ a b t e = before-irrefl b (rw e at t)
 
-pub before-not-same : (a b : List ℕ) → T (before a b) → T (same a b) → ⊥
-before-not-same a b t s = before-differ a b t (same-e a b s)
-
 -- Not before, of lists of one length: the same or after.
 pub not-before : (a b : List ℕ) → length a ≡ length b → (T (before a b) → ⊥) → (a ≡ b) ⊎ T (before b a)
 not-before a b e n = go (before-total a b e)

@@ -65,7 +65,7 @@ pub fn fresh_first(window: &[u8], w: usize, n: usize, i: usize, j: usize, e: Eve
     frontiers::order::counts_before(there, here)
 }
 
-// Lays down in the scratch all frontiers that there are after the event, by the marks; k, closed and reached only say what was marked.
+// Lays down in the scratch all frontiers that there are after the event, by the marks; closed and reached only say what was marked.
 pub fn lay_all(
     window: &[u8],
     marks: &[u8],

@@ -8,7 +8,6 @@ pub mod Unique
 pub mod Verdict
 -- What leads to them
 pub mod OrderCuts
-pub mod AscendingLaws
 pub mod MergeLaws
 pub mod FrontierLaws
 pub mod FoundLaid
