@@ -2,7 +2,7 @@
 use Prim.Native.Nat.{ℕ, _+_, _<_}
 use native.Mathlib.Numerals.{add-one}
 use mathlib.Core.Path.{_≡_, refl, sym, _∙_}
-use mathlib.Core.Bool.{Bool, true, false, true≢false}
+use mathlib.Core.Bool.{Bool, true, false, _&&_, _||_, true≢false}
 use mathlib.Core.Logic.{⊎-elim}
 use Rattle.clocks.specs.Bounded.{allBelow, anyBelow}
 use Rattle.clocks.specs.BoundedLaws.{all-e, any-i, any-e}
@@ -17,6 +17,11 @@ pub all-next : (i : ℕ) (t : ℕ → Bool) → allBelow i t ≡ true → t i �
 unfolding allBelow
 all-next i t h e = rw (add-one, e) h
 
+-- ... for a loop that looks at every number
+pub all-more : (i : ℕ) (t : ℕ → Bool) → (t i && allBelow i t) ≡ allBelow (i + 1) t
+unfolding allBelow
+all-more i t = rw add-one
+
 -- ... and one that stops at a number that fails knows the answer
 pub all-stop : (n i : ℕ) (t : ℕ → Bool) → i < n → t i ≡ false → allBelow n t ≡ false
 all-stop n i t l e = ⊎-elim (λ a. absurd (true≢false (sym (T-true (t i) (all-e n t (true-T a) i l)) ∙ e))) (λ a. a) (either (allBelow n t))
@@ -29,6 +34,10 @@ any-none t = refl
 pub any-next : (i : ℕ) (t : ℕ → Bool) → anyBelow i t ≡ false → t i ≡ false → anyBelow (i + 1) t ≡ false
 unfolding anyBelow
 any-next i t h e = rw (add-one, e) h
+
+pub any-more : (i : ℕ) (t : ℕ → Bool) → (t i || anyBelow i t) ≡ anyBelow (i + 1) t
+unfolding anyBelow
+any-more i t = rw add-one
 
 pub any-stop : (n i : ℕ) (t : ℕ → Bool) → i < n → t i ≡ true → anyBelow n t ≡ true
 any-stop n i t l e = T-true (anyBelow n t) (any-i n t i l (true-T e))

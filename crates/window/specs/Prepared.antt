@@ -28,12 +28,12 @@ lowest b n = cond b (cond (eqb n 0) 1 (n - 1)) n
 abbrev pub highest : Bool → ℕ → ℕ
 highest b n = cond b (n - 1) 4294967295
 
--- Those of each process.
-abbrev pub lowCounts : Event → List ℕ
-lowCounts e = listOf 8 (λ p. lowest (involved e p) (count e p))
+-- The highest, or else the lowest; and those of each process.
+abbrev pub bound : Bool → Bool → ℕ → ℕ
+bound high b n = cond high (highest b n) (lowest b n)
 
-abbrev pub highCounts : Event → List ℕ
-highCounts e = listOf 8 (λ p. highest (involved e p) (count e p))
+abbrev pub boundCounts : Bool → Event → List ℕ
+boundCounts high e = listOf 8 (λ p. bound high (involved e p) (count e p))
 
 -- Which of the eight are among the k processes, and open.
 abbrev pub openOnes : ℕ → ℕ → List Bool

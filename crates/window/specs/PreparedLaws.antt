@@ -14,13 +14,17 @@ use Rattle.codec.specs.Bit.{bit}
 use Rattle.clocks.specs.declared.Event.{Event}
 use Rattle.clocks.specs.Event.{involved, count}
 use Rattle.clocks.specs.EventLaws.{true-T}
-use Rattle.clocks.specs.Counts.{at}
+use Rattle.clocks.specs.Counts.{at, listOf}
 use Rattle.clocks.specs.CountsLaws.{getD-listOf}
 use Rattle.clocks.specs.Bounded.{allBelow, anyBelow}
 use Rattle.clocks.specs.BoundedLaws.{and-i, and-l, and-r, same-test, any-i, any-e}
 use Rattle.clocks.specs.Tested.{readyAt}
 use Rattle.window.specs.StepCode.{completeAt, complete}
-use Rattle.window.specs.Prepared.{fullByte, fullBytes, lowest, highest, lowCounts, highCounts, openOnes}
+use Rattle.window.specs.Prepared.{fullByte, lowest, highest, openOnes}
+
+-- What was made for process p.
+pub made-at : {A : Type 0} (xs : List A) (f : ℕ → A) (d : A) (p : ℕ) → xs ≡ listOf 8 f → p < 8 → getD xs p d ≡ f p
+made-at {A} xs f d p e l = ap (λ (ys : List A). getD ys p d) e ∙ getD-listOf 8 f p d l
 
 -- ---- Choosing by a full or an empty byte
 and-full : (a : ℕ) → a < 256 → bitAnd a 255 ≡ a
@@ -29,9 +33,6 @@ and-full a h = and-mask a 8 ∙ mod-eq-of-lt h
 pub chosen-byte : (first : Bool) (a b : ℕ) → a < 256 → b < 256 → bitOr (bitAnd a (fullByte first)) (bitAnd b (bitXor 255 (fullByte first))) ≡ cond first a b
 chosen-byte true a b h l = rw (and-full a h, and-zero-r, or-zero-r)
 chosen-byte false a b h l = rw (and-zero-r, and-full b l)
-
-pub fullBytes-at : (mask : ℕ) (full : List ℕ) (p : ℕ) → full ≡ fullBytes mask → p < 8 → getD full p 0 ≡ fullByte (bit mask p)
-fullBytes-at mask full p e l = ap (λ (bs : List ℕ). getD bs p 0) e ∙ getD-listOf 8 (λ q. fullByte (bit mask q)) p 0 l
 
 -- ---- Counts within an event's bounds
 pub between-ready : (b : Bool) (n c : ℕ) → c < 4294967296 → (leb (lowest b n) c && leb c (highest b n)) ≡ readyAt b n c
@@ -48,28 +49,10 @@ between-ready true (suc n) c h =
     (λ t. true-T (eq-eqb (suc n) (c + 1) (omega (arith, leb→le n c (and-l (leb n c) (leb c n) t), leb→le c n (and-r (leb n c) (leb c n) t)))))
     (λ t. and-i (leb n c) (leb c n) (le→leb n c (omega (arith, eqb→eq (suc n) (c + 1) t))) (le→leb c n (omega (arith, eqb→eq (suc n) (c + 1) t)))))
 
-pub lowCounts-at : (e : Event) (low : List ℕ) (p : ℕ) → low ≡ lowCounts e → p < 8 → getD low p 0 ≡ lowest (involved e p) (count e p)
-lowCounts-at e low p h l = ap (λ (cs : List ℕ). getD cs p 0) h ∙ getD-listOf 8 (λ q. lowest (involved e q) (count e q)) p 0 l
-
-pub highCounts-at : (e : Event) (high : List ℕ) (p : ℕ) → high ≡ highCounts e → p < 8 → getD high p 0 ≡ highest (involved e p) (count e p)
-highCounts-at e high p h l = ap (λ (cs : List ℕ). getD cs p 0) h ∙ getD-listOf 8 (λ q. highest (involved e q) (count e q)) p 0 l
-
--- ---- The tests of a loop that looks at every process
-pub all-more : (i : ℕ) (t : ℕ → Bool) → (t i && allBelow i t) ≡ allBelow (i + 1) t
-unfolding allBelow
-all-more i t = rw add-one
-
-pub any-more : (i : ℕ) (t : ℕ → Bool) → (t i || anyBelow i t) ≡ anyBelow (i + 1) t
-unfolding anyBelow
-any-more i t = rw add-one
-
 -- ---- Complete at an open process
 -- What a list of the open ones says of process p.
 abbrev pub completeIn : List Bool → List ℕ → List ℕ → ℕ → Bool
 completeIn opens reached counts p = getD opens p false && eqb (at counts p) (at reached p)
-
-openOnes-at : (k closed : ℕ) (opens : List Bool) (p : ℕ) → opens ≡ openOnes k closed → p < 8 → getD opens p false ≡ (ltb p k && not (bit closed p))
-openOnes-at k closed opens p e l = ap (λ (bs : List Bool). getD bs p false) e ∙ getD-listOf 8 (λ q. ltb q k && not (bit closed q)) p false l
 
 pub complete-open : (k closed : ℕ) (opens : List Bool) (reached counts : List ℕ) → k ≤ 8 → opens ≡ openOnes k closed
     → anyBelow 8 (completeIn opens reached counts) ≡ complete k closed reached counts
@@ -77,10 +60,10 @@ complete-open k closed opens reached counts h e =
     same-test _ _ (λ t. fewer (any-e 8 (completeIn opens reached counts) t)) (λ t. more (any-e k (completeAt closed reached counts) t))
   where
     there : (p : ℕ) → p < 8 → T (completeIn opens reached counts p) → T ((ltb p k && not (bit closed p)) && eqb (at counts p) (at reached p))
-    there p l = subst (λ (b : Bool). T (b && eqb (at counts p) (at reached p))) (openOnes-at k closed opens p e l)
+    there p l = subst (λ (b : Bool). T (b && eqb (at counts p) (at reached p))) (made-at opens (λ q. ltb q k && not (bit closed q)) false p e l)
 
     back : (p : ℕ) → p < 8 → T ((ltb p k && not (bit closed p)) && eqb (at counts p) (at reached p)) → T (completeIn opens reached counts p)
-    back p l = subst (λ (b : Bool). T (b && eqb (at counts p) (at reached p))) (sym (openOnes-at k closed opens p e l))
+    back p l = subst (λ (b : Bool). T (b && eqb (at counts p) (at reached p))) (sym (made-at opens (λ q. ltb q k && not (bit closed q)) false p e l))
 
     fewer : (p : ℕ) × (p < 8) × T (completeIn opens reached counts p) → T (complete k closed reached counts)
     fewer w =

@@ -50,8 +50,8 @@ pub fn count_after(
     ensures { λ r. ⌜ r ≤ 2048 ⌝ }
     ensures { λ r. ⌜ ((table : List ℕ) (lines : ℕ) → Marked (settingWith k closed table lines e reached) w (now (window .entry)) n (now (marks .exit))) ⌝ }
 {
-    let low = crate::prepared::low_counts(e);
-    let high = crate::prepared::high_counts(e);
+    let low = crate::prepared::bound_counts(e, false);
+    let high = crate::prepared::bound_counts(e, true);
     let opens = crate::prepared::open_ones(k, closed);
     let mut total = 0;
     let mut i = 0;

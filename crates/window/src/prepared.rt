@@ -3,13 +3,13 @@
 use clocks::Event;
 ghost use Prim.Native.Nat.{ℕ, _≤_};
 ghost use mathlib.Core.Path.{_≡_};
-ghost use mathlib.Core.Bool.{Bool, not, _&&_};
+ghost use mathlib.Core.Bool.{Bool, true, false, not, _&&_};
 ghost use lib.Dec.{eqb, ltb};
 ghost use Rattle.clocks.specs.Counts.{at};
 ghost use Rattle.clocks.specs.Tested.{readyAt, ready};
 ghost use Rattle.clocks.specs.declared.Event as event;
 ghost use Rattle.window.specs.StepCode.{complete, staysWith};
-ghost use Rattle.window.specs.Prepared.{lowest, highest, lowCounts, highCounts, openOnes};
+ghost use Rattle.window.specs.Prepared.{lowest, highest, bound, boundCounts, openOnes};
 
 // The lowest count of a process at which the event may be taken; n is the event's count there.
 fn lowest_count(involved: bool, n: u32) -> u32
@@ -33,31 +33,27 @@ fn highest_count(involved: bool, n: u32) -> u32
     }
 }
 
-// The lowest counts at which the event is enabled.
-pub fn low_counts(e: Event) -> [u32; 8]
-    ensures { λ r. ⌜ r ≡ lowCounts e ⌝ }
+// The highest or the lowest one.
+fn bound_count(high: bool, involved: bool, n: u32) -> u32
+    ensures { λ r. ⌜ r ≡ bound high involved n ⌝ }
 {
-    let mask = e.mask as u64;
-    let mut out = [0u32; 8];
-    let mut p: u32 = 0;
-    while p < 8 {
-        let i = p as usize;
-        out[i] = lowest_count(codec::has_bit(mask, p), e.clock[i]);
-        p = p + 1;
+    if high {
+        highest_count(involved, n)
+    } else {
+        lowest_count(involved, n)
     }
-    out
 }
 
-// The highest ones.
-pub fn high_counts(e: Event) -> [u32; 8]
-    ensures { λ r. ⌜ r ≡ highCounts e ⌝ }
+// The highest or the lowest counts at which the event is enabled.
+pub fn bound_counts(e: Event, high: bool) -> [u32; 8]
+    ensures { λ r. ⌜ r ≡ boundCounts high e ⌝ }
 {
     let mask = e.mask as u64;
     let mut out = [0u32; 8];
     let mut p: u32 = 0;
     while p < 8 {
         let i = p as usize;
-        out[i] = highest_count(codec::has_bit(mask, p), e.clock[i]);
+        out[i] = bound_count(high, codec::has_bit(mask, p), e.clock[i]);
         p = p + 1;
     }
     out
@@ -72,7 +68,7 @@ fn between(low: u32, high: u32, c: u32) -> bool
 
 // Whether the event is enabled at the counts, by its lowest and its highest.
 pub fn within(low: [u32; 8], high: [u32; 8], counts: [u32; 8]) -> bool
-    ensures { λ r. ⌜ ((e : event.Event) → low ≡ lowCounts e → high ≡ highCounts e → r ≡ ready 8 e (at counts)) ⌝ }
+    ensures { λ r. ⌜ ((e : event.Event) → low ≡ boundCounts false e → high ≡ boundCounts true e → r ≡ ready 8 e (at counts)) ⌝ }
 {
     let mut all = true;
     let mut p = 0;

@@ -9,7 +9,7 @@ use mathlib.Core.Bool.{cond}
 use Rattle.codec.specs.Bit.{bit}
 use Rattle.clocks.specs.CountsLaws.{filled, fill-next}
 use Rattle.window.specs.Prepared.{fullBytes}
-use Rattle.window.specs.PreparedLaws.{fullBytes-at}
+use Rattle.window.specs.PreparedLaws.{made-at}
 
 abbrev Inv-loop : tie.InvT-loop
 Inv-loop full news olds out₀ p₀ out p =
@@ -46,7 +46,7 @@ loop-again : tie.Need-loop-again Inv-loop μ-loop
 loop-again c =
     let a = c .before .before .before .args in
     let l = c .before .before .loop in
-    (search needs, search needs, λ mask e. fill-next _ 0 (l .out) (l .p) (c .chosen .result) (search needs) (c .chosen .ensures (bit mask (l .p)) (fullBytes-at mask (a .t1) (l .p) e (search needs))) (l .inv .2 mask e))
+    (search needs, search needs, λ mask e. fill-next _ 0 (l .out) (l .p) (c .chosen .result) (search needs) (c .chosen .ensures (bit mask (l .p)) (made-at (a .t1) _ 0 (l .p) e (search needs))) (l .inv .2 mask e))
 
 returns : tie.Need-returns Inv-loop μ-loop
 returns c = λ mask e. filled 8 _ 0 (c .before .loop .out) (search needs) (λ q l. c .before .loop .inv .2 mask e q (search needs))

@@ -2,6 +2,7 @@
 use native.Mathlib.Omega.{arith}
 use mathlib.Core.Path.{_≡_, refl, sym}
 use Prim.Native.Nat.{ℕ, _≤_, _-_, _*_}
+use mathlib.Core.Bool.{true, false}
 use mathlib.Core.List.{List}
 use lib.ListN.{length}
 use borrow.Author.Needs.{needs}
@@ -17,23 +18,23 @@ use Rattle.frontiers.specs.Bytes.{frontiers, frontierAt}
 use Rattle.window.specs.Step.{stays, enabledAt, keptAfter}
 use Rattle.window.specs.StepCode.{settingWith, staysWith}
 use Rattle.window.specs.StepCodeLaws.{keptAfter-none, keptAfter-more}
-use Rattle.window.specs.Prepared.{lowCounts, highCounts}
+use Rattle.window.specs.Prepared.{boundCounts}
 use Rattle.window.specs.Marks.{Marked, marked-none, marked-more}
 
 abbrev Inv-loop : tie.InvT-loop
 Inv-loop window marks₀ w n k closed reached low high opens total₀ i₀ marks total i =
     (i ≤ n) × (total ≤ 2 * i) × (length marks ≡ length marks₀)
-    × ((e : Event) (table : List ℕ) (lines : ℕ) → low ≡ lowCounts e → high ≡ highCounts e
+    × ((e : Event) (table : List ℕ) (lines : ℕ) → low ≡ boundCounts false e → high ≡ boundCounts true e
     → (total ≡ keptAfter (settingWith k closed table lines e reached) (frontiers w window i)) × Marked (settingWith k closed table lines e reached) w window i marks)
 
 abbrev μ-loop : tie.MeasureT-loop
 μ-loop window marks₀ w n k closed reached low high opens total₀ i₀ marks total i = n - i
 
-low-counts-requires : tie.Need-low-counts-requires Inv-loop μ-loop
-low-counts-requires c κs = search needs
+bound-counts-requires : tie.Need-bound-counts-requires Inv-loop μ-loop
+bound-counts-requires c κs = search needs
 
-high-counts-requires : tie.Need-high-counts-requires Inv-loop μ-loop
-high-counts-requires c κs = search needs
+bound-counts-requires-2 : tie.Need-bound-counts-requires-2 Inv-loop μ-loop
+bound-counts-requires-2 c κs = search needs
 
 open-ones-requires : tie.Need-open-ones-requires Inv-loop μ-loop
 open-ones-requires c κs = search needs
@@ -118,8 +119,8 @@ returns c =
     let a = b .before .before .before .before .before .args in
     let l = c .before .loop in
     let e : l .i ≡ a .n = omega arith in
-    let low = b .before .before .low-counts .ensures in
-    let high = b .before .high-counts .ensures in
+    let low = b .before .before .bound-counts .ensures in
+    let high = b .before .bound-counts2 .ensures in
     (λ table lines. rw (← e) (l .inv .3 (a .e) table lines low high .0), (search needs, λ table lines. rw (← e) (l .inv .3 (a .e) table lines low high .1)))
 
 pub count-after-spec : {M : Type 1} → statement M
@@ -128,8 +129,8 @@ count-after-spec =
     (tie.spec
     Inv-loop
     μ-loop
-    low-counts-requires
-    high-counts-requires
+    bound-counts-requires
+    bound-counts-requires-2
     open-ones-requires
     loop-holds
     counts-at-requires

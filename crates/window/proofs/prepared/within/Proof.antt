@@ -4,15 +4,15 @@ use native.Mathlib.Omega.{arith}
 use Prim.Native.Nat.{ℕ, _≤_, _-_}
 use mathlib.Core.Path.{_≡_, sym, ap, _∙_}
 use mathlib.Core.List.{List}
-use mathlib.Core.Bool.{Bool, _&&_}
+use mathlib.Core.Bool.{Bool, true, false, _&&_}
 use Rattle.clocks.specs.declared.Event.{Event}
 use Rattle.clocks.specs.Event.{involved, count}
 use Rattle.clocks.specs.Counts.{at}
 use Rattle.clocks.specs.Bounded.{allBelow}
-use Rattle.clocks.specs.BoundedSteps.{all-none}
+use Rattle.clocks.specs.BoundedSteps.{all-none, all-more}
 use Rattle.clocks.specs.Tested.{readyAt, ready}
-use Rattle.window.specs.Prepared.{lowCounts, highCounts}
-use Rattle.window.specs.PreparedLaws.{all-more, lowCounts-at, highCounts-at}
+use Rattle.window.specs.Prepared.{boundCounts}
+use Rattle.window.specs.PreparedLaws.{made-at}
 use Rattle.window.proofs.prepared.within.Statement.{statement}
 use Rattle.window.proofs.prepared.within.Tie as tie
 
@@ -22,7 +22,7 @@ test e counts p = readyAt (involved e p) (count e p) (at counts p)
 
 abbrev Inv-loop : tie.InvT-loop
 Inv-loop low high counts all₀ p₀ all p =
-    (p ≤ 8) × ((e : Event) → low ≡ lowCounts e → high ≡ highCounts e → all ≡ allBelow p (test e counts))
+    (p ≤ 8) × ((e : Event) → low ≡ boundCounts false e → high ≡ boundCounts true e → all ≡ allBelow p (test e counts))
 
 abbrev μ-loop : tie.MeasureT-loop
 μ-loop low high counts all₀ p₀ all p = 8 - p
@@ -61,8 +61,8 @@ loop-again : tie.Need-loop-again Inv-loop μ-loop
 loop-again c =
     let a = c .before .before .before .args in
     let l = c .before .before .loop in
-    let here : (e : Event) → a .t1 ≡ lowCounts e → a .t2 ≡ highCounts e → c .between .result ≡ test e (a .t3) (l .p) =
-    λ e m h. c .between .ensures (involved e (l .p)) (count e (l .p)) (lowCounts-at e (a .t1) (l .p) m (search needs)) (highCounts-at e (a .t2) (l .p) h (search needs)) in
+    let here : (e : Event) → a .t1 ≡ boundCounts false e → a .t2 ≡ boundCounts true e → c .between .result ≡ test e (a .t3) (l .p) =
+    λ e m h. c .between .ensures (involved e (l .p)) (count e (l .p)) (made-at (a .t1) _ 0 (l .p) m (search needs)) (made-at (a .t2) _ 0 (l .p) h (search needs)) in
     (search needs, λ e m h. ap (λ (b : Bool). b && l .all) (here e m h) ∙ ap (λ (b : Bool). test e (a .t3) (l .p) && b) (l .inv .1 e m h) ∙ all-more (l .p) (test e (a .t3)))
 
 returns : tie.Need-returns Inv-loop μ-loop

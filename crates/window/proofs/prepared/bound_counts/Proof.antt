@@ -1,4 +1,4 @@
--- Below p the counts are the lowest ones.
+-- Below p the counts are the bounds.
 use borrow.Author.Needs.{needs}
 use Prim.Native.Nat.{ℕ, _≤_, _<_, _-_}
 use mathlib.Core.Path.{_≡_, ap, _∙_}
@@ -7,15 +7,15 @@ use lib.ListN.{length, getD}
 use Rattle.clocks.specs.Counts.{at}
 use Rattle.clocks.specs.Event.{involved, count}
 use Rattle.clocks.specs.CountsLaws.{filled, fill-next}
-use Rattle.window.specs.Prepared.{lowest}
-use Rattle.window.proofs.prepared.low_counts.Statement.{statement}
-use Rattle.window.proofs.prepared.low_counts.Tie as tie
+use Rattle.window.specs.Prepared.{bound}
+use Rattle.window.proofs.prepared.bound_counts.Statement.{statement}
+use Rattle.window.proofs.prepared.bound_counts.Tie as tie
 
 abbrev Inv-loop : tie.InvT-loop
-Inv-loop e mask out₀ p₀ out p = (p ≤ 8) × (length out ≡ 8) × ((q : ℕ) → q < p → getD out q 0 ≡ lowest (involved e q) (count e q))
+Inv-loop high e mask out₀ p₀ out p = (p ≤ 8) × (length out ≡ 8) × ((q : ℕ) → q < p → getD out q 0 ≡ bound high (involved e q) (count e q))
 
 abbrev μ-loop : tie.MeasureT-loop
-μ-loop e mask out₀ p₀ out p = 8 - p
+μ-loop high e mask out₀ p₀ out p = 8 - p
 
 cast-mask : tie.Need-cast-mask Inv-loop μ-loop
 cast-mask c = search needs
@@ -29,14 +29,14 @@ cast-i c = search needs
 has-bit-requires : tie.Need-has-bit-requires Inv-loop μ-loop
 has-bit-requires c κs = search needs
 
-mul-lowest-count : tie.Need-mul-lowest-count Inv-loop μ-loop
-mul-lowest-count c = search needs
+mul-bound-count : tie.Need-mul-bound-count Inv-loop μ-loop
+mul-bound-count c = search needs
 
-element-copy-out-lowest-count : tie.Need-element-copy-out-lowest-count Inv-loop μ-loop
-element-copy-out-lowest-count c = search needs
+element-copy-out-bound-count : tie.Need-element-copy-out-bound-count Inv-loop μ-loop
+element-copy-out-bound-count c = search needs
 
-lowest-count-requires : tie.Need-lowest-count-requires Inv-loop μ-loop
-lowest-count-requires c κs = search needs
+bound-count-requires : tie.Need-bound-count-requires Inv-loop μ-loop
+bound-count-requires c κs = search needs
 
 mul-out : tie.Need-mul-out Inv-loop μ-loop
 mul-out c = search needs
@@ -50,24 +50,24 @@ add-p c = search needs
 loop-less : tie.Need-loop-less Inv-loop μ-loop
 loop-less c = search needs
 
--- What is stored is the lowest count there.
-stored : (c : tie.After-lowest-count Inv-loop μ-loop) → c .lowest-count .result ≡ lowest (involved (c .before .before .before .before .before .args .t1) (c .before .before .before .before .loop .p)) (count (c .before .before .before .before .before .args .t1) (c .before .before .before .before .loop .p))
+-- What is stored is the bound there.
+stored : (c : tie.After-bound-count Inv-loop μ-loop) → c .bound-count .result ≡ bound (c .before .before .before .before .before .args .high) (involved (c .before .before .before .before .before .args .t1) (c .before .before .before .before .loop .p)) (count (c .before .before .before .before .before .args .t1) (c .before .before .before .before .loop .p))
 unfolding involved count
 stored c =
     let a = c .before .before .before .before .before .args in
     let p = c .before .before .before .before .loop .p in
-    c .lowest-count .ensures ∙ ap (λ (b : Bool). lowest b (at (a .t1 .clock) p)) (c .before .before .has-bit .ensures)
+    c .bound-count .ensures ∙ ap (λ (b : Bool). bound (a .high) b (at (a .t1 .clock) p)) (c .before .before .has-bit .ensures)
 
 loop-again : tie.Need-loop-again Inv-loop μ-loop
 loop-again c =
     let l = c .before .before .before .before .loop in
-    (search needs, search needs, fill-next _ 0 (l .out) (l .p) (c .lowest-count .result) (search needs) (stored c) (l .inv .2))
+    (search needs, search needs, fill-next _ 0 (l .out) (l .p) (c .bound-count .result) (search needs) (stored c) (l .inv .2))
 
 returns : tie.Need-returns Inv-loop μ-loop
 returns c = filled 8 _ 0 (c .before .loop .out) (search needs) (λ q l. c .before .loop .inv .2 q (search needs))
 
-pub low-counts-spec : {M : Type 1} → statement M
-low-counts-spec =
+pub bound-counts-spec : {M : Type 1} → statement M
+bound-counts-spec =
     tie.close
     (tie.spec
     Inv-loop
@@ -76,9 +76,9 @@ low-counts-spec =
     loop-holds
     cast-i
     has-bit-requires
-    mul-lowest-count
-    element-copy-out-lowest-count
-    lowest-count-requires
+    mul-bound-count
+    element-copy-out-bound-count
+    bound-count-requires
     mul-out
     array-write-out
     add-p

@@ -1,0 +1,20 @@
+-- The choice is the definition's.
+use mathlib.Core.Path.{_∙_}
+use borrow.Author.Needs.{needs}
+use Rattle.window.proofs.prepared.bound_count.Statement.{statement}
+use Rattle.window.proofs.prepared.bound_count.Tie as tie
+
+highest-count-requires : tie.Need-highest-count-requires
+highest-count-requires c κs = search needs
+
+lowest-count-requires : tie.Need-lowest-count-requires
+lowest-count-requires c κs = search needs
+
+returns : tie.Need-returns
+returns c = rw (c .before .if1 .taken) (c .highest-count .ensures)
+
+returns-2 : tie.Need-returns-2
+returns-2 c = rw (c .before .if1 .left) (c .lowest-count .ensures)
+
+pub bound-count-spec : {M : Type 1} → statement M
+bound-count-spec = tie.close (tie.spec highest-count-requires lowest-count-requires returns returns-2)
