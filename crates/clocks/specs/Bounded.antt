@@ -1,5 +1,5 @@
 -- Tests over the first n numbers, and the members of a list that pass a test: they compute, and say what they should.
-use Prim.Native.Nat.{ℕ, zero, suc, _<_}
+use Prim.Native.Nat.{ℕ, zero, suc}
 use mathlib.Core.Bool.{Bool, true, false, _&&_, _||_}
 use mathlib.Core.List.{List, [], _∷_}
 

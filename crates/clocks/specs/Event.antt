@@ -2,7 +2,6 @@
 use Prim.Native.Nat.{ℕ, _+_, _-_, _≤_}
 use mathlib.Core.Path.{_≡_}
 use mathlib.Core.Bool.{Bool, true, false}
-use lib.Dec.{T}
 use lib.ListN.{getD}
 use Rattle.codec.specs.Bit.{bit}
 use Rattle.clocks.specs.declared.Event.{Event}

@@ -17,7 +17,6 @@ use Rattle.clocks.specs.Kept.{Kept, allOpen, KeptCut, Dropped}
 use Rattle.clocks.specs.EventLaws.{T-true, ready-same, apply-next}
 use Rattle.clocks.specs.Step.{consistent-old, consistent-later, consistent-new, step}
 use Rattle.clocks.specs.HistoryLaws.{taken-next, taken-up}
-use Rattle.clocks.specs.Tested.{ready, consistent}
 
 pub kept-all : (k : ℕ) → 0 < k → (ts : List Event) (S : Cut) → Kept k allOpen ts S ↔ ((p : ℕ) × (p < k) × (S p ≡ taken ts p))
 kept-all k l ts S = (⊎-elim (λ c. (c .0, c .1, c .3)) (λ s. (0, l, ap (λ (R : Cut). R 0) s)), λ c. inl (c .0, c .1, tt, c .2))

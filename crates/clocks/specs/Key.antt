@@ -8,7 +8,6 @@ use lib.Count.{trailingZeros}
 use Rattle.clocks.specs.declared.Event.{Event}
 use Rattle.clocks.specs.declared.Key.{Key}
 use Rattle.clocks.specs.Counts.{at}
-use Rattle.clocks.specs.Event.{count}
 
 -- The lowest process that takes part: the lowest bit set in the mask, and 8 where none is (01, Clocks and cuts: an event's lowest process).
 unfoldable pub lowest : Event → ℕ

@@ -12,7 +12,7 @@ use borrow.Author.Tests.{eq-eqb}
 use Rattle.codec.specs.LowestBit.{trailing-lt, bit-trailing, bit-below-trailing}
 use Rattle.clocks.specs.declared.Event.{Event}
 use Rattle.clocks.specs.declared.Key.{Key}
-use Rattle.clocks.specs.Event.{involved, count}
+use Rattle.clocks.specs.Event.{involved}
 use Rattle.clocks.specs.EventLaws.{true-T}
 use Rattle.clocks.specs.BoundedLaws.{and-i, and-l, and-r, or-l, or-r, or-e}
 use Rattle.clocks.specs.Key.{lowest, keyBefore, Before, keyOf}

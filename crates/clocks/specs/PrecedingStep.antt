@@ -9,7 +9,6 @@ use Rattle.clocks.specs.declared.Event.{Event}
 use Rattle.clocks.specs.Event.{Cut, involved, Ready, apply}
 use Rattle.clocks.specs.EventLaws.{T-true, ready-next, apply-next, apply-injective}
 use Rattle.clocks.specs.History.{taken, Consistent, In, Precedes, Follows, Causal, Agree}
-use Rattle.clocks.specs.HistoryLaws.{old}
 use Rattle.clocks.specs.Step.{Advanced, step, consistent-old}
 use Rattle.clocks.specs.Preceding.{precedes-consistent}
 use Rattle.clocks.specs.Agree.{agree-old, agree-sym, agree-precedes}

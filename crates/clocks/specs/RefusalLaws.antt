@@ -1,5 +1,5 @@
 -- When an event or start labels are turned back: each test in plain statements, and each number exactly in its turn.
-use Prim.Native.Nat.{ℕ, zero, suc, _*_, _/_, _^_, _≤_, _<_}
+use Prim.Native.Nat.{ℕ, zero, _*_, _/_, _^_, _≤_, _<_}
 use native.Mathlib.Omega.{arith}
 use native.Mathlib.Decide.{decLe, decLt}
 use native.Mathlib.Nat.{div-eq-of-lt, div-lt-iff-lt-mul, lt-of-lt-of-le}
@@ -19,7 +19,6 @@ use Rattle.clocks.specs.Event.{involved, count}
 use Rattle.clocks.specs.EventLaws.{either, true-T}
 use Rattle.clocks.specs.Bounded.{anyBelow}
 use Rattle.clocks.specs.BoundedSteps.{any-false-i, any-false-e}
-use Rattle.clocks.specs.Counts.{at}
 use Rattle.clocks.specs.CountsLaws.{at-beyond}
 use Rattle.clocks.specs.Refusal.{badMask, badCount, badClock, badLabels, badStart, eventFault, Faultless}
 

@@ -13,7 +13,6 @@ use Rattle.clocks.specs.EventLaws.{either, T-true, ready-next, ready-sam
 use Rattle.clocks.specs.History.{taken, clockOf, Consistent, Follows, Causal}
 use Rattle.clocks.specs.HistoryLaws.{taken-next, taken-other, taken-up, taken-cases, event-next, event-old}
 use Rattle.clocks.specs.CausalLaws.{clock-some, clock-same, clock-within}
-use Rattle.clocks.specs.Tested.{ready}
 
 -- ---- Statement
 

@@ -13,7 +13,6 @@ use Rattle.clocks.specs.declared.Event.{Event}
 use Rattle.frontiers.specs.Bytes.{windowBytes, frontierLength, frontiers}
 use Rattle.clocks.specs.Event.{Cut, Ready}
 use Rattle.clocks.specs.Counts.{at}
-use Rattle.clocks.specs.Lattice.{zeros}
 use Rattle.frontiers.specs.declared.Frontier.{Frontier}
 use Rattle.window.specs.Many.{stepped-many}
 use Rattle.window.specs.Step.{Setting, stepped, keptAfter, fits}
@@ -32,8 +31,7 @@ use Rattle.demands.specs.OfferLaws.{OfferCase, offer-case, accepted-watc
 use Rattle.records.specs.RefusalSteps.{or-false-e}
 use Rattle.watch.specs.TakeCallSteps.{room-few}
 use Rattle.watch.specs.Take.{Decision, tried, decided, takeWithin, takeCall, undecided, settingIn}
-use Rattle.records.specs.Record.{readyIn, validIn}
-use Rattle.records.specs.Record.{keptCount, removed}
+use Rattle.records.specs.Record.{readyIn, validIn, keptCount, removed}
 use Rattle.records.specs.Refusals.{badRecordLength, badWindowLength, roomOf, badState}
 use Rattle.watch.specs.Answer.{turnedBack}
 use Rattle.watch.specs.Deciding.{Outcome, outcome, none-decides, falsifies, chooses}

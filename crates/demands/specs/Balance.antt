@@ -20,7 +20,7 @@ use Rattle.watch.specs.Offer.{placeAmong, offeredEvent}
 use Rattle.demands.specs.Ledger.{occurrences, Ledger, accounted}
 use Rattle.demands.specs.Run.{Call, Watch, decisionOf, ledgerAfter, offeredLedger, acceptedBy, after, offers, takes, finds}
 use Rattle.demands.specs.Status.{insertAt, removeAt}
-use Rattle.demands.specs.OfferLaws.{OfferCase, offer-case, turned, accepted}
+use Rattle.demands.specs.OfferLaws.{OfferCase, offer-case, turned}
 use Rattle.demands.specs.AfterCall.{WatchRight, noEvent, lengthened, badLengths, take-6, decision, take-else, trial}
 
 -- ---- occurrences in a list with one element more or less

@@ -4,7 +4,7 @@ use native.Mathlib.Omega.{arith}
 use native.Mathlib.Decide.{decLt}
 use native.Mathlib.Nat.{le-trans}
 use mathlib.Core.Path.{_≡_, refl, _∙_, sym, ap}
-use mathlib.Core.Bool.{Bool, true, false}
+use mathlib.Core.Bool.{Bool, false}
 use mathlib.Core.List.{List, [], _∷_, _++_, List·Memᴰ, List·Memᴰ·head, List·Memᴰ·tail, List·Memᴰ·cases-cons, List·Memᴰ·not-nil, Memᴰ·append-right}
 use mathlib.Core.Logic.{⊎-elim, _⊎_, inl, inr, _↔_}
 use mathlib.Core.Option.{some}
@@ -20,10 +20,8 @@ use Rattle.clocks.specs.HistoryLaws.{taken-later, event-old, event-exists, even
 use Rattle.clocks.specs.SameEventLaws.{same-equal, same-refl}
 use Rattle.clocks.specs.Valid.{Takeable, History, ClockRule}
 use Rattle.clocks.specs.CausalLaws.{count-number, number-of, in-occupied, count-within}
-use Rattle.clocks.specs.Tested.{ready}
 use Rattle.clocks.specs.SameEvents.{Same, same-sym, same-taken}
 use Rattle.demands.specs.Ledger.{occurrences, Ledger, Eight, Kept-right, accounted, Settled}
-use Rattle.demands.specs.Run.{takes}
 
 -- ---- occurrences and members
 pub occurs-i : (e : Event) (fs : List Event) → List·Memᴰ e fs → 0 < occurrences e fs

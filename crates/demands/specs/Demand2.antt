@@ -24,7 +24,6 @@ use Rattle.clocks.specs.History.{taken, Consistent}
 use Rattle.clocks.specs.Event.{Cut}
 use Rattle.clocks.specs.Kept.{Kept}
 use Rattle.clocks.specs.Counts.{at}
-use Rattle.clocks.specs.Tested.{consistent}
 use Rattle.clocks.specs.Valid.{Joined, History}
 use Rattle.demands.specs.Watching.{worldOf, statusOf}
 use Rattle.watch.specs.Take.{takeCall}

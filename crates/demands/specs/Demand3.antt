@@ -20,7 +20,6 @@ use Rattle.clocks.specs.History.{taken, lastClock, Consistent, Causal}
 use Rattle.clocks.specs.Event.{Cut}
 use Rattle.clocks.specs.ClockRule.{consistent-silent}
 use Rattle.clocks.specs.JoinedClock.{joined-rule}
-use Rattle.clocks.specs.Tested.{consistent}
 use Rattle.clocks.specs.Valid.{Joined}
 use Rattle.clocks.specs.SameEvents.{Same, same-taken, same-last, same-agree}
 use Rattle.rules.specs.Text.{textOf}
@@ -36,11 +35,9 @@ use Rattle.demands.specs.WatchingLaws.{says-frontiers}
 use Rattle.demands.specs.Ledger.{occurrences, Ledger, accounted, Settled}
 use Rattle.demands.specs.Run.{Watch, Call}
 use Rattle.demands.specs.Status.{recordBytes}
-use Rattle.demands.specs.OfferLaws.{accepted}
 use Rattle.demands.specs.Verdicts.{TrueVerdict, Truthful}
 use Rattle.demands.specs.AfterCall.{WatchRight}
 use Rattle.demands.specs.SoundRun.{Sound, Accepts, EightBytes, AllPassed, atEnd, sound-run}
-use Rattle.demands.specs.Examples.{eight}
 
 -- ---- Statement
 

@@ -31,12 +31,11 @@ use Rattle.window.specs.Step.{stays, enabledAt, advanced, filtered, slotCounts,
 use Rattle.window.specs.Start.{startFrontier}
 use Rattle.frontiers.specs.Bytes.{frontierLength, countBytes, frontierBytes, frontierFrom, frontierAt, frontiers, framed, windowBytes, replaced}
 use Rattle.watch.specs.Answer.{Answer, turnedBack, state, held}
-use Rattle.records.specs.Record.{keptCount, takenCounts, lastClocks, tableLines, pendingAt, pendingEvents, eventBytes, inserted, removed, clocksSet, counted}
+use Rattle.records.specs.Record.{keptCount, takenCounts, lastClocks, tableLines, pendingAt, pendingEvents, eventBytes, inserted, removed, clocksSet, counted, readyIn, validIn}
 use Rattle.records.specs.Refusals.{badRecordLength, badWindowLength, roomOf, badProcesses, badState, alreadyTaken, conflicts, conflicting}
 use Rattle.watch.specs.Open.{firstRecord, openTable, openRead, openCall}
 use Rattle.watch.specs.Offer.{placeAmong, offerCall}
 use Rattle.watch.specs.Take.{settingIn, tried, stateOf, decided, takeWithin, takeCall}
-use Rattle.records.specs.Record.{readyIn, validIn}
 use Rattle.demands.specs.Status.{insertAt, removeAt}
 use Rattle.demands.specs.Run.{Call, offers, takes, Watch, decisionOf, ledgerAfter, offeredLedger, after, run}
 use Rattle.demands.specs.SoundRun.{atEnd}

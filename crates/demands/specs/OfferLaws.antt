@@ -1,9 +1,8 @@
 -- What an offer does to a watch written by calls only: turned back it changes nothing, accepted it adds the event to the pending ones.
 use Prim.Native.Nat.{ℕ, _+_, _%_, _^_, _<_, zero, suc, _≤_}
 use native.Mathlib.Omega.{arith}
-use native.Mathlib.Decide.{decLt}
 use mathlib.Core.Path.{_≡_, refl, sym, ap, subst, _∙_}
-use mathlib.Core.Bool.{Bool, true, false, _&&_, true≢false}
+use mathlib.Core.Bool.{Bool, true, false, _&&_}
 use mathlib.Core.List.{List, List·Memᴰ}
 use mathlib.Core.Logic.{inl, inr, ⊎-elim}
 use lib.Dec.{leb, T, eqb}
@@ -14,7 +13,7 @@ use Rattle.clocks.specs.declared.Event.{Event}
 use Rattle.clocks.specs.Counts.{at}
 use Rattle.clocks.specs.Refusal.{badMask, badClock, badLabels, Faultless}
 use Rattle.rules.specs.declared.Line.{Line}
-use Rattle.clocks.specs.Event.{count, Cut, involved}
+use Rattle.clocks.specs.Event.{Cut, involved}
 use Rattle.clocks.specs.History.{taken}
 use Rattle.clocks.specs.Key.{keyOf, lowest}
 use Rattle.clocks.specs.BoundedSteps.{any-false-e}
@@ -22,8 +21,6 @@ use Rattle.clocks.specs.RefusalLaws.{mask-fine, fault-0, no-fault}
 use Rattle.clocks.specs.declared.Key.{Key}
 use Rattle.codec.specs.Bit.{bit}
 use Rattle.codec.specs.BitLaws.{bit-zero}
-use Rattle.frontiers.specs.Order.{same}
-use Rattle.rules.specs.Reader.{formed}
 use Rattle.clocks.specs.Bounded.{anyBelow}
 use Rattle.clocks.specs.KeyLaws.{lowest-lt, lowest-involved}
 use Rattle.clocks.specs.BoundedLaws.{any-i, any-of-i}

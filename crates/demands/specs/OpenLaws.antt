@@ -13,7 +13,7 @@ use Rattle.rules.specs.Line.{linesAt, lineCount}
 use Rattle.rules.specs.JudgeLaws.{and-true}
 use Rattle.rules.specs.Table.{tableBytes, goodLine, goodFrom, goodTable}
 use Rattle.rules.specs.Formula.{Formula}
-use Rattle.rules.specs.Reader.{Reading, readRule, formed, refused}
+use Rattle.rules.specs.Reader.{Reading, readRule, refused}
 use Rattle.clocks.specs.EventLaws.{true-T}
 use Rattle.clocks.specs.Counts.{at}
 use Rattle.clocks.specs.BoundedLaws.{or-e}

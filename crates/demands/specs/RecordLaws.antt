@@ -8,7 +8,6 @@ use lib.Seq.{take-at, drop-at}
 use lib.Dec.{lit<}
 use Rattle.codec.specs.Little.{bytesOf, number, Bytes}
 use Rattle.codec.specs.LittleLaws.{length-bytesOf, valueOf-bytesOf, Bytes-bytesOf}
-use Rattle.frontiers.specs.OrderLaws.{first}
 use Rattle.rules.specs.TableBytesLaws.{linesOf-tableBytes}
 use Rattle.rules.specs.Table.{tableBytes}
 use Rattle.clocks.specs.Counts.{listOf}

@@ -9,10 +9,9 @@ use mathlib.Core.Logic.{⊎-elim, inr}
 use lib.ListN.{length, replicate, getD}
 use lib.Dec.{leb}
 use Rattle.rules.specs.declared.Line.{Line}
-use Rattle.rules.specs.Line.{linesAt, line}
+use Rattle.rules.specs.Line.{linesAt}
 use Rattle.rules.specs.Formula.{Formula}
 use Rattle.clocks.specs.Event.{Cut, Ready, apply}
-use Rattle.rules.specs.Reader.{formed}
 use Rattle.frontiers.specs.declared.Frontier.{Frontier}
 use Rattle.clocks.specs.declared.Event.{Event}
 use Rattle.codec.specs.Bit.{bit}
@@ -22,7 +21,6 @@ use Rattle.frontiers.specs.ListLaws.{place-member}
 use Rattle.frontiers.specs.Bytes.{frontiers}
 use Rattle.clocks.specs.History.{taken}
 use Rattle.clocks.specs.Counts.{listOf}
-use Rattle.clocks.specs.Tested.{ready}
 use Rattle.clocks.specs.Valid.{Joined, History}
 use Rattle.demands.specs.Watching.{Rule, Watching, worldOf}
 use Rattle.records.specs.Record.{pendingCount, pendingAt, pendingEvents, lineTotal, keptCount}

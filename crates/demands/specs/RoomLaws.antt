@@ -7,7 +7,6 @@ use mathlib.Core.List.{List, _∷_, _++_, append-assoc}
 use lib.ListN.{length, take, drop, length-drop, getD, length-append, length-replicate}
 use lib.Seq.{sets, take-at}
 use Rattle.window.specs.Step.{fits}
-use Rattle.frontiers.specs.Order.{same}
 use Rattle.frontiers.specs.ListLaws.{place-member}
 use Rattle.demands.specs.InsertLaws.{member-drop, length-insertAt, length-removeAt}
 use Rattle.demands.specs.PlaceLaws.{zeros, zeros-add, sets-over}

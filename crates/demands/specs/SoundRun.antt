@@ -6,7 +6,7 @@ use mathlib.Core.Bool.{Bool}
 use mathlib.Core.List.{List, [], _∷_, List·Memᴰ, List·Memᴰ·head, List·Memᴰ·tail}
 use lib.ListN.{length}
 use Rattle.rules.specs.Line.{linesAt}
-use Rattle.rules.specs.Formula.{Formula, truth}
+use Rattle.rules.specs.Formula.{Formula}
 use Rattle.clocks.specs.Event.{Cut}
 use Rattle.clocks.specs.Counts.{at}
 use Rattle.window.specs.Start.{startFrontier}

@@ -13,8 +13,6 @@ use Rattle.rules.specs.declared.Line.{Line}
 use Rattle.clocks.specs.declared.Event.{Event}
 use Rattle.window.specs.Step.{stepped, fits, Setting}
 use Rattle.window_laws.specs.Represents.{settingOf}
-use Rattle.rules.specs.Formula.{truth}
-use Rattle.rules.specs.Reader.{formed}
 use Rattle.clocks.specs.History.{taken}
 use Rattle.clocks.specs.Event.{Cut, Ready, apply}
 use Rattle.clocks.specs.Counts.{at, listOf}

@@ -14,7 +14,6 @@ use Rattle.frontiers.specs.WindowLaws.{length-windowBytes, replaced-windowBytes
 use Rattle.window_laws.specs.Represents.{World, openIn, Proper, Represents, settingOf}
 use Rattle.frontiers.specs.ListLaws.{place-member}
 use Rattle.frontiers.specs.Bytes.{windowBytes, replaced, frontierLength}
-use Rattle.rules.specs.Reader.{formed}
 use Rattle.clocks.specs.History.{taken, clockOf, lastClock, In, Causal}
 use Rattle.clocks.specs.Event.{Cut, Ready, count, involved, apply}
 use Rattle.clocks.specs.Valid.{Joined, Takeable, History}
@@ -27,7 +26,6 @@ use Rattle.clocks.specs.EventLaws.{either, ready-next}
 use Rattle.clocks.specs.JoinedClock.{joined-rule}
 use Rattle.clocks.specs.Step.{clock-old}
 use Rattle.clocks.specs.HistoryLaws.{taken-next, taken-other, event-next}
-use Rattle.clocks.specs.Tested.{ready}
 use Rattle.clocks.specs.CausalLaws.{clock-some}
 use Rattle.window_laws.specs.Verdict.{some-frontier}
 use Rattle.demands.specs.Watching.{worldOf, Rule, statusOf, Watching, proper, kept-shaped, sized, all-shaped}

@@ -9,7 +9,6 @@ use lib.ListN.{length, getD}
 use Rattle.frontiers.specs.declared.Frontier.{Frontier}
 use Rattle.clocks.specs.declared.Event.{Event}
 use Rattle.codec.specs.Bit.{bit}
-use Rattle.frontiers.specs.OrderLaws.{last}
 use Rattle.window.specs.Lists.{getD-mapped}
 use Rattle.window_laws.specs.Verdict.{some-frontier, verdict-right}
 use Rattle.window_laws.specs.Represents.{World, modelOf, frontierOf, Represents, Proper}
@@ -17,7 +16,7 @@ use Rattle.rules.specs.Line.{linesAt}
 use Rattle.rules.specs.Truth.{Property, holds, lineTruth}
 use Rattle.rules.specs.LinesMean.{rule-means}
 use Rattle.rules.specs.TruthLocal.{holds-local}
-use Rattle.rules.specs.Formula.{Formula, truth, meaning}
+use Rattle.rules.specs.Formula.{Formula, meaning}
 use Rattle.rules.specs.LineLaws.{length-linesAt}
 use Rattle.clocks.specs.History.{taken, Consistent}
 use Rattle.clocks.specs.Event.{Cut}

@@ -7,7 +7,7 @@ use mathlib.Core.Path.{_≡_, refl}
 use mathlib.Core.Bool.{true}
 use mathlib.Core.List.{List, [], _∷_, List·Memᴰ}
 use mathlib.Core.Logic.{_⊎_, inl, inr}
-use mathlib.Core.Option.{Option, none, some}
+use mathlib.Core.Option.{Option, none}
 use lib.Dec.{T}
 use lib.ListN.{length, getD}
 use lib.Pow.{pow-mono}
@@ -32,7 +32,6 @@ use Rattle.window.specs.Lists.{mapped-e}
 use Rattle.frontiers.specs.Shaped.{Shaped, AllShaped}
 use Rattle.rules.specs.Truth.{lineTruth}
 use Rattle.clocks.specs.Counts.{at, listOf}
-use Rattle.clocks.specs.Tested.{consistent}
 use Rattle.clocks.specs.CountsLaws.{length-listOf, at-listOf, at-beyond}
 use Rattle.demands.specs.Ledger.{Ledger, Kept-right}
 use Rattle.demands.specs.Status.{Status, recordBytes, Storable, Sized}

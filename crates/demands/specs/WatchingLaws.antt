@@ -24,12 +24,11 @@ use Rattle.clocks.specs.TestedLaws.{ready-test}
 use Rattle.frontiers.specs.WindowLaws.{frontiers-windowBytes}
 use Rattle.frontiers.specs.Bytes.{frontierLength, frontiers, framed, windowBytes}
 use Rattle.demands.specs.Watching.{worldOf, Rule, statusOf, Watching, proper, sized, kept-shaped}
-use Rattle.records.specs.Record.{recordLength, processCount, lineTotal, pendingCount, keptCount, takenCounts, lastClocks, tableLines, pendingAt, pendingEvents}
+use Rattle.records.specs.Record.{recordLength, processCount, lineTotal, pendingCount, keptCount, takenCounts, lastClocks, tableLines, pendingAt, pendingEvents, readyIn, validIn}
 use Rattle.records.specs.Refusals.{badProcesses, badState}
 use Rattle.demands.specs.Ledger.{Ledger}
 use Rattle.demands.specs.Status.{Status, Sized}
 use Rattle.watch.specs.Take.{settingIn}
-use Rattle.records.specs.Record.{readyIn, validIn}
 use Rattle.demands.specs.PendingLaws.{pendingAt-recordBytes, pendingEvents-recordBytes}
 use Rattle.demands.specs.RecordLaws.{processCount-recordBytes, lineTotal-recordBytes, pendingCount-recordBytes, tableLines-recordBytes, length-recordBytes, keptCount-recordBytes, takenCounts-recordBytes, lastClocks-recordBytes}
 

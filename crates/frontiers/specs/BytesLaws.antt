@@ -13,11 +13,9 @@ use Rattle.codec.specs.SetsLaws.{take-drop}
 use Rattle.clocks.specs.Counts.{at, listOf}
 use Rattle.codec.specs.PutLaws.{bytesOf-number, number-drop, number-lt}
 use Rattle.clocks.specs.CountsLaws.{listOf-same, length-listOf, at-listOf, at-beyond, filled}
-use Rattle.clocks.specs.HistoryLaws.{after}
 use Rattle.frontiers.specs.Bytes.{countBytes, frontierLength, frontierBytes, frontierFrom}
 use Rattle.frontiers.specs.declared.Frontier.{Frontier}
 use Rattle.frontiers.specs.Shaped.{Shaped}
-use Rattle.frontiers.specs.Order.{before}
 
 -- ---- Parts of a list
 

@@ -5,7 +5,6 @@ use native.Mathlib.Numerals.{add-one}
 use native.Mathlib.Nat.{add-suc, add-zero}
 use mathlib.Core.Path.{_≡_, sym, _∙_}
 use mathlib.Core.List.{List, [], _∷_}
-use mathlib.Core.Option.{none}
 use lib.ListN.{length, getD, take, drop, set, replicate, length-take, length-drop, length-replicate, drop-of-length-le, replicate-append-replicate}
 use lib.Seq.{drop-cons, getD-take, getD-drop, take-take, length-take-le, sets}
 use Rattle.codec.specs.SetsLaws.{sets-append, getD-sets-before, getD-sets-after, sets-comm}

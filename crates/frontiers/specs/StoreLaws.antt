@@ -5,10 +5,10 @@ use native.Mathlib.Numerals.{add-one}
 use native.Mathlib.Nat.{zero-add, suc-mul, add-zero}
 use mathlib.Core.Path.{_≡_, sym, ap, _∙_}
 use mathlib.Core.List.{List, [], _∷_, _++_, append-nil}
-use lib.ListN.{length, getD, take, drop, set, replicate, length-drop, length-append, drop-of-length-le}
-use lib.Seq.{sets, length-sets, ext-getD, length-take-le, take-suc, getD-take, getD-drop, take-all}
+use lib.ListN.{length, getD, take, drop, set, length-drop, length-append, drop-of-length-le}
+use lib.Seq.{sets, ext-getD, length-take-le, take-suc, getD-take, getD-drop, take-all}
 use Rattle.codec.specs.Little.{bytesOf, put}
-use Rattle.codec.specs.SetsLaws.{sets-append, sets-tail, part-sets}
+use Rattle.codec.specs.SetsLaws.{sets-append, sets-tail}
 use Rattle.clocks.specs.Counts.{at}
 use Rattle.frontiers.specs.BytesLaws.{length-countBytes, countBytes-append, countBytes-one}
 use Rattle.frontiers.specs.Bytes.{countBytes, frontierBytes}

@@ -16,7 +16,6 @@ use Rattle.frontiers.specs.Shaped.{Shaped, AllShaped}
 use Rattle.frontiers.specs.BytesLaws.{count-within, length-frontierBytes, frontierFrom-drop, frontierFrom-bytes, frontierFrom-alike, frontierBytes-from, shaped-from}
 use Rattle.frontiers.specs.Bytes.{frontierLength, frontierBytes, frontierAt, frontiers, framed, windowBytes, replaced, frontierFrom}
 use Rattle.frontiers.specs.ListLaws.{member-place, listOf-more, part-alike}
-use Rattle.frontiers.specs.OrderLaws.{last}
 use Rattle.frontiers.specs.Seek.{keysOf}
 
 -- ---- The bytes of frontiers one behind the other

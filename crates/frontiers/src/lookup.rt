@@ -8,8 +8,7 @@ ghost use lib.Dec.{ltb};
 ghost use lib.ListN.{length};
 ghost use Rattle.frontiers.specs.Width.{Width};
 ghost use Rattle.frontiers.specs.Bytes.{frontierLength, frontierAt, frontiers};
-ghost use Rattle.frontiers.specs.Seek.{standing, bisect as bisected, gallop as galloped, seek as sought};
-ghost use Rattle.frontiers.specs.Seek.{keysOf};
+ghost use Rattle.frontiers.specs.Seek.{standing, bisect as bisected, gallop as galloped, seek as sought, keysOf};
 ghost use Rattle.frontiers.specs.declared.Standing.the-variants.{Before, Behind};
 
 // A count that is not the wanted one: before it or behind it.

@@ -10,18 +10,16 @@ use lib.ListN.{length, take, drop}
 use lib.Seq.{length-take-le, getD-take, take-all}
 use borrow.Author.Tests.{ltb-true, ltb-false, leb-true, leb-false, lt-ltb, lt-leb, eqb-false}
 use Rattle.rules.specs.Text.{byteAt}
-use Rattle.rules.specs.TextLaws.{byteAt-behind}
 use Rattle.lines.specs.declared.Read.{Read}
 use Rattle.lines.specs.declared.Read.the-variants.{At, Refused}
 use Rattle.lines.specs.Number.{isDigit, digits, valueFrom, value, numberOf, numberAt}
 use Rattle.lines.specs.NumberLaws.{digit-bounds, digits-next, digits-end, digits-first, valueFrom-grows}
 use Rattle.lines.specs.Reading.{thenByte, thenNumber, thenEnd, lineLimit, limited}
 use Rattle.lines.specs.GrammarTheorem.{lineRead}
-use Rattle.lines.specs.NumberList.{Listed, listed, afterNumber, numbersAt, allNumbersAt, thenList, thenSpacedList, thenClose}
+use Rattle.lines.specs.NumberList.{listed, afterNumber, numbersAt, allNumbersAt, thenList, thenSpacedList, thenClose}
 use Rattle.lines.specs.PieceLaws.{readPiece, readPieces, placeIn, if-test, numbers-from, byte-from, close-from, piece-from, piece-stays}
 use Rattle.lines.specs.ListLaws.{number-after}
 use Rattle.lines.specs.Grammar.{Piece, one, number, list, spacedList}
-use Rattle.lines.specs.NumberMeets.{if-known}
 use Rattle.lines.specs.TenSound.{not-at, Judged, number-judged}
 
 -- The bytes that are enough.

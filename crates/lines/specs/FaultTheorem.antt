@@ -1,12 +1,12 @@
 -- A line's answer is its first fault: the fault with the lowest place, at the same place 1 before 10. A line that is read has no fault.
 use Prim.Native.Nat.{ℕ, suc, _+_, _≤_, _<_}
 use native.Mathlib.Omega.{arith}
-use mathlib.Core.Path.{_≡_, refl, sym, ap, _∙_}
-use mathlib.Core.Bool.{Bool, true, false, cond, _&&_}
+use mathlib.Core.Path.{_≡_, refl, sym, _∙_}
+use mathlib.Core.Bool.{true, false, _&&_}
 use mathlib.Core.Logic.{_⊎_, inl, inr}
 use mathlib.Core.List.{List, [], _∷_, _++_}
 use lib.Dec.{ltb}
-use lib.ListN.{length, length-append, take}
+use lib.ListN.{length, length-append}
 use lib.Seq.{getD-take, getD-append-add}
 use borrow.Author.Tests.{ltb-true, ltb-false, lt-ltb}
 use Rattle.rules.specs.JudgeLaws.{and-true}
@@ -17,14 +17,14 @@ use Rattle.rules.specs.Begun.{Begun, begun-nil}
 use Rattle.lines.specs.declared.Read.{Read}
 use Rattle.lines.specs.declared.Read.the-variants.{At, Refused}
 use Rattle.lines.specs.Reading.{thenEnd, lineLimit, limited}
-use Rattle.lines.specs.Grammar.{Piece, PieceText, TextOf, Fault1, number, list, spacedList, one}
+use Rattle.lines.specs.Grammar.{Piece, PieceText, Fault1, number, list, spacedList, one}
 use Rattle.lines.specs.Fault.{TenIn, TenFrom, Fault10, Fault, FirstFault}
 use Rattle.lines.specs.PieceLaws.{readPiece, readPieces, pieces-stay, Numbered, pieces-numbered}
 use Rattle.lines.specs.NumberMeets.{if-known}
-use Rattle.lines.specs.PieceMeets.{Ended, AllEnded}
+use Rattle.lines.specs.PieceMeets.{AllEnded}
 use Rattle.lines.specs.PieceStood.{Stood, piece-stood}
 use Rattle.lines.specs.TenSound.{not-at, piece-ten}
-use Rattle.lines.specs.TenComplete.{Stops, StopsBefore, Passes, piece-stops, piece-passes}
+use Rattle.lines.specs.TenComplete.{Stops, Passes, piece-stops, piece-passes}
 use Rattle.lines.specs.GrammarTheorem.{lineRead, one-exact, none-before-one, ten-before-one, read-text}
 
 -- ---- What the reader turns back by 10

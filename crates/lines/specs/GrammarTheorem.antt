@@ -5,14 +5,14 @@ use native.Mathlib.Omega.{arith}
 use mathlib.Core.Path.{_≡_, refl, sym, ap, _∙_}
 use mathlib.Core.Bool.{Bool, true, false, cond}
 use mathlib.Core.Logic.{_⊎_, inl, inr}
-use mathlib.Core.List.{List, [], _∷_, _++_}
+use mathlib.Core.List.{List, []}
 use lib.Dec.{ltb, eqb}
 use lib.ListN.{length, length-take, take}
 use lib.Seq.{take-all, take-take, getD-take, length-take-le}
 use borrow.Author.Tests.{ltb-true, ltb-false}
 use Rattle.rules.specs.Text.{byteAt}
-use Rattle.rules.specs.Begun.{Begun, begun-nil}
-use Rattle.rules.specs.WordMeets.{StandsTo, standsTo-same}
+use Rattle.rules.specs.Begun.{begun-nil}
+use Rattle.rules.specs.WordMeets.{standsTo-same}
 use Rattle.lines.specs.declared.Read.{Read}
 use Rattle.lines.specs.declared.Read.the-variants.{At, Refused}
 use Rattle.lines.specs.Reading.{thenEnd}

@@ -2,7 +2,7 @@
 use Prim.Native.Nat.{ℕ, _≤_, _<_}
 use native.Mathlib.Omega.{arith}
 use mathlib.Core.Path.{_≡_, refl, sym, ap, _∙_}
-use mathlib.Core.Bool.{Bool, true, false, cond, _&&_}
+use mathlib.Core.Bool.{Bool, true, false, _&&_}
 use mathlib.Core.Logic.{inl, inr}
 use mathlib.Core.List.{List, [], _∷_, _++_, map}
 use Rattle.rules.specs.Text.{ascii}
@@ -24,7 +24,7 @@ use Rattle.lines.specs.NumberMeets.{if-known}
 use Rattle.lines.specs.GrammarTheorem.{lineRead}
 use Rattle.lines.specs.LineGrammar.{watch-read, start-read, named, did-read}
 use Rattle.lines.specs.Named.{firstRead, rest, line-after}
-use Rattle.lines.specs.Enough.{enough, Front, Far, Same, AllModest, pieces-same, end-same, limited-same, line-enough}
+use Rattle.lines.specs.Enough.{Front, Same, AllModest, pieces-same, end-same, limited-same, line-enough}
 
 -- A line over the limit is turned back.
 over-refused : (s : List ℕ) (r : Read) → lineLimit < length s → (n : ℕ) × (i : ℕ) × (limited s r ≡ Refused n i)

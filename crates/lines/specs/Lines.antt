@@ -18,7 +18,7 @@ use Rattle.lines.specs.declared.DidLine.the-variants.{Did, Refused as Di
 use Rattle.lines.specs.declared.RuleLine.{RuleLine}
 use Rattle.lines.specs.declared.RuleLine.the-variants.{Rule, Refused as RuleRefused}
 use Rattle.lines.specs.Reading.{valueOf, thenByte, thenBytes, headRead, thenNumber, thenEnd, limited}
-use Rattle.lines.specs.NumberList.{Listed, thenList, thenSpacedList, thenClose, eight}
+use Rattle.lines.specs.NumberList.{thenList, thenSpacedList, thenClose, eight}
 use Rattle.lines.specs.Words.{word, placed}
 
 -- The limits on numbers (01, Turned back, from the input: 10): the processes and counts, labels, process numbers, and frontiers in a window.

@@ -14,10 +14,9 @@ use Rattle.rules.specs.Text.{byteAt}
 use Rattle.rules.specs.JudgeLaws.{and-true}
 use Rattle.lines.specs.declared.Read.{Read}
 use Rattle.lines.specs.declared.Read.the-variants.{At, Refused}
-use Rattle.lines.specs.declared.Numbers.{Numbers}
 use Rattle.lines.specs.Number.{digits, value, numberOf, numberAt}
 use Rattle.lines.specs.NumberLaws.{inside}
-use Rattle.lines.specs.NumberList.{Listed, listed, afterNumber, numbersAt, allNumbersAt, eight, kept}
+use Rattle.lines.specs.NumberList.{afterNumber, numbersAt, allNumbersAt, eight, kept}
 
 -- ---- A number that was read
 

@@ -1,5 +1,5 @@
 -- Where the text of a number stands up to some place, the reader reads it, or turns it back by 10, or stands at or behind that place.
-use Prim.Native.Nat.{ℕ, suc, _+_, _≤_, _<_}
+use Prim.Native.Nat.{ℕ, _+_, _≤_, _<_}
 use native.Mathlib.Omega.{arith}
 use mathlib.Core.Path.{_≡_, refl, sym, ap, _∙_}
 use mathlib.Core.Bool.{Bool, true, false, cond, _&&_}
@@ -16,7 +16,7 @@ use Rattle.lines.specs.declared.Read.{Read}
 use Rattle.lines.specs.declared.Read.the-variants.{At, Refused}
 use Rattle.lines.specs.Number.{isDigit, digits, value, numberOf, numberAt}
 use Rattle.lines.specs.NumberLaws.{digits-next, digits-end, digits-first}
-use Rattle.lines.specs.Reading.{thenByte, thenNumber}
+use Rattle.lines.specs.Reading.{thenByte}
 use Rattle.lines.specs.Grammar.{AllDigits, Numeral}
 use Rattle.lines.specs.PieceLaws.{placeIn, if-test}
 

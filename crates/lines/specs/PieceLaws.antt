@@ -1,5 +1,5 @@
 -- A line's pieces as the reader reads them: no fault stands before the place where a piece begins, and a fault stays.
-use Prim.Native.Nat.{ℕ, zero, suc, _+_, _≤_, _<_}
+use Prim.Native.Nat.{ℕ, zero, suc, _+_, _≤_}
 use native.Mathlib.Omega.{arith}
 use mathlib.Core.Path.{_≡_, refl}
 use mathlib.Core.Bool.{Bool, true, false, cond, _&&_}
@@ -12,7 +12,7 @@ use Rattle.lines.specs.declared.Read.{Read}
 use Rattle.lines.specs.declared.Read.the-variants.{At, Refused}
 use Rattle.lines.specs.Number.{digits, value, numberOf, numberAt}
 use Rattle.lines.specs.Reading.{thenByte, thenNumber}
-use Rattle.lines.specs.NumberList.{Listed, listed, afterNumber, numbersAt, allNumbersAt, thenList, thenSpacedList, thenClose}
+use Rattle.lines.specs.NumberList.{Listed, afterNumber, numbersAt, thenList, thenSpacedList, thenClose}
 use Rattle.lines.specs.Grammar.{Piece, one, number, list, spacedList}
 
 -- A piece read, and pieces one after the other.

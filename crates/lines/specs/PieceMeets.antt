@@ -2,13 +2,13 @@
 use Prim.Native.Nat.{ℕ, zero, suc, _+_, _≤_, _<_}
 use native.Mathlib.Omega.{arith}
 use native.Mathlib.Nat.{add-zero}
-use mathlib.Core.Path.{_≡_, refl, sym, ap, subst, _∙_}
+use mathlib.Core.Path.{_≡_, refl, ap}
 use mathlib.Core.Bool.{Bool, true, false, cond, _&&_}
-use mathlib.Core.Logic.{_⊎_, inl, inr}
+use mathlib.Core.Logic.{inl, inr}
 use mathlib.Core.List.{List, [], _∷_, _++_, append-assoc}
-use lib.Dec.{leb, ltb, eqb}
+use lib.Dec.{leb, eqb}
 use lib.ListN.{length, length-append}
-use borrow.Author.Tests.{eq-eqb, ne-eqb}
+use borrow.Author.Tests.{ne-eqb}
 use Rattle.rules.specs.Text.{byteAt}
 use Rattle.rules.specs.WordLaws.{if-byte}
 use Rattle.rules.specs.WordMeets.{StandsTo, known, standsTo-left, standsTo-right}
@@ -17,7 +17,7 @@ use Rattle.lines.specs.declared.Read.the-variants.{At, Refused}
 use Rattle.lines.specs.Number.{isDigit, numberAt}
 use Rattle.lines.specs.NumberLaws.{inside, digit-bounds}
 use Rattle.lines.specs.Reading.{thenByte, thenNumber}
-use Rattle.lines.specs.NumberList.{Listed, listed, afterNumber, numbersAt, allNumbersAt, thenList, thenSpacedList, thenClose}
+use Rattle.lines.specs.NumberList.{Listed, afterNumber, numbersAt, allNumbersAt, thenList, thenSpacedList, thenClose}
 use Rattle.lines.specs.Grammar.{AllDigits, Numeral, Numerals, spaced, between, Piece, one, number, list, spacedList, PieceText, TextOf}
 use Rattle.lines.specs.PieceLaws.{readPiece, readPieces, placeIn, if-test, numbers-from, piece-from, piece-stays}
 use Rattle.lines.specs.NumberMeets.{Behind, Near, byte-met, number-met}

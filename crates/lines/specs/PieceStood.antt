@@ -2,7 +2,7 @@
 -- one, up to the fault's place, and behind it where the fault is 10.
 use Prim.Native.Nat.{ℕ, zero, suc, _+_, _≤_, _<_}
 use native.Mathlib.Omega.{arith}
-use mathlib.Core.Path.{_≡_, refl, sym, ap, _∙_}
+use mathlib.Core.Path.{_≡_, refl, sym, _∙_}
 use mathlib.Core.Bool.{Bool, true, false, cond, _&&_}
 use mathlib.Core.List.{List, [], _∷_, _++_, append-assoc, append-nil}
 use lib.Dec.{leb, ltb, eqb}
@@ -19,7 +19,7 @@ use Rattle.lines.specs.Number.{isDigit, digits, value, numberOf, numberA
 use Rattle.lines.specs.NumberLaws.{digit-bounds, digits-first}
 use Rattle.lines.specs.Grammar.{AllDigits, Numeral, Numerals, spaced, between, Piece, one, number, list, spacedList, PieceText, TextOf}
 use Rattle.lines.specs.Reading.{thenByte, thenNumber}
-use Rattle.lines.specs.NumberList.{Listed, listed, afterNumber, numbersAt, thenList, thenSpacedList, thenClose}
+use Rattle.lines.specs.NumberList.{Listed, afterNumber, numbersAt, thenList, thenSpacedList, thenClose}
 use Rattle.lines.specs.PieceLaws.{if-test, readPiece, readPieces, pieces-stay}
 use Rattle.lines.specs.PieceMeets.{Ended, AllEnded}
 use Rattle.lines.specs.NumberMeets.{if-known}

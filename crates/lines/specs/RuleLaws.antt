@@ -1,13 +1,12 @@
 -- The rule's line: where the rule stands, and that no rule is empty.
-use Prim.Native.Nat.{ℕ, _+_, _-_, _≤_, _<_}
+use Prim.Native.Nat.{ℕ, _-_, _≤_, _<_}
 use native.Mathlib.Omega.{arith}
-use mathlib.Core.Path.{_≡_, refl, sym, ap, _∙_}
+use mathlib.Core.Path.{_≡_, refl}
 use mathlib.Core.Bool.{cond}
 use mathlib.Core.List.{List, []}
 use lib.Dec.{eqb}
 use lib.ListN.{length, take, drop}
-use borrow.Author.Tests.{eq-eqb, ne-eqb}
-use Rattle.rules.specs.declared.RuleRead.{RuleRead}
+use borrow.Author.Tests.{eq-eqb}
 use Rattle.rules.specs.declared.RuleRead.the-variants.{Accepted, Refused as TextRefused}
 use Rattle.rules.specs.Text.{byteAt}
 use Rattle.rules.specs.Reader.{Reading, formed, refused, readRule, formAt, expect, andThen}

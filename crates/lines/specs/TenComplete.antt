@@ -6,7 +6,7 @@ use mathlib.Core.Path.{_≡_, refl, sym, ap, _∙_}
 use mathlib.Core.Bool.{Bool, true, false, cond, _&&_}
 use mathlib.Core.Logic.{_⊎_, inl, inr}
 use mathlib.Core.List.{List, [], _∷_, _++_, append-assoc}
-use lib.Dec.{leb, ltb, eqb}
+use lib.Dec.{leb}
 use lib.ListN.{length, length-append, drop}
 use borrow.Author.Tests.{eq-eqb, ne-eqb, lt-leb}
 use Rattle.rules.specs.Text.{byteAt}
@@ -15,13 +15,13 @@ use Rattle.rules.specs.WordLaws.{Span, span-byte, span-append}
 use Rattle.lines.specs.declared.Read.{Read}
 use Rattle.lines.specs.declared.Read.the-variants.{At, Refused}
 use Rattle.lines.specs.Number.{isDigit, digits, value, numberOf, numberAt}
-use Rattle.lines.specs.NumberLaws.{inside, digit-bounds, digits-next, digits-end, digits-first}
+use Rattle.lines.specs.NumberLaws.{inside, digit-bounds, digits-next, digits-end}
 use Rattle.lines.specs.Reading.{thenByte, thenNumber}
-use Rattle.lines.specs.NumberList.{Listed, listed, afterNumber, numbersAt, allNumbersAt, thenList, thenSpacedList, thenClose}
+use Rattle.lines.specs.NumberList.{afterNumber, numbersAt, allNumbersAt, thenList, thenSpacedList, thenClose}
 use Rattle.lines.specs.Grammar.{AllDigits, Numeral, Numerals, spaced, between, Piece, one, number, list, spacedList, PieceText}
-use Rattle.lines.specs.Fault.{NumberOut, trailed, leastBehind, Miscounted, TenIn}
+use Rattle.lines.specs.Fault.{NumberOut, trailed, leastBehind, TenIn}
 use Rattle.lines.specs.PieceLaws.{if-test, readPiece}
-use Rattle.lines.specs.NumberMeets.{if-known, plain-test}
+use Rattle.lines.specs.NumberMeets.{plain-test}
 use Rattle.lines.specs.TenSound.{spaced-trailed, least-zero}
 use Rattle.lines.specs.PieceMeets.{Ended}
 

@@ -1,27 +1,25 @@
 -- Where the reader turns a piece back by 10, that fault stands in the piece.
-use Prim.Native.Nat.{ℕ, zero, suc, _+_, _≤_, _<_}
+use Prim.Native.Nat.{ℕ, zero, suc, _+_, _<_}
 use native.Mathlib.Omega.{arith}
-use mathlib.Core.Path.{_≡_, refl, sym, ap, _∙_}
+use mathlib.Core.Path.{_≡_, refl, sym, _∙_}
 use mathlib.Core.Bool.{Bool, true, false, cond, _&&_}
 use mathlib.Core.Logic.{_⊎_, inl, inr}
 use mathlib.Core.List.{List, [], _∷_, _++_, append-assoc, append-nil}
 use lib.Dec.{leb, ltb, eqb}
 use lib.ListN.{length, length-append, drop}
-use borrow.Author.Tests.{eqb-true, eq-eqb, ltb-false, leb-true, leb-false}
+use borrow.Author.Tests.{eqb-true, eq-eqb, ltb-false, leb-false}
 use Rattle.rules.specs.Text.{byteAt}
-use Rattle.rules.specs.JudgeLaws.{and-true}
-use Rattle.rules.specs.Fault.{Stands}
 use Rattle.rules.specs.WordLaws.{Span, span-nil, span-byte, span-append}
 use Rattle.lines.specs.declared.Read.{Read}
 use Rattle.lines.specs.declared.Read.the-variants.{At, Refused}
 use Rattle.lines.specs.Number.{isDigit, digits, value, numberOf, numberAt}
 use Rattle.lines.specs.NumberLaws.{digits-next, digits-end, digits-first}
-use Rattle.lines.specs.Grammar.{AllDigits, Numeral, Numerals, spaced, between, Piece, one, number, list, spacedList}
+use Rattle.lines.specs.Grammar.{Numeral, Numerals, spaced, between, Piece, one, number, list, spacedList}
 use Rattle.lines.specs.PieceLaws.{if-test, readPiece}
 use Rattle.lines.specs.Fault.{NumberOut, trailed, leastBehind, Miscounted, TenIn}
 use Rattle.lines.specs.NumberMeets.{if-known}
 use Rattle.lines.specs.Reading.{thenByte, thenNumber}
-use Rattle.lines.specs.NumberList.{Listed, listed, afterNumber, numbersAt, thenList, thenSpacedList, thenClose}
+use Rattle.lines.specs.NumberList.{Listed, afterNumber, numbersAt, thenList, thenSpacedList, thenClose}
 use Rattle.lines.specs.PieceStood.{digits-all}
 
 -- Two faults, or a fault and a place, are not the same.

@@ -6,8 +6,8 @@ use mathlib.Core.Path.{_≡_, refl, sym, ap, _∙_}
 use mathlib.Core.List.{List, [], _∷_}
 use lib.ListN.{length, length-set, set, take, drop}
 use Rattle.clocks.specs.Counts.{at, listOf}
-use Rattle.clocks.specs.CountsLaws.{listOf-at, at-listOf}
-use Rattle.lines.specs.Words.{word, placed}
+use Rattle.clocks.specs.CountsLaws.{listOf-at}
+use Rattle.lines.specs.Words.{placed}
 
 -- The elements of eight numbers, one by one.
 pub eight-by-one : (l : List ℕ) → length l ≡ 8

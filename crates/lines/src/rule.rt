@@ -10,7 +10,7 @@ ghost use mathlib.Core.Path.{_≡_};
 ghost use lib.ListN.{length};
 ghost use Rattle.rules.specs.RuleTable.{answerOf};
 ghost use Rattle.rules.specs.Reader.{readRule};
-ghost use Rattle.lines.specs.Lines.{ruleText, ruleClosed, ruleOf, ruleLine};
+ghost use Rattle.lines.specs.Lines.{ruleText, ruleClosed, ruleLine};
 ghost use Rattle.lines.specs.RuleLaws.{RuleWithin};
 
 // The rule read: what stands between its place and the line's last byte.

@@ -10,7 +10,7 @@ use Rattle.codec.specs.Little.{number, put}
 use Rattle.frontiers.specs.Bytes.{countBytes}
 use Rattle.rules.specs.TableBytes.{linesOf}
 use Rattle.clocks.specs.Event.{involved, apply}
-use Rattle.clocks.specs.Counts.{at, listOf, rows}
+use Rattle.clocks.specs.Counts.{listOf, rows}
 use Rattle.clocks.specs.Tested.{ready}
 use Rattle.clocks.specs.ValidTest.{validBy}
 

@@ -22,9 +22,8 @@ use Rattle.clocks.specs.Counts.{at, listOf}
 use Rattle.clocks.specs.BoundedLaws.{all-e}
 use Rattle.clocks.specs.Tested.{readyAt, ready}
 use Rattle.clocks.specs.CountsLaws.{length-listOf, at-listOf, at-beyond}
-use Rattle.records.specs.Record.{clocksPlace, clocksSet, eventLength, pendingPlace, recordLength, pendingCount, eventBytes, inserted, removed, takenCounts}
+use Rattle.records.specs.Record.{clocksPlace, clocksSet, eventLength, pendingPlace, recordLength, pendingCount, eventBytes, inserted, removed, takenCounts, readyIn}
 use Rattle.records.specs.RecordSteps.{event-within, place-below, place-next, events-between, taken-at}
-use Rattle.records.specs.Record.{readyIn}
 
 -- ---- The last clocks
 

@@ -16,8 +16,7 @@ ghost use lib.Seq.{sets};
 ghost use Rattle.clocks.specs.Counts.{at};
 ghost use Rattle.frontiers.specs.Width.{Width};
 ghost use Rattle.frontiers.specs.Bytes.{countBytes};
-ghost use Rattle.records.specs.Record.{eventLength, recordLength, pendingCount, eventBytes, inserted, removed, clocksSet, counted};
-ghost use Rattle.records.specs.Record.{readyIn};
+ghost use Rattle.records.specs.Record.{eventLength, recordLength, pendingCount, eventBytes, inserted, removed, clocksSet, counted, readyIn};
 
 // Stores eight counts at a place.
 pub fn write_counts_at(s: &mut [u8], w: usize, place: usize, counts: [u32; 8])

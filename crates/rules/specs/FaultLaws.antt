@@ -9,8 +9,6 @@ use lib.Dec.{T, ltb}
 use lib.ListN.{length}
 use lib.Seq.{take-append-le, take-take}
 use borrow.Author.Tests.{ltb-true, ltb-false}
-use Rattle.clocks.specs.Event.{less}
-use Rattle.clocks.specs.History.{taken}
 use Rattle.rules.specs.WordLaws.{Span}
 use Rattle.rules.specs.Text.{byteAt}
 use Rattle.rules.specs.ReaderLaws.{Digit}

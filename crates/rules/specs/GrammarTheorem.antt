@@ -9,7 +9,6 @@ use lib.Seq.{getD-take}
 use lib.Dec.{ltb}
 use lib.ListN.{length, length-take}
 use borrow.Author.Tests.{ltb-true, ltb-false}
-use Rattle.clocks.specs.Event.{one}
 use Rattle.rules.specs.Context.{before, closedLines, FramesGrammatical, viable-text}
 use Rattle.rules.specs.FaultLaws.{Clean, none-before-place, Over, over-byte, fault-cases}
 use Rattle.rules.specs.ReaderStops.{Stopped, Outcome}

@@ -14,7 +14,6 @@ use Rattle.clocks.specs.declared.Event.{Event}
 use Rattle.codec.specs.Bit.{bit}
 use Rattle.clocks.specs.History.{labelOf}
 use Rattle.clocks.specs.Event.{Cut}
-use Rattle.clocks.specs.Counts.{at}
 use Rattle.clocks.specs.BoundedLaws.{and-i, and-l, and-r, or-l, or-r, or-e, same-test}
 use Rattle.rules.specs.declared.Line.{Line}
 use Rattle.rules.specs.Judge.{judge, propositionJudged, notJudged, andJudged, eyJudged, esJudged, asJudged, judgeLine}

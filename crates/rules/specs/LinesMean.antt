@@ -7,7 +7,6 @@ use mathlib.Core.Bool.{Bool, true, false, not, _&&_}
 use mathlib.Core.List.{List, _++_, [], _∷_}
 use lib.ListN.{length, getD, length-append, List·getD-append}
 use lib.Seq.{getD-append-add}
-use Rattle.clocks.specs.HistoryLaws.{after}
 use Rattle.rules.specs.declared.Line.{Line}
 use Rattle.rules.specs.Line.{line, propositionLine, notLine, andLine, trueLines, eyLine, esLine, asLine, constantLines, linesBefore, linesAfter, constantWeight, linesBetween, linesAfterBoth, lineCount, lastLine, linesAt}
 use Rattle.rules.specs.Truth.{Model, Property, propositionHolds, notHolds, andHolds, holds, lineTruth, eyHolds, esHolds, asHolds}

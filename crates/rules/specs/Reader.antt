@@ -1,10 +1,9 @@
 -- The reader of rules: from a text to the form that it is, or to the first fault and its place. No byte is read twice.
 use Prim.Native.Nat.{ℕ, zero, suc, _+_, _-_}
-use mathlib.Core.Bool.{Bool, true, false, cond, _&&_}
+use mathlib.Core.Bool.{cond, _&&_}
 use mathlib.Core.List.{List, [], _∷_}
 use lib.Dec.{leb, ltb, eqb}
 use lib.ListN.{length}
-use Rattle.rules.specs.declared.Constant.{Constant}
 use Rattle.rules.specs.declared.Constant.the-variants.{True, False}
 use Rattle.rules.specs.declared.Unary.{Unary}
 use Rattle.rules.specs.declared.Unary.the-variants.{Not, Ey, Ep, Ap, Ay, Eh, Ah}

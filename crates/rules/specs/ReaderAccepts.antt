@@ -9,8 +9,6 @@ use lib.Seq.{take-length}
 use lib.Dec.{ltb}
 use lib.ListN.{length}
 use borrow.Author.Tests.{ltb-false, le-ltb}
-use Rattle.clocks.specs.History.{taken}
-use Rattle.rules.specs.ReaderFrom.{place}
 use Rattle.rules.specs.WordMeets.{standsTo-same}
 use Rattle.rules.specs.Text.{byteAt, textOf, Grammatical, Within}
 use Rattle.rules.specs.ReaderLaws.{andThen-formed, FormRead, formAt-formed}

@@ -1,10 +1,10 @@
 -- A fault's place is below 1,024, however long the text is: each closed form has at most 9 bytes a line, each open one at most 8.
-use Prim.Native.Nat.{ℕ, zero, suc, _+_, _-_, _*_, _<_, _≤_}
+use Prim.Native.Nat.{ℕ, zero, suc, _+_, _-_, _*_, _≤_}
 use native.Mathlib.Omega.{arith}
 use mathlib.Core.Path.{_≡_, refl, subst}
 use mathlib.Core.Bool.{Bool, true, false, cond, _&&_}
-use mathlib.Core.List.{List, [], _∷_, _++_}
-use lib.Dec.{leb, ltb, eqb}
+use mathlib.Core.List.{List}
+use lib.Dec.{leb, ltb}
 use lib.ListN.{length, length-append}
 use Rattle.rules.specs.declared.Constant.{Constant}
 use Rattle.rules.specs.declared.Constant.the-variants.{True, False}
@@ -16,11 +16,11 @@ use Rattle.rules.specs.declared.WordRead.{WordRead}
 use Rattle.rules.specs.declared.WordRead.the-variants.{AtWord, ConstantWord, UnaryWord, BinaryWord, NoWord}
 use Rattle.rules.specs.Formula.{Formula, atom, constant, unary, binary}
 use Rattle.rules.specs.Line.{constantWeight, unaryWeight, binaryWeight, lineCount}
-use Rattle.rules.specs.Text.{byteAt, ascii, constantLetters, unaryLetters, binaryLetters, textOf}
+use Rattle.rules.specs.Text.{byteAt, constantLetters, unaryLetters, binaryLetters, textOf}
 use Rattle.rules.specs.Reader.{wordAt, Reading, formed, refused, andThen, expect, expectDigit, closeAt, atomAt, innerWith, unaryWith, binaryWith, bodyWith, formAt, readRule}
 use Rattle.rules.specs.Fault.{FaultPlaceBelow1024}
-use Rattle.rules.specs.WordLaws.{Span, WordSpan, wordAt-span, if-byte}
-use Rattle.rules.specs.ReaderLaws.{FormRead, formAt-formed, Sound, inner-formed}
+use Rattle.rules.specs.WordLaws.{WordSpan, wordAt-span, if-byte}
+use Rattle.rules.specs.ReaderLaws.{formAt-formed, Sound, inner-formed}
 
 -- Words and texts are short
 

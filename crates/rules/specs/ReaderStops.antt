@@ -9,8 +9,6 @@ use mathlib.Core.Logic.{_⊎_, inl, inr}
 use lib.Dec.{T, leb, ltb}
 use lib.ListN.{take, length}
 use borrow.Author.Tests.{ltb-true, ltb-false, leb-true, leb-false}
-use Rattle.clocks.specs.History.{taken}
-use Rattle.clocks.specs.Event.{less}
 use Rattle.rules.specs.Context.{Frame, before, closedLines, FramesGrammatical, Viable, form-closed, viable-text, viable-part, viable-inside, before-count, viable-at}
 use Rattle.rules.specs.FaultLaws.{Clean, first-over, Over, fault4-digit, clean-next}
 use Rattle.rules.specs.Line.{lineCount}

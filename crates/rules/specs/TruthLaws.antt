@@ -2,11 +2,10 @@
 use Prim.Native.Nat.{ℕ, zero, suc, _+_, _≤_, _<_}
 use native.Mathlib.Omega.{arith}
 use native.Mathlib.Decide.{decLt}
-use mathlib.Core.Path.{_≡_, refl, sym, ap, subst, subst⁻¹, _∙_}
-use mathlib.Core.Bool.{Bool, true, false, _&&_, _||_, true≢false}
+use mathlib.Core.Path.{_≡_, refl, ap, subst, subst⁻¹, _∙_}
+use mathlib.Core.Bool.{Bool, true, false, _&&_, _||_}
 use mathlib.Core.List.{List, [], _∷_, List·Memᴰ, List·Memᴰ·head, List·Memᴰ·tail, List·Memᴰ·cases-cons, List·Memᴰ·not-nil}
 use mathlib.Core.Logic.{_⊎_, inl, inr, ⊎-elim, _↔_}
-use mathlib.Core.Option.{some}
 use lib.Dec.{T, T-not, not-T}
 use Rattle.clocks.specs.declared.Event.{Event}
 use Rattle.clocks.specs.History.{Consistent, Precedes}
@@ -18,7 +17,7 @@ use Rattle.clocks.specs.Predecessors.{predecessor}
 use Rattle.clocks.specs.TestedLaws.{in-takeable, involved-below}
 use Rattle.clocks.specs.BoundedLaws.{and-i, and-l, and-r, or-l, or-r, or-e, any-of-i, any-of-e}
 use Rattle.clocks.specs.Valid.{WellFormed, History, ClockRule}
-use Rattle.rules.specs.Truth.{Model, Property, before, allOf, size, unrolled, recursive, eyHolds, esStep, esHolds, asStep, notHolds, andHolds, asHolds}
+use Rattle.rules.specs.Truth.{Model, Property, allOf, size, unrolled, recursive, eyHolds, esStep, esHolds, asStep, notHolds, andHolds, asHolds}
 
 -- ---- Where they hold
 

@@ -17,7 +17,7 @@ use Rattle.clocks.specs.BoundedLaws.{same-test}
 use Rattle.clocks.specs.Agree.{agree-sym, agree-below, agree-consistent, agree-precedes}
 use Rattle.clocks.specs.Valid.{History, ClockRule}
 use Rattle.rules.specs.TruthLaws.{Ruled, Leads, recursive-is, es-looks, some-before, all-before, leads-smaller, as-looks}
-use Rattle.rules.specs.Truth.{Model, Property, before, allOf, size, propositionHolds, notHolds, andHolds, eyHolds, esStep, esHolds, asStep, asHolds, holds, lineHolds, linesHold, lineTruth, never}
+use Rattle.rules.specs.Truth.{Model, Property, allOf, size, propositionHolds, notHolds, andHolds, eyHolds, esStep, esHolds, asStep, asHolds, holds, lineHolds, linesHold, lineTruth, never}
 use Rattle.rules.specs.declared.Line.{Line}
 use Rattle.rules.specs.Formula.{Pactl, proposition, negation, conjunction, existsYesterday, existsSince, allSince}
 

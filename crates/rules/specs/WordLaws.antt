@@ -8,9 +8,7 @@ use mathlib.Core.List.{List, [], _∷_, _++_}
 use lib.Dec.{eqb}
 use lib.ListN.{length, length-append}
 use borrow.Author.Tests.{eqb-true, eqb-false}
-use Rattle.rules.specs.declared.Constant.the-variants.{True, False}
-use Rattle.rules.specs.declared.Unary.the-variants.{Not, Ey, Ep, Ap, Ay, Eh, Ah}
-use Rattle.rules.specs.declared.Binary.the-variants.{And, Es, As, Or}
+use Rattle.rules.specs.declared.Binary.the-variants.{And}
 use Rattle.rules.specs.declared.WordRead.{WordRead}
 use Rattle.rules.specs.declared.WordRead.the-variants.{AtWord, ConstantWord, UnaryWord, BinaryWord, NoWord}
 use Rattle.rules.specs.Text.{ascii, byteAt, constantLetters, unaryLetters, binaryLetters}

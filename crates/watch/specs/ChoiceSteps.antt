@@ -1,23 +1,20 @@
 -- What the code learns from its choice: which decision it was, and what holds of the event that was decided on.
 use Prim.Native.Nat.{ℕ, _+_, _≤_, _<_}
 use native.Mathlib.Omega.{arith}
-use mathlib.Core.Path.{_≡_, refl, sym, ap, subst, _∙_}
-use mathlib.Core.Bool.{Bool, true, false, _&&_}
+use mathlib.Core.Path.{_≡_, ap, subst, _∙_}
+use mathlib.Core.Bool.{Bool, false}
 use mathlib.Core.List.{List}
 use lib.Dec.{T, ltb, leb, leb→le, ltb→lt}
 use lib.ListN.{length, getD}
 use Rattle.clocks.specs.declared.Event.{Event}
-use Rattle.clocks.specs.Counts.{listOf}
 use Rattle.clocks.specs.BoundedLaws.{and-l, and-r}
 use Rattle.clocks.specs.CountsLaws.{length-listOf, getD-listOf}
 use Rattle.frontiers.specs.declared.Frontier.{Frontier}
 use Rattle.frontiers.specs.Bytes.{frontiers}
 use Rattle.window.specs.Step.{Setting, fits, keptAfter}
-use Rattle.watch.specs.declared.Choice.{Choice}
 use Rattle.watch.specs.declared.Choice.the-variants.{Undecided, Falsified, Chosen}
-use Rattle.records.specs.Record.{keptCount, pendingCount, pendingAt, pendingEvents}
+use Rattle.records.specs.Record.{keptCount, pendingCount, pendingAt, pendingEvents, readyIn}
 use Rattle.watch.specs.Take.{Decision, undecided, false-clock, chosen, tried, settingIn, decided, takeWithin}
-use Rattle.records.specs.Record.{readyIn}
 use Rattle.watch.specs.TakeSteps.{choiceFor}
 use Rattle.watch.specs.Deciding.{Outcome, outcome, none-decides, falsifies, chooses}
 

@@ -11,7 +11,6 @@ use Rattle.rules.specs.Line.{linesAt}
 use Rattle.rules.specs.Table.{tableBytes}
 use Rattle.rules.specs.Reader.{Reading, readRule, formed, refused}
 use Rattle.clocks.specs.Refusal.{badStart}
-use Rattle.clocks.specs.CountsLaws.{filled}
 use Rattle.watch.specs.Take.{stateOf}
 use Rattle.records.specs.Record.{eventLength}
 use Rattle.records.specs.Refusals.{badRecordLength, badWindowLength, badProcesses}

@@ -10,7 +10,6 @@ use Rattle.clocks.specs.declared.Event.{Event}
 use Rattle.codec.specs.Bit.{bit}
 use Rattle.window.specs.Step.{Setting, stepped, fits}
 use Rattle.frontiers.specs.Bytes.{frontiers, replaced}
-use Rattle.clocks.specs.History.{event}
 use Rattle.clocks.specs.Event.{apply}
 use Rattle.clocks.specs.Counts.{at, listOf}
 use Rattle.records.specs.Record.{processCount, lineTotal, keptCount, takenCounts, tableLines, pendingAt, pendingEvents, removed, counted, readyIn, validIn}

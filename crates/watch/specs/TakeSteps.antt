@@ -10,7 +10,6 @@ use Rattle.watch.specs.declared.Choice.{Choice}
 use Rattle.watch.specs.declared.Choice.the-variants.{Undecided, Falsified, Chosen}
 use Rattle.frontiers.specs.declared.Frontier.{Frontier}
 use Rattle.clocks.specs.declared.Event.{Event}
-use Rattle.clocks.specs.History.{event}
 use Rattle.clocks.specs.Event.{Cut, apply, involved}
 use Rattle.clocks.specs.Counts.{at, listOf}
 use Rattle.clocks.specs.CountsLaws.{length-listOf, at-listOf-all, at-beyond}
@@ -22,8 +21,7 @@ use Rattle.codec.specs.BitLaws.{bit-above}
 use Rattle.codec.specs.Little.{number}
 use Rattle.watch.specs.Take.{settingIn, Decision, tried, undecided, false-clock, chosen}
 use Rattle.records.specs.ListSteps.{rest-next, rest-end}
-use Rattle.records.specs.Record.{readyIn, validIn}
-use Rattle.records.specs.Record.{tablePlace, processCount, lineTotal, pendingCount, takenCounts, tableLines, pendingAt, pendingEvents, takenPlace}
+use Rattle.records.specs.Record.{readyIn, validIn, tablePlace, processCount, lineTotal, pendingCount, takenCounts, tableLines, pendingAt, pendingEvents, takenPlace}
 
 -- A decision as the code has it: with an event to take comes how many frontiers are kept then.
 unfoldable pub choiceFor : ℕ → List ℕ → List Frontier → Decision → Choice

@@ -24,9 +24,8 @@ use Rattle.window.specs.Step.{stepped, keptAfter}
 use Rattle.window.specs.StepCode.{Fitting}
 use Rattle.window.specs.Many.{stepped-many}
 use Rattle.frontiers.specs.WindowLaws.{length-frontiers, getD-frontiers}
-use Rattle.records.specs.Record.{pendingAt, pendingCount, pendingPlace, eventLength, removed, takenCounts, counted, lineTotal}
+use Rattle.records.specs.Record.{pendingAt, pendingCount, pendingPlace, eventLength, removed, takenCounts, counted, lineTotal, readyIn}
 use Rattle.watch.specs.Take.{settingIn, decided, chosen, stateOf}
-use Rattle.records.specs.Record.{readyIn}
 use Rattle.watch.specs.Answer.{replyWord, flag}
 
 -- A pending event's parts fit where they were read from.

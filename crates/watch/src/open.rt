@@ -10,7 +10,7 @@ use records::refusal::bad_record_length;
 use records::refusal::bad_window_length;
 use records::refusal::table_place;
 use rules::RuleRead;
-ghost use Prim.Native.Nat.{_+_, _*_, _≤_, _<_};
+ghost use Prim.Native.Nat.{_*_, _≤_};
 ghost use mathlib.Core.Path.{_≡_};
 ghost use lib.ListN.{length};
 ghost use Rattle.rules.specs.TableBytes.{linesOf};

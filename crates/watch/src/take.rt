@@ -30,11 +30,9 @@ ghost use Rattle.frontiers.specs.Bytes.{frontierLength, frontiers, replaced};
 ghost use Rattle.window.specs.Step.{keptAfter, stepped};
 ghost use Rattle.window.specs.StepCode.{Fitting};
 ghost use Rattle.window.specs.Marks.{Marked};
-ghost use Rattle.records.specs.Record.{recordLength, processCount, lineTotal, pendingCount, keptCount, pendingAt, pendingEvents, removed, counted};
+ghost use Rattle.records.specs.Record.{recordLength, processCount, lineTotal, pendingCount, keptCount, pendingAt, pendingEvents, removed, counted, readyIn};
 ghost use Rattle.watch.specs.Answer.{turnedBack, nothingReady, replyWord};
-ghost use Rattle.records.specs.Refusals.{roomOf};
 ghost use Rattle.watch.specs.Take.{settingIn, tried, chosen, decided, takeWithin, takeCall};
-ghost use Rattle.records.specs.Record.{readyIn};
 ghost use Rattle.watch.specs.TakeSteps.{choiceFor, MarkedFor};
 ghost use Rattle.watch.specs.TakeCallSteps.{takeFault};
 

@@ -11,7 +11,6 @@ use lib.ListN.{length, getD, set, take}
 use lib.Seq.{take-suc, take-suc-set}
 use borrow.Author.Tests.{ltb-true, ltb-false, lt-ltb, le-ltb}
 use Rattle.io.specs.Digits.{glyph, digits, Fewest}
-use Rattle.clocks.specs.Counts.{at}
 use Rattle.watch_cli.specs.Answers.{numeralOf, numeral, moreCounts, countsText}
 
 -- A number of 64 bits has at most 20 decimal digits.

@@ -1,7 +1,6 @@
 // Standard input, from chunks of any size to lines.
 
 ghost use Prim.Native.Nat.{_≤_};
-ghost use mathlib.Core.Path.{_≡_};
 ghost use lib.ListN.{length};
 
 const IN: i32 = 0;

@@ -11,13 +11,12 @@ use Rattle.clocks.specs.Event.{involved, minus}
 use Rattle.clocks.specs.Counts.{at, listOf}
 use Rattle.frontiers.specs.declared.Frontier.{Frontier}
 use Rattle.window.specs.Lists.{getD-mapped}
-use Rattle.frontiers.specs.Seek.{seek}
+use Rattle.frontiers.specs.Seek.{seek, keysOf}
 use Rattle.frontiers.specs.Bytes.{frontiers, frontierAt}
 use Rattle.frontiers.specs.WindowLaws.{length-frontiers, getD-frontiers}
 use Rattle.rules.specs.Judge.{judge}
 use Rattle.window.specs.declared.Found.{Found}
 use Rattle.window.specs.Step.{Setting, Gathered, sought, withoutLast, consider, gathered, valuesAt, advanced, judgedBy}
-use Rattle.frontiers.specs.Seek.{keysOf}
 use Rattle.window.specs.StepCode.{soughtWith, gatheredOf, gatheredFrom, hintsFrom, freshFrom}
 
 module _ (s : Setting) (mask : ℕ) (h : s .stored ≡ 8) (v : s .event .mask ≡ mask) (laid : List Frontier) (g : Frontier) (p : ℕ) (k : Gathered) where

@@ -1,22 +1,19 @@
 -- What is made once says what it is made of.
 use Prim.Native.Nat.{ℕ, zero, suc, _+_, _-_, _≤_, _<_}
 use native.Mathlib.Omega.{arith}
-use native.Mathlib.Numerals.{add-one}
 use native.Mathlib.Nat.{mod-eq-of-lt}
 use mathlib.Core.Path.{_≡_, sym, ap, subst, _∙_}
-use mathlib.Core.Bool.{Bool, true, false, cond, not, _&&_, _||_}
+use mathlib.Core.Bool.{Bool, true, false, cond, not, _&&_}
 use mathlib.Core.List.{List}
 use lib.Dec.{T, eqb, leb, ltb, eqb·suc-zero, eqb→eq, leb→le, le→leb, ltb→lt, lt→ltb}
 use lib.ListN.{getD}
 use lib.Bits.{bitAnd, bitOr, bitXor, and-mask, and-zero-r, or-zero-r}
 use borrow.Author.Tests.{eq-eqb}
 use Rattle.codec.specs.Bit.{bit}
-use Rattle.clocks.specs.declared.Event.{Event}
-use Rattle.clocks.specs.Event.{involved, count}
 use Rattle.clocks.specs.EventLaws.{true-T}
 use Rattle.clocks.specs.Counts.{at, listOf}
 use Rattle.clocks.specs.CountsLaws.{getD-listOf}
-use Rattle.clocks.specs.Bounded.{allBelow, anyBelow}
+use Rattle.clocks.specs.Bounded.{anyBelow}
 use Rattle.clocks.specs.BoundedLaws.{and-i, and-l, and-r, same-test, any-i, any-e}
 use Rattle.clocks.specs.Tested.{readyAt}
 use Rattle.window.specs.StepCode.{completeAt, complete}

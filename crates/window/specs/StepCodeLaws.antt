@@ -13,7 +13,7 @@ use Rattle.clocks.specs.declared.Event.{Event}
 use Rattle.codec.specs.Bit.{bit}
 use Rattle.clocks.specs.Event.{one, apply, involved}
 use Rattle.clocks.specs.EventLaws.{true-T}
-use Rattle.clocks.specs.Counts.{at, listOf}
+use Rattle.clocks.specs.Counts.{at}
 use Rattle.clocks.specs.CountsLaws.{listOf-same}
 use Rattle.clocks.specs.Bounded.{allBelow}
 use Rattle.clocks.specs.BoundedLaws.{same-test, all-i, all-e}

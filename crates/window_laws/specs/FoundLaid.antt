@@ -8,11 +8,9 @@ use Rattle.clocks.specs.declared.Event.{Event}
 use Rattle.clocks.specs.Event.{Cut}
 use Rattle.clocks.specs.Counts.{listOf, at}
 use Rattle.clocks.specs.Lattice.{zeros}
-use Rattle.rules.specs.ReaderFrom.{place}
 use Rattle.frontiers.specs.declared.Frontier.{Frontier}
-use Rattle.frontiers.specs.Seek.{seek}
+use Rattle.frontiers.specs.Seek.{seek, keysOf}
 use Rattle.window.specs.Step.{valuesAt}
-use Rattle.frontiers.specs.Seek.{keysOf}
 use Rattle.window_laws.specs.Represents.{World, frontierOf, Sorted}
 use Rattle.frontiers.specs.Order.{Ascending}
 use Rattle.window.specs.Lists.{map-map, getD-mapped}

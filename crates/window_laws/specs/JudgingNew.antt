@@ -4,10 +4,9 @@ use Prim.Native.Nat.{ℕ, _≤_, _<_, suc, zero}
 use native.Mathlib.Omega.{arith}
 use native.Mathlib.Decide.{decLt}
 use mathlib.Core.Path.{_≡_, sym, ap, _∙_, refl, subst, subst⁻¹}
-use mathlib.Core.Bool.{true, false, not, _&&_, true≢false, Bool}
+use mathlib.Core.Bool.{true, false, not, _&&_, Bool}
 use mathlib.Core.List.{List, _∷_, map, List·Memᴰ}
 use mathlib.Core.Logic.{_⊎_, inl, inr, ⊎-elim, _≢_}
-use mathlib.Core.Option.{some}
 use lib.Dec.{T, eqb, ltb, ltb→lt, lt→ltb, T-not}
 use lib.ListN.{getD, length, length-map}
 use lib.Count.{trailingZeros}
@@ -22,7 +21,6 @@ use Rattle.clocks.specs.PrecedingStep.{origin-precedes, precedes-new}
 use Rattle.clocks.specs.Preceding.{mask-precedes, precedes-last}
 use Rattle.clocks.specs.Step.{consistent-new, Advanced}
 use Rattle.clocks.specs.Counts.{at, listOf}
-use Rattle.clocks.specs.Tested.{ready, consistent}
 use Rattle.clocks.specs.CountsLaws.{getD-listOf, listOf-same, at-listOf}
 use Rattle.clocks.specs.Valid.{WellFormed, Takeable, History}
 use Rattle.clocks.specs.EventLaws.{either, true-T, ready-same, apply-next, apply-up, less-minus, less-apply}
@@ -30,7 +28,6 @@ use Rattle.clocks.specs.TestedLaws.{in-takeable, involved-below}
 use Rattle.clocks.specs.BoundedLaws.{and-l, and-r}
 use Rattle.clocks.specs.HistoryLaws.{event-zero, event-next}
 use Rattle.codec.specs.Bit.{bit}
-use Rattle.rules.specs.Reader.{formed}
 use Rattle.clocks.specs.KeptStep.{new-kept}
 use Rattle.clocks.specs.CausalLaws.{mask-some}
 use Rattle.clocks.specs.Agree.{agree-old}
@@ -40,10 +37,8 @@ use Rattle.rules.specs.JudgeTruth.{Preceding, LabelsAt, judged-right}
 use Rattle.frontiers.specs.declared.Frontier.{Frontier}
 use Rattle.window_laws.specs.FrontierLaws.{advanced-counts, advanced-masks, bit-wordOf, frontier-agree, word-is, advanced-labels}
 use Rattle.window.specs.Step.{Setting, advanced, sought, withoutLast, Gathered, consider, gathered, valuesAt, judgedBy}
-use Rattle.frontiers.specs.Seek.{keysOf}
+use Rattle.frontiers.specs.Seek.{keysOf, seek}
 use Rattle.window_laws.specs.Represents.{World, modelOf, openIn, KeptIn, frontierOf, Sorted, settingOf, Proper, wordOf}
-use Rattle.frontiers.specs.Order.{before, same}
-use Rattle.frontiers.specs.Seek.{seek}
 use Rattle.window_laws.specs.FoundLaid.{found-e, found-i}
 use Rattle.window_laws.specs.OrderCuts.{before-pointwise}
 use Rattle.window_laws.specs.StoredCuts.{listOf-injective, first-process}

@@ -12,7 +12,7 @@ use Rattle.codec.specs.Bit.{bit}
 use Rattle.rules.specs.Judge.{withBit}
 use Rattle.rules.specs.Truth.{Model, lineTruth}
 use Rattle.rules.specs.Table.{goodTable}
-use Rattle.clocks.specs.History.{taken, event, maskOf, labelOf}
+use Rattle.clocks.specs.History.{taken, maskOf, labelOf}
 use Rattle.clocks.specs.Event.{Cut}
 use Rattle.clocks.specs.Kept.{KeptCut}
 use Rattle.clocks.specs.Counts.{listOf}

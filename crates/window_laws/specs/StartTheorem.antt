@@ -20,7 +20,6 @@ use Rattle.clocks.specs.Counts.{listOf}
 use Rattle.clocks.specs.Lattice.{zeros, zeros-consistent}
 use Rattle.clocks.specs.CountsLaws.{getD-listOf}
 use Rattle.rules.specs.JudgeLaws.{judge-above}
-use Rattle.clocks.specs.Tested.{consistent}
 use Rattle.window_laws.specs.Represents.{World, modelOf, Proper, wordOf, frontierOf, Represents}
 use Rattle.frontiers.specs.declared.Frontier.{Frontier}
 use Rattle.window_laws.specs.FrontierLaws.{word-is}

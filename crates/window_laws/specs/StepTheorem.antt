@@ -4,7 +4,7 @@ use Prim.Native.Nat.{ℕ, _≤_, _<_}
 use native.Mathlib.Omega.{arith}
 use native.Mathlib.Decide.{decLt}
 use mathlib.Core.Path.{_≡_, sym, ap, fun-ext, _∙_, refl, subst⁻¹, ap₂, subst}
-use mathlib.Core.Bool.{Bool, true, _&&_, _||_, false, true≢false}
+use mathlib.Core.Bool.{Bool, true, _&&_, _||_, false}
 use mathlib.Core.List.{List, _∷_, [], _++_, map, List·Memᴰ, append-nil, List·Memᴰ·head, List·Memᴰ·tail, List·Memᴰ·cases-cons, Memᴰ·append-left, List·Memᴰ·append-cases}
 use mathlib.Core.Logic.{inl, inr, ⊎-elim, _↔_}
 use lib.Dec.{T, eqb, eqb→eq}
@@ -24,7 +24,6 @@ use Rattle.clocks.specs.BoundedLaws.{and-i, and-l, and-r, or-l, or-r, or-e, all
 use Rattle.clocks.specs.CountsLaws.{length-listOf, getD-listOf, at-beyond}
 use Rattle.clocks.specs.Valid.{WellFormed, Takeable, History}
 use Rattle.clocks.specs.Agree.{agree-old}
-use Rattle.clocks.specs.Tested.{ready, consistent}
 use Rattle.clocks.specs.KeptStep.{new-kept, kept-step}
 use Rattle.clocks.specs.Step.{consistent-old, consistent-new}
 use Rattle.window.specs.Step.{Setting, stays, enabledAt, advanced, Slot, slotCounts, lay, staying, fresh, Gathered, gathered, judgedBy, filtered, merge, slots, stepped}

@@ -10,7 +10,6 @@ use Rattle.clocks.specs.History.{Agree, Causal}
 use Rattle.clocks.specs.Event.{Cut}
 use Rattle.clocks.specs.ClockRule.{history-causal}
 use Rattle.clocks.specs.Counts.{listOf}
-use Rattle.clocks.specs.Tested.{consistent}
 use Rattle.clocks.specs.SameEvents.{Same, same-sym, same-taken, same-agree, same-consistent}
 use Rattle.frontiers.specs.declared.Frontier.{Frontier}
 use Rattle.window_laws.specs.FrontierLaws.{frontier-agree}

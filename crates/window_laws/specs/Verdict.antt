@@ -1,12 +1,11 @@
 -- The last frontier is the largest cut's, so its bit of the last line is the verdict.
-use Prim.Native.Nat.{ℕ, suc, _+_, _-_, _≤_, _<_}
+use Prim.Native.Nat.{ℕ, suc, _-_, _≤_, _<_}
 use native.Mathlib.Omega.{arith}
 use mathlib.Core.Path.{_≡_, refl, sym, ap, subst⁻¹, _∙_}
-use mathlib.Core.Bool.{Bool, true, false, cond}
-use mathlib.Core.List.{List, [], _∷_, _++_, map, List·Memᴰ, List·Memᴰ·head, List·Memᴰ·tail, List·Memᴰ·cases-cons, List·Memᴰ·not-nil, List·Memᴰ·eq-of-singleton}
+use mathlib.Core.List.{List, [], _∷_, map, List·Memᴰ, List·Memᴰ·head, List·Memᴰ·tail, List·Memᴰ·cases-cons, List·Memᴰ·not-nil, List·Memᴰ·eq-of-singleton}
 use mathlib.Core.Logic.{inr, ⊎-elim}
 use lib.Dec.{T}
-use lib.ListN.{length, getD, replicate, length-append, length-map}
+use lib.ListN.{length, getD, length-map}
 use Rattle.clocks.specs.declared.Event.{Event}
 use Rattle.codec.specs.Bit.{bit}
 use Rattle.rules.specs.Truth.{lineTruth}
@@ -15,10 +14,8 @@ use Rattle.clocks.specs.Event.{Cut}
 use Rattle.clocks.specs.ClockRule.{history-causal, consistent-silent}
 use Rattle.clocks.specs.Counts.{listOf}
 use Rattle.clocks.specs.Lattice.{taken-consistent}
-use Rattle.clocks.specs.Tested.{consistent}
 use Rattle.frontiers.specs.declared.Frontier.{Frontier}
 use Rattle.window_laws.specs.FrontierLaws.{bit-wordOf}
-use Rattle.window.specs.Step.{Setting, stays, enabledAt, advanced, filtered, Slot, mergeInto, merge, slots, gathered, judgedBy, lay, stepped, keptAfter, staying, fresh}
 use Rattle.window_laws.specs.Represents.{World, modelOf, KeptIn, frontierOf, Sorted, Represents, Proper}
 use Rattle.frontiers.specs.Order.{before}
 use Rattle.window_laws.specs.OrderCuts.{before-above}

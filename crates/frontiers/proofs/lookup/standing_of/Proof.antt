@@ -1,6 +1,5 @@
 -- The comparison of two numbers is the definition's test.
 use borrow.Author.Tests.{lt-ltb, le-ltb}
-use native.Mathlib.Omega.{arith}
 use borrow.Author.Needs.{needs}
 use Rattle.frontiers.proofs.lookup.standing_of.Statement.{statement}
 use Rattle.frontiers.proofs.lookup.standing_of.Tie as tie

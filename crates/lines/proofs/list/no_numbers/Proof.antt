@@ -2,7 +2,6 @@
 use mathlib.Core.Path.{refl}
 use Rattle.clocks.specs.Counts.{listOf}
 use Rattle.lines.specs.NumberList.{kept}
-use borrow.Author.Needs.{needs}
 use Rattle.lines.proofs.list.no_numbers.Statement.{statement}
 use Rattle.lines.proofs.list.no_numbers.Tie as tie
 

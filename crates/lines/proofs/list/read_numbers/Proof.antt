@@ -1,6 +1,6 @@
 -- The loop keeps to `Going`: the numbers before `at` are read, and the rest of the list is what is left.
 use native.Mathlib.Omega.{arith}
-use Prim.Native.Nat.{_-_, _≤_}
+use Prim.Native.Nat.{_-_}
 use mathlib.Core.Path.{_≡_, refl, sym, ap, _∙_}
 use lib.ListN.{length, length-set}
 use Rattle.lines.specs.ListLaws.{Going, number-after, going-start, going-refused, going-last, going-again}

@@ -7,7 +7,7 @@ use mathlib.Core.List.{List, [], _∷_}
 use lib.ListN.{length, drop, drop-of-length-le}
 use borrow.Author.Tests.{not-true, not-false}
 use Rattle.rules.specs.Text.{byteAt}
-use Rattle.lines.specs.Number.{digits, value, isDigit}
+use Rattle.lines.specs.Number.{digits, value}
 use Rattle.lines.specs.NumberLaws.{Says, DigitsRead, digits-next, digits-end, grown, says-next, digit-bounds}
 use borrow.Author.Needs.{needs}
 use Rattle.lines.proofs.number.read_digits.Statement.{statement}

@@ -1,5 +1,5 @@
 -- Each return is the number's definition by the tests in the code's order, `number-step`.
-use mathlib.Core.Path.{_≡_, sym, _∙_}
+use mathlib.Core.Path.{sym, _∙_}
 use borrow.Author.Tests.{le-leb, lt-leb, lt-ltb, le-ltb}
 use Rattle.lines.specs.NumberLaws.{number-step}
 use borrow.Author.Needs.{needs}

@@ -1,7 +1,6 @@
 -- Each return is a case of the definition; a byte that is met stands inside the line, so the next place is a place.
 use Rattle.lines.specs.Reading.{thenByte}
 use native.Mathlib.Omega.{arith}
-use mathlib.Core.Path.{sym, _∙_}
 use borrow.Author.Tests.{eq-eqb, ne-eqb}
 use Rattle.lines.specs.NumberLaws.{inside}
 use borrow.Author.Needs.{needs}

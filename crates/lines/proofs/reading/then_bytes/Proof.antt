@@ -1,8 +1,8 @@
 -- The loop has met the bytes before i: those that are left decide. Each turn is `thenBytes-next`.
 use Prim.Native.Nat.{_≤_, _-_}
 use mathlib.Core.Path.{_≡_, refl, sym, _∙_}
-use lib.ListN.{length, getD, drop}
-use Rattle.lines.specs.Reading.{thenByte, thenBytes}
+use lib.ListN.{length, drop}
+use Rattle.lines.specs.Reading.{thenBytes}
 use Rattle.lines.specs.ReadingLaws.{thenBytes-next, thenBytes-end}
 use borrow.Author.Needs.{needs}
 use Rattle.lines.proofs.reading.then_bytes.Statement.{statement}

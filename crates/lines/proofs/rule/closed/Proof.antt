@@ -1,7 +1,7 @@
 -- The answer on the text decides; an accepted text is not empty, so the line has a last byte behind it.
 use Prim.Native.Nat.{_-_}
 use native.Mathlib.Omega.{arith}
-use mathlib.Core.Path.{_≡_, sym, _∙_}
+use mathlib.Core.Path.{sym, _∙_}
 use borrow.Author.Tests.{eq-eqb, ne-eqb}
 use Rattle.lines.specs.RuleLaws.{closed-refused, closed-accepted, closed-short}
 use borrow.Author.Needs.{needs}

@@ -10,9 +10,8 @@ use Rattle.clocks.specs.Event.{apply}
 use Rattle.clocks.specs.Counts.{at, listOf}
 use Rattle.clocks.specs.Tested.{ready}
 use Rattle.records.proofs.update.count_taken.Statement.{statement}
-use Rattle.records.specs.Record.{counted, takenCounts}
+use Rattle.records.specs.Record.{counted, takenCounts, readyIn}
 use Rattle.records.specs.UpdateSteps.{applied-fits}
-use Rattle.records.specs.Record.{readyIn}
 
 taken-counts-requires : tie.Need-taken-counts-requires
 taken-counts-requires c κs = search needs

@@ -1,5 +1,4 @@
 -- The first frontier at which the line holds decides, or none: the laws `find-here` and `find-none`.
-use native.Mathlib.Omega.{arith}
 use mathlib.Core.Path.{sym, _∙_}
 use denote.Ref.{now}
 use borrow.Author.Needs.{needs}

@@ -1,5 +1,4 @@
 -- Four reads, and the OR of what they give.
-use native.Mathlib.Omega.{arith}
 use borrow.Author.Needs.{needs}
 use Rattle.watch.proofs.find.four_values.Statement.{statement}
 use Rattle.watch.proofs.find.four_values.Tie as tie

@@ -3,12 +3,11 @@ use Rattle.watch.proofs.take.count_event.Tie as tie
 use Prim.Native.Nat.{ℕ}
 use mathlib.Core.List.{List}
 use lib.Dec.{T}
-use mathlib.Core.Path.{_≡_, ap, _∙_}
+use mathlib.Core.Path.{ap, _∙_}
 use borrow.Author.Needs.{needs}
 use denote.Ref.{now}
 use Rattle.watch.proofs.take.count_event.Statement.{statement}
-use Rattle.records.specs.Record.{counted}
-use Rattle.records.specs.Record.{readyIn}
+use Rattle.records.specs.Record.{counted, readyIn}
 use Rattle.watch.specs.TakenSteps.{removed-ready}
 
 remove-event-requires : tie.Need-remove-event-requires

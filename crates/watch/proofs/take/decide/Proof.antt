@@ -16,9 +16,8 @@ use Rattle.clocks.specs.EventLaws.{true-T}
 use Rattle.window.specs.Step.{fits, keptAfter}
 use Rattle.frontiers.specs.Bytes.{frontiers}
 use Rattle.watch.specs.declared.Choice.the-variants.{Undecided, Chosen}
-use Rattle.records.specs.Record.{pendingAt, pendingEvents}
+use Rattle.records.specs.Record.{pendingAt, pendingEvents, readyIn, validIn}
 use Rattle.watch.specs.Take.{Decision, settingIn, tried}
-use Rattle.records.specs.Record.{readyIn, validIn}
 use Rattle.watch.specs.TakeSteps.{choiceFor, triedFrom, tried-end, tried-pass, tried-false, tried-fits, tried-full}
 
 abbrev whole : ℕ → List ℕ → ℕ → List ℕ → ℕ → Decision

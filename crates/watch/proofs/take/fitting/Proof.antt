@@ -1,8 +1,6 @@
 -- Nothing never fits; else the numbers decide.
 use Rattle.watch.proofs.take.fitting.Tie as tie
-use mathlib.Core.Path.{_≡_}
 use borrow.Author.Tests.{lt-ltb}
-use borrow.Author.Needs.{needs}
 use native.Mathlib.Omega.{arith}
 use Rattle.watch.proofs.take.fitting.Statement.{statement}
 

@@ -1,8 +1,7 @@
 -- The counts that the event leads to are the setting's, and the table does not matter for how many frontiers are kept, nor for their marks.
 use Rattle.watch.proofs.take.kept_with.Tie as tie
 use native.Mathlib.Omega.{arith}
-use mathlib.Core.Path.{_≡_, sym, ap, _∙_}
-use lib.Dec.{T}
+use mathlib.Core.Path.{_≡_, ap, _∙_}
 use Prim.Native.Nat.{ℕ, _<_}
 use mathlib.Core.List.{List}
 use borrow.Author.Needs.{needs}
@@ -10,8 +9,7 @@ use denote.Ref.{now}
 use Rattle.watch.proofs.take.kept_with.Statement.{statement}
 use Rattle.clocks.specs.Event.{apply}
 use Rattle.clocks.specs.Counts.{at, listOf}
-use Rattle.records.specs.Record.{takenCounts}
-use Rattle.records.specs.Record.{readyIn}
+use Rattle.records.specs.Record.{takenCounts, readyIn}
 use Rattle.watch.specs.TakeSteps.{setting-with}
 
 process-count-requires : tie.Need-process-count-requires

@@ -13,9 +13,8 @@ use Rattle.clocks.specs.Counts.{at, listOf}
 use Rattle.frontiers.specs.Bytes.{frontiers}
 use Rattle.window.specs.Step.{Setting, keptAfter}
 use Rattle.window.specs.StepCode.{settingWith}
-use Rattle.records.specs.Record.{takenCounts}
+use Rattle.records.specs.Record.{takenCounts, readyIn}
 use Rattle.watch.specs.Take.{settingIn}
-use Rattle.records.specs.Record.{readyIn}
 use Rattle.watch.specs.TakeSteps.{setting-lent}
 
 process-count-requires : tie.Need-process-count-requires

@@ -1,6 +1,6 @@
 -- Turned back, or the event taken within the room of the window: the laws `take-turned`, `take-goes` and `take-fit`.
 use Rattle.watch.proofs.take.take.Tie as tie
-use mathlib.Core.Path.{_≡_, sym, ap, _∙_}
+use mathlib.Core.Path.{_≡_, sym, _∙_}
 use lib.ListN.{length}
 use borrow.Author.Needs.{needs}
 use denote.Ref.{now}

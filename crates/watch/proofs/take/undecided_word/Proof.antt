@@ -1,8 +1,5 @@
 -- 36 or nothing ready.
 use Rattle.watch.proofs.take.undecided_word.Tie as tie
-use mathlib.Core.Path.{_≡_}
-use borrow.Author.Needs.{needs}
-use denote.Ref.{now}
 use Rattle.watch.proofs.take.undecided_word.Statement.{statement}
 use Rattle.watch.specs.Answer.{replyWord}
 

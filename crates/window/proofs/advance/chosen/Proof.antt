@@ -1,6 +1,6 @@
 -- A full byte leaves the first, an empty one the second: the law `chosen-byte`.
-use mathlib.Core.Path.{_≡_, ap, _∙_}
-use Prim.Native.Nat.{ℕ, _<_}
+use mathlib.Core.Path.{ap, _∙_}
+use Prim.Native.Nat.{ℕ}
 use lib.Bits.{bitAnd, bitOr, bitXor}
 use borrow.Author.Needs.{needs}
 use Rattle.window.proofs.advance.chosen.Statement.{statement}

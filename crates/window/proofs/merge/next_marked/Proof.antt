@@ -7,7 +7,6 @@ use mathlib.Core.List.{List}
 use borrow.Author.Needs.{needs}
 use Rattle.window.proofs.merge.next_marked.Statement.{statement}
 use Rattle.window.proofs.merge.next_marked.Tie as tie
-use denote.Ref.{now}
 use native.Mathlib.Nat.{le-refl}
 use Rattle.frontiers.specs.declared.Frontier.{Frontier}
 use Rattle.window.specs.Laying.{restOf}

@@ -1,5 +1,4 @@
 -- The choice is the definition's.
-use mathlib.Core.Path.{_∙_}
 use borrow.Author.Needs.{needs}
 use Rattle.window.proofs.prepared.bound_count.Statement.{statement}
 use Rattle.window.proofs.prepared.bound_count.Tie as tie

@@ -1,10 +1,10 @@
 -- The bytes of the frontiers, then zeros where there were more: the laws `copied-replaced` and `read-back`.
 use Rattle.window.proofs.step.copy_back.Tie as tie
-use Prim.Native.Nat.{ℕ, _-_, _*_, _<_}
+use Prim.Native.Nat.{ℕ, _-_, _<_}
 use native.Mathlib.Omega.{arith}
-use mathlib.Core.Path.{_≡_, ap, _∙_}
+use mathlib.Core.Path.{ap, _∙_}
 use mathlib.Core.List.{List}
-use lib.ListN.{getD, length, take, replicate}
+use lib.ListN.{getD, length, replicate}
 use lib.Seq.{sets}
 use borrow.Author.Needs.{needs}
 use denote.Ref.{now}
