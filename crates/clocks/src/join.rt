@@ -10,7 +10,7 @@ ghost use Rattle.clocks.specs.Event.{one};
 ghost use Rattle.clocks.specs.Valid.{joinTo};
 ghost use Rattle.clocks.specs.ValidTest.{validBy};
 ghost use Rattle.clocks.specs.Counts.{at, listOf, rows};
-ghost use Rattle.clocks.specs.Lattice.{upper};
+ghost use Rattle.clocks.specs.cuts.Lattice.{upper};
 
 // The larger of two counts.
 fn larger_count(a: u32, b: u32) -> u32

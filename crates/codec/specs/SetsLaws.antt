@@ -3,8 +3,8 @@ use Prim.Native.Nat.{ℕ, zero, suc, _+_, _≤_, _<_}
 use native.Mathlib.Nat.{add-zero, add-suc, suc-add, zero-add}
 use native.Mathlib.Omega.{arith}
 use mathlib.Core.Path.{_≡_, refl, ap, _∙_}
-use mathlib.Core.List.{List, [], _∷_, _++_, append-assoc}
-use lib.ListN.{length, take, drop, getD, set, take-append-drop}
+use mathlib.Core.List.{List, [], _∷_, _++_, append-assoc, append-nil}
+use lib.ListN.{length, take, drop, getD, set, take-append-drop, drop-of-length-le}
 use lib.Seq.{sets, sets-eq, take-nil, set-set, set-comm, length-take-le, take-at, drop-at, take-set-le, take-set-lt, drop-set-lt, drop-set-add, getD-set-other}
 
 module _ {ℓ} {A : Type ℓ} where
@@ -100,3 +100,9 @@ module _ {ℓ} {A : Type ℓ} where
   sets-sets s at (x ∷ xs) [] h = absurd (omega arith)
   sets-sets s at (x ∷ xs) (y ∷ ys) h =
       rw (set-sets (set s at x) at y (suc at) xs (omega arith), set-set) (sets-sets (set s at y) (suc at) xs ys (omega arith))
+
+  -- A whole list stored over another.
+  pub sets-whole : (s bs : List A) → length bs ≡ length s → sets s 0 bs ≡ bs
+  sets-whole s bs e =
+      sets-eq bs s 0 (omega arith)
+      ∙ rw (zero-add (length bs), drop-of-length-le s {i = length bs} (omega arith)) (append-nil bs)

@@ -7,18 +7,18 @@ use lib.Dec.{eqb}
 use lib.ListN.{length, replicate}
 use Rattle.clocks.specs.declared.Event.{Event}
 use Rattle.frontiers.specs.Bytes.{frontiers}
-use Rattle.rules.specs.Line.{line}
 use Rattle.clocks.specs.Counts.{at}
-use Rattle.clocks.specs.Lattice.{zeros}
-use Rattle.watch.specs.Find.{findCall}
-use Rattle.watch.specs.Take.{Decision, tried, takeCall, undecided, false-clock, chosen}
+use Rattle.clocks.specs.cuts.Lattice.{zeros}
+use Rattle.call_find.specs.Find.{findCall}
+use Rattle.call_take.specs.Take.{Decision, tried, takeCall, undecided, false-clock, chosen}
 use Rattle.records.specs.Record.{keptCount, pendingAt, pendingEvents}
-use Rattle.records.specs.Refusals.{badRecordLength, badWindowLength, roomOf, badState}
-use Rattle.watch.specs.Open.{Opened}
-use Rattle.watch.specs.Answer.{Answer, turnedBack, state, nothingReady, held, found, absent}
-use Rattle.watch.specs.Offer.{placeAmong, offeredEvent, offerCall}
+use Rattle.refusals.specs.Refusals.{badRecordLength, badWindowLength, roomOf, badState}
+use Rattle.call_open.specs.Open.{Opened}
+use Rattle.answers.specs.Answer.{Answer, turnedBack, state, nothingReady, held, found, absent}
+use Rattle.call_offer.specs.Offer.{placeAmong, offeredEvent, offerCall}
 use Rattle.demands.specs.Ledger.{Ledger}
 use Rattle.demands.specs.Status.{insertAt, removeAt}
+use Rattle.pactl.specs.Line.{line}
 
 -- A call: an offer of an event by its mask, clock and labels; a take, lent the window with so many zeros appended, and a scratch of any
 -- length and content; a find of a line.

@@ -4,11 +4,11 @@ use mathlib.Core.Path.{_≡_}
 use mathlib.Core.Bool.{cond}
 use mathlib.Core.List.{List, [], _∷_, _++_, List·Memᴰ}
 use lib.ListN.{length, getD, take, drop, replicate}
-use Rattle.rules.specs.declared.Line.{Line}
+use Rattle.pactl.specs.declared.Line.{Line}
 use Rattle.clocks.specs.declared.Event.{Event}
 use Rattle.codec.specs.Little.{bytesOf}
 use Rattle.frontiers.specs.Bytes.{countBytes}
-use Rattle.rules.specs.Table.{tableBytes}
+use Rattle.pactl.specs.Table.{tableBytes}
 use Rattle.clocks.specs.Event.{count, Cut, involved, apply}
 use Rattle.clocks.specs.Counts.{at, listOf}
 use Rattle.records.specs.Record.{eventLength, eventBytes}

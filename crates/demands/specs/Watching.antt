@@ -12,27 +12,27 @@ use lib.Dec.{T}
 use lib.ListN.{length, getD}
 use lib.Pow.{pow-mono}
 use Rattle.frontiers.specs.declared.Frontier.{Frontier}
-use Rattle.rules.specs.declared.Line.{Line}
+use Rattle.pactl.specs.declared.Line.{Line}
 use Rattle.clocks.specs.declared.Event.{Event}
 use Rattle.codec.specs.LittleLaws.{pow-256-pos}
 use Rattle.window_laws.specs.Represents.{World, Represents, Proper, modelOf, frontierOf}
 use Rattle.frontiers.specs.Bytes.{frontierLength, windowBytes}
-use Rattle.rules.specs.Table.{tableBytes, goodTable}
+use Rattle.pactl.specs.Table.{tableBytes, goodTable}
 use Rattle.clocks.specs.Event.{count, Cut, involved}
 use Rattle.clocks.specs.History.{taken, clockOf, lastClock, Causal, event, ofEvent, maskOf, labelOf, Consistent, In}
-use Rattle.clocks.specs.ClockRule.{history-causal}
+use Rattle.clocks.specs.validity.ClockRule.{history-causal}
 use Rattle.clocks.specs.Key.{keyOf, keyBefore}
-use Rattle.clocks.specs.JoinedClock.{joined-rule}
-use Rattle.clocks.specs.HistoryLaws.{event-exists, event-numbered}
+use Rattle.clocks.specs.validity.JoinedClock.{joined-rule}
+use Rattle.clocks.specs.cuts.HistoryLaws.{event-exists, event-numbered}
 use Rattle.clocks.specs.Refusal.{Faultless}
 use Rattle.clocks.specs.Valid.{Joined, History}
-use Rattle.clocks.specs.CausalLaws.{clock-some, clock-cases, count-number}
+use Rattle.clocks.specs.cuts.CausalLaws.{clock-some, clock-cases, count-number}
 use Rattle.window_laws.specs.FrontierLaws.{wordOf-lt}
 use Rattle.window.specs.Lists.{mapped-e}
 use Rattle.frontiers.specs.Shaped.{Shaped, AllShaped}
-use Rattle.rules.specs.Truth.{lineTruth}
+use Rattle.pactl.specs.Truth.{lineTruth}
 use Rattle.clocks.specs.Counts.{at, listOf}
-use Rattle.clocks.specs.CountsLaws.{length-listOf, at-listOf, at-beyond}
+use Rattle.clocks.specs.stored.CountsLaws.{length-listOf, at-listOf, at-beyond}
 use Rattle.demands.specs.Ledger.{Ledger, Kept-right}
 use Rattle.demands.specs.Status.{Status, recordBytes, Storable, Sized}
 

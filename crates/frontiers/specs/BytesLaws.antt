@@ -12,7 +12,7 @@ use Rattle.codec.specs.LittleLaws.{length-bytesOf, valueOf-bytesOf, Bytes-drop,
 use Rattle.codec.specs.SetsLaws.{take-drop}
 use Rattle.clocks.specs.Counts.{at, listOf}
 use Rattle.codec.specs.PutLaws.{bytesOf-number, number-drop, number-lt}
-use Rattle.clocks.specs.CountsLaws.{listOf-same, length-listOf, at-listOf, at-beyond, filled}
+use Rattle.clocks.specs.stored.CountsLaws.{listOf-same, length-listOf, at-listOf, at-beyond, filled}
 use Rattle.frontiers.specs.Bytes.{countBytes, frontierLength, frontierBytes, frontierFrom}
 use Rattle.frontiers.specs.declared.Frontier.{Frontier}
 use Rattle.frontiers.specs.Shaped.{Shaped}

@@ -5,18 +5,17 @@ use native.Mathlib.Numerals.{add-one}
 use native.Mathlib.Nat.{zero-mul, suc-mul, mul-comm, mul-sub, le-of-suc-le-suc, le-refl}
 use mathlib.Core.Path.{_≡_, refl, sym, _∙_, ap}
 use mathlib.Core.List.{List, [], _∷_, _++_, List·Memᴰ·head, List·Memᴰ·tail, append-assoc, append-nil}
-use lib.ListN.{length, getD, take, replicate, length-append, length-replicate, drop, length-map, List·getD-map, replicate-append-replicate}
+use lib.ListN.{length, getD, take, replicate, length-append, length-replicate, drop, replicate-append-replicate}
 use lib.Seq.{sets, drop-at, drop-append-add, length-take-le, take-add, sets-eq}
 use Rattle.codec.specs.Little.{Bytes, number}
 use Rattle.clocks.specs.Counts.{listOf, at}
 use Rattle.codec.specs.SetsLaws.{take-sets, part-sets, sets-append}
-use Rattle.clocks.specs.CountsLaws.{length-listOf, getD-listOf, filled, listOf-same}
+use Rattle.clocks.specs.stored.CountsLaws.{length-listOf, getD-listOf, filled, listOf-same}
 use Rattle.frontiers.specs.declared.Frontier.{Frontier}
 use Rattle.frontiers.specs.Shaped.{Shaped, AllShaped}
 use Rattle.frontiers.specs.BytesLaws.{count-within, length-frontierBytes, frontierFrom-drop, frontierFrom-bytes, frontierFrom-alike, frontierBytes-from, shaped-from}
 use Rattle.frontiers.specs.Bytes.{frontierLength, frontierBytes, frontierAt, frontiers, framed, windowBytes, replaced, frontierFrom}
 use Rattle.frontiers.specs.ListLaws.{member-place, listOf-more, part-alike}
-use Rattle.frontiers.specs.Seek.{keysOf}
 
 -- ---- The bytes of frontiers one behind the other
 
@@ -100,17 +99,6 @@ length-counts-at w s i = length-listOf 8 (λ p. number s (i * frontierLength w +
 pub count-at : (w : ℕ) (s : List ℕ) (i p : ℕ) → p < 8 → getD (frontierAt w s i .counts) p 0 ≡ number s (i * frontierLength w + p * w) w
 unfolding frontierAt frontierFrom
 count-at w s i p l = getD-listOf 8 (λ q. number s (i * frontierLength w + q * w) w) p 0 l
-
--- The keys of the first n frontiers.
-pub length-keys : (w : ℕ) (s : List ℕ) (n : ℕ) → length (keysOf (frontiers w s n)) ≡ n
-length-keys w s n = length-map (frontiers w s n) (λ f. f .counts) ∙ length-frontiers w s n
-
-pub getD-keys : (w : ℕ) (s : List ℕ) (n i : ℕ) → i < n → getD (keysOf (frontiers w s n)) i [] ≡ frontierAt w s i .counts
-getD-keys w s n i l =
-    List·getD-map (λ f. f .counts) (frontiers w s n) i none ∙ ap (λ (f : Frontier). f .counts) (getD-frontiers w s n i none l)
-  where
-    none : Frontier
-    none = record { counts = []; labels = []; masks = []; values = 0 }
 
 -- The frontiers of any bytes are of proper shape,
 pub shaped-frontiers : (w : ℕ) (s : List ℕ) (n : ℕ) → Bytes s → n * frontierLength w ≤ length s → AllShaped w (frontiers w s n)

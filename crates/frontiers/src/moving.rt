@@ -41,6 +41,14 @@ pub fn clear(s: &mut [u8], from: usize, n: usize)
     }
 }
 
+// Clears every byte.
+pub fn clear_all(s: &mut [u8])
+    ensures { λ r. ⌜ now (s .exit) ≡ replicate (length (now (s .entry))) 0 ⌝ }
+{
+    let all = s.len();
+    clear(s, 0, all);
+}
+
 // Copies the first n bytes of a slice to a place of another.
 pub fn copy_in(s: &mut [u8], place: usize, from: &[u8], n: usize)
     requires { ⌜ place + n ≤ length (now s) ⌝ }

@@ -44,6 +44,17 @@ pub fn read_values(s: &[u8], place: usize, w: usize) -> u64
     codec::read_u64(s, place + 8 * w + 16)
 }
 
+// The counts of frontier number i.
+pub fn counts_at(s: &[u8], w: usize, i: usize) -> [u32; 8]
+    requires { ⌜ Width w ⌝ }
+    requires { ⌜ i ≤ 1024 ⌝ }
+    requires { ⌜ i * frontierLength w + frontierLength w ≤ length (now s) ⌝ }
+    ensures { λ r. ⌜ r ≡ frontierAt w (now (s .entry)) i .counts ⌝ }
+{
+    let place = crate::place::frontier_place(w, i);
+    crate::counts::read_counts(s, place, w)
+}
+
 // The values of frontier number i.
 pub fn values_at(s: &[u8], w: usize, i: usize) -> u64
     requires { ⌜ Width w ⌝ }
@@ -71,6 +82,17 @@ pub fn read_frontier(s: &[u8], place: usize, w: usize) -> Frontier
         masks,
         values,
     }
+}
+
+// Frontier number i.
+pub fn frontier_at(s: &[u8], w: usize, i: usize) -> Frontier
+    requires { ⌜ Width w ⌝ }
+    requires { ⌜ i ≤ 1024 ⌝ }
+    requires { ⌜ i * frontierLength w + frontierLength w ≤ length (now s) ⌝ }
+    ensures { λ r. ⌜ r ≡ frontierAt w (now (s .entry)) i ⌝ }
+{
+    let place = crate::place::frontier_place(w, i);
+    read_frontier(s, place, w)
 }
 
 // Stores a frontier's bytes at the start of what is lent.

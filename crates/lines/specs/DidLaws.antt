@@ -6,7 +6,7 @@ use mathlib.Core.Bool.{true, false}
 use mathlib.Core.List.{List, [], _∷_}
 use lib.ListN.{length, replicate, getD-replicate}
 use Rattle.clocks.specs.Counts.{at}
-use Rattle.clocks.specs.CountsLaws.{length-listOf, listOf-at, at-listOf}
+use Rattle.clocks.specs.stored.CountsLaws.{length-listOf, listOf-at, at-listOf}
 use Rattle.rules.specs.Text.{ascii}
 use Rattle.lines.specs.declared.Read.{Read}
 use Rattle.lines.specs.declared.Read.the-variants.{At, Refused}

@@ -6,7 +6,7 @@ use mathlib.Core.Bool.{Bool, cond}
 use mathlib.Core.List.{List, [], _∷_, _++_}
 use lib.ListN.{length, drop}
 use Rattle.rules.specs.Text.{byteAt}
-use Rattle.rules.specs.WordLaws.{Span}
+use Rattle.rules.specs.reading.WordLaws.{Span}
 use Rattle.lines.specs.Number.{digits, value}
 use Rattle.lines.specs.Reading.{lineLimit}
 use Rattle.lines.specs.Grammar.{Numeral, Numerals, spaced, between, Piece, one, number, list, spacedList, PieceText, Fault1}

@@ -9,11 +9,11 @@ use lib.Dec.{ltb}
 use lib.ListN.{length, length-append}
 use lib.Seq.{getD-take, getD-append-add}
 use borrow.Author.Tests.{ltb-true, ltb-false, lt-ltb}
-use Rattle.rules.specs.JudgeLaws.{and-true}
+use Rattle.pactl.specs.JudgeLaws.{and-true}
 use Rattle.rules.specs.Text.{byteAt}
 use Rattle.rules.specs.Fault.{Stands}
-use Rattle.rules.specs.WordLaws.{Span}
-use Rattle.rules.specs.Begun.{Begun, begun-nil}
+use Rattle.rules.specs.reading.WordLaws.{Span}
+use Rattle.rules.specs.grammar.FirstBytes.{Begun, begun-nil}
 use Rattle.lines.specs.declared.Read.{Read}
 use Rattle.lines.specs.declared.Read.the-variants.{At, Refused}
 use Rattle.lines.specs.Reading.{thenEnd, lineLimit, limited}

@@ -11,8 +11,8 @@ use lib.ListN.{length, length-take, take}
 use lib.Seq.{take-all, take-take, getD-take, length-take-le}
 use borrow.Author.Tests.{ltb-true, ltb-false}
 use Rattle.rules.specs.Text.{byteAt}
-use Rattle.rules.specs.Begun.{begun-nil}
-use Rattle.rules.specs.WordMeets.{standsTo-same}
+use Rattle.rules.specs.grammar.FirstBytes.{begun-nil}
+use Rattle.rules.specs.reading.WordsAnswered.{standsTo-same}
 use Rattle.lines.specs.declared.Read.{Read}
 use Rattle.lines.specs.declared.Read.the-variants.{At, Refused}
 use Rattle.lines.specs.Reading.{thenEnd}

@@ -9,9 +9,9 @@ use lib.ListN.{length, length-append, length-set, getD, set, replicate, drop, Li
 use lib.Seq.{ext-getD, getD-append-seam, getD-set-same, getD-set-other}
 use borrow.Author.Tests.{ltb-true, ltb-false, leb-true, eqb-true, eqb-false, eq-eqb, ne-eqb}
 use Rattle.clocks.specs.Counts.{at, listOf}
-use Rattle.clocks.specs.CountsLaws.{length-listOf, getD-listOf, at-beyond}
+use Rattle.clocks.specs.stored.CountsLaws.{length-listOf, getD-listOf, at-beyond}
 use Rattle.rules.specs.Text.{byteAt}
-use Rattle.rules.specs.JudgeLaws.{and-true}
+use Rattle.pactl.specs.JudgeLaws.{and-true}
 use Rattle.lines.specs.declared.Read.{Read}
 use Rattle.lines.specs.declared.Read.the-variants.{At, Refused}
 use Rattle.lines.specs.Number.{digits, value, numberOf, numberAt}

@@ -8,7 +8,7 @@ use lib.ListN.{length}
 use borrow.Author.Tests.{eqb-true}
 use Rattle.rules.specs.Text.{ascii, byteAt}
 use Rattle.rules.specs.Fault.{Stands}
-use Rattle.rules.specs.WordLaws.{Span, span-nil, span-byte, span-append}
+use Rattle.rules.specs.reading.WordLaws.{Span, span-nil, span-byte, span-append}
 use Rattle.lines.specs.declared.Read.{Read}
 use Rattle.lines.specs.declared.Read.the-variants.{At, Refused}
 use Rattle.lines.specs.declared.DidLine.the-variants.{Refused as DidRefused}

@@ -9,9 +9,9 @@ use lib.Dec.{leb, ltb, eqb}
 use lib.ListN.{length, drop}
 use borrow.Author.Tests.{eqb-true, ltb-true, le-ltb}
 use Rattle.rules.specs.Text.{byteAt}
-use Rattle.rules.specs.JudgeLaws.{and-true}
-use Rattle.rules.specs.WordLaws.{if-byte}
-use Rattle.rules.specs.WordMeets.{StandsTo, known}
+use Rattle.pactl.specs.JudgeLaws.{and-true}
+use Rattle.rules.specs.reading.WordLaws.{if-byte}
+use Rattle.rules.specs.reading.WordsAnswered.{StandsTo, known}
 use Rattle.lines.specs.declared.Read.{Read}
 use Rattle.lines.specs.declared.Read.the-variants.{At, Refused}
 use Rattle.lines.specs.Number.{isDigit, digits, value, numberOf, numberAt}

@@ -10,8 +10,8 @@ use lib.Dec.{leb, eqb}
 use lib.ListN.{length, length-append}
 use borrow.Author.Tests.{ne-eqb}
 use Rattle.rules.specs.Text.{byteAt}
-use Rattle.rules.specs.WordLaws.{if-byte}
-use Rattle.rules.specs.WordMeets.{StandsTo, known, standsTo-left, standsTo-right}
+use Rattle.rules.specs.reading.WordLaws.{if-byte}
+use Rattle.rules.specs.reading.WordsAnswered.{StandsTo, known, standsTo-left, standsTo-right}
 use Rattle.lines.specs.declared.Read.{Read}
 use Rattle.lines.specs.declared.Read.the-variants.{At, Refused}
 use Rattle.lines.specs.Number.{isDigit, numberAt}

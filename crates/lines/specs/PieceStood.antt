@@ -10,9 +10,9 @@ use lib.ListN.{length, length-append, take, drop}
 use lib.Seq.{take-all, take-append-le, take-add}
 use borrow.Author.Tests.{eqb-true, eq-eqb, ltb-false}
 use Rattle.rules.specs.Text.{byteAt}
-use Rattle.rules.specs.JudgeLaws.{and-true}
-use Rattle.rules.specs.WordLaws.{if-byte}
-use Rattle.rules.specs.Begun.{Begun, begun-inside, begun-next}
+use Rattle.pactl.specs.JudgeLaws.{and-true}
+use Rattle.rules.specs.reading.WordLaws.{if-byte}
+use Rattle.rules.specs.grammar.FirstBytes.{Begun, begun-inside, begun-next}
 use Rattle.lines.specs.declared.Read.{Read}
 use Rattle.lines.specs.declared.Read.the-variants.{At, Refused}
 use Rattle.lines.specs.Number.{isDigit, digits, value, numberOf, numberAt}

@@ -11,7 +11,7 @@ use lib.ListN.{length, length-append, drop}
 use borrow.Author.Tests.{eq-eqb, ne-eqb, lt-leb}
 use Rattle.rules.specs.Text.{byteAt}
 use Rattle.rules.specs.Fault.{Stands}
-use Rattle.rules.specs.WordLaws.{Span, span-byte, span-append}
+use Rattle.rules.specs.reading.WordLaws.{Span, span-byte, span-append}
 use Rattle.lines.specs.declared.Read.{Read}
 use Rattle.lines.specs.declared.Read.the-variants.{At, Refused}
 use Rattle.lines.specs.Number.{isDigit, digits, value, numberOf, numberAt}

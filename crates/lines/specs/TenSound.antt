@@ -9,7 +9,7 @@ use lib.Dec.{leb, ltb, eqb}
 use lib.ListN.{length, length-append, drop}
 use borrow.Author.Tests.{eqb-true, eq-eqb, ltb-false, leb-false}
 use Rattle.rules.specs.Text.{byteAt}
-use Rattle.rules.specs.WordLaws.{Span, span-nil, span-byte, span-append}
+use Rattle.rules.specs.reading.WordLaws.{Span, span-nil, span-byte, span-append}
 use Rattle.lines.specs.declared.Read.{Read}
 use Rattle.lines.specs.declared.Read.the-variants.{At, Refused}
 use Rattle.lines.specs.Number.{isDigit, digits, value, numberOf, numberAt}

@@ -6,7 +6,7 @@ use mathlib.Core.Path.{_≡_, refl, sym, ap, _∙_}
 use mathlib.Core.List.{List, [], _∷_}
 use lib.ListN.{length, length-set, set, take, drop}
 use Rattle.clocks.specs.Counts.{at, listOf}
-use Rattle.clocks.specs.CountsLaws.{listOf-at}
+use Rattle.clocks.specs.stored.CountsLaws.{listOf-at}
 use Rattle.lines.specs.Words.{placed}
 
 -- The elements of eight numbers, one by one.

@@ -1,10 +1,6 @@
--- The record's bytes, and the refusals that they decide.
+-- The record's bytes.
 
 -- What a reader has to believe
 pub mod Record
-pub mod Refusals
--- What the code's proofs cite
-pub mod ListSteps
-pub mod RecordSteps
-pub mod UpdateSteps
-pub mod RefusalSteps
+-- What is proved of them
+pub mod RecordLaws

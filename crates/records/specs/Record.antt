@@ -4,13 +4,13 @@ use mathlib.Core.Bool.{Bool, cond}
 use mathlib.Core.List.{List, _∷_, _++_}
 use lib.ListN.{getD, take, drop, set, replicate}
 use lib.Seq.{sets}
-use Rattle.rules.specs.declared.Line.{Line}
+use Rattle.pactl.specs.declared.Line.{Line}
 use Rattle.clocks.specs.declared.Event.{Event}
 use Rattle.codec.specs.Little.{number, put}
 use Rattle.frontiers.specs.Bytes.{countBytes}
-use Rattle.rules.specs.TableBytes.{linesOf}
+use Rattle.pactl.specs.TableBytes.{linesOf}
 use Rattle.clocks.specs.Event.{involved, apply}
-use Rattle.clocks.specs.Counts.{listOf, rows}
+use Rattle.clocks.specs.Counts.{listOf, rows, at}
 use Rattle.clocks.specs.Tested.{ready}
 use Rattle.clocks.specs.ValidTest.{validBy}
 

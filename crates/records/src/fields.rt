@@ -5,7 +5,7 @@ ghost use Prim.Native.Nat.{_+_, _*_, _≤_, _<_};
 ghost use mathlib.Core.Path.{_≡_};
 ghost use lib.ListN.{length, getD};
 ghost use Rattle.frontiers.specs.Width.{Width};
-ghost use Rattle.records.specs.Record.{eventLength, pendingPlace, recordLength, processCount, lineTotal, pendingCount, keptCount, takenCounts, lastClocks, pendingAt};
+ghost use Rattle.records.specs.Record.{tablePlace, eventLength, pendingPlace, recordLength, processCount, lineTotal, pendingCount, keptCount, takenCounts, lastClocks, pendingAt};
 
 // A byte of the record.
 fn byte(s: &[u8], at: usize) -> u32
@@ -71,6 +71,14 @@ pub fn last_clocks(s: &[u8], w: usize) -> [[u32; 8]; 8]
         p = p + 1;
     }
     clocks
+}
+
+// The place of the table.
+pub fn table_place(w: usize) -> usize
+    requires { ⌜ Width w ⌝ }
+    ensures { λ r. ⌜ (r ≡ tablePlace w) × (r ≤ 296) ⌝ }
+{
+    8 + 72 * w
 }
 
 // The length of a pending event.

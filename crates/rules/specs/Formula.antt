@@ -6,19 +6,7 @@ use Rattle.rules.specs.declared.Unary.{Unary}
 use Rattle.rules.specs.declared.Unary.the-variants.{Not, Ey, Ep, Ap, Ay, Eh, Ah}
 use Rattle.rules.specs.declared.Binary.{Binary}
 use Rattle.rules.specs.declared.Binary.the-variants.{And, Es, As, Or}
-
--- A formula of PaCTL (source 000, section 2: the logic's syntax).
-pub data Pactl : Type 0 where
-  -- proposition b of process p
-  proposition : ℕ → ℕ → Pactl
-  negation : Pactl → Pactl
-  conjunction : Pactl → Pactl → Pactl
-  -- EY φ: some preceding cut has φ
-  existsYesterday : Pactl → Pactl
-  -- E(φ S ψ)
-  existsSince : Pactl → Pactl → Pactl
-  -- A(φ S ψ)
-  allSince : Pactl → Pactl → Pactl
+use Rattle.pactl.specs.Pactl.{Pactl, proposition, negation, conjunction, existsYesterday, existsSince, allSince, disjunction, truth, existsPreviously, allPreviously}
 
 -- A form of a rule's text (01, The rule): (at p b), a word alone, a word and one form, a word and two forms.
 pub data Formula : Type 0 where
@@ -26,22 +14,6 @@ pub data Formula : Type 0 where
   constant : Constant → Formula
   unary : Unary → Formula → Formula
   binary : Binary → Formula → Formula → Formula
-
--- φ ∨ ψ = ¬(¬φ ∧ ¬ψ) (source 000, section 2: additional operators; so are the next seven).
-unfoldable pub disjunction : Pactl → Pactl → Pactl
-disjunction x y = negation (conjunction (negation x) (negation y))
-
--- true = q ∨ ¬q, with q proposition 0 of process 0.
-unfoldable pub truth : Pactl
-truth = disjunction (proposition 0 0) (negation (proposition 0 0))
-
--- EP φ = E(true S φ).
-unfoldable pub existsPreviously : Pactl → Pactl
-existsPreviously x = existsSince truth x
-
--- AP φ = A(true S φ).
-unfoldable pub allPreviously : Pactl → Pactl
-allPreviously x = allSince truth x
 
 -- The meaning of a word alone: true; false = ¬true.
 unfoldable pub constantMeaning : Constant → Pactl

@@ -6,7 +6,7 @@ use mathlib.Core.List.{List}
 use lib.Dec.{leb, ltb, eqb}
 use lib.ListN.{length}
 use lib.Seq.{sets}
-use Rattle.rules.specs.declared.Line.{Line}
+use Rattle.pactl.specs.declared.Line.{Line}
 use Rattle.rules.specs.declared.Unary.{Unary}
 use Rattle.rules.specs.declared.Unary.the-variants.{Not, Ey, Ep, Ap, Ay, Eh, Ah}
 use Rattle.rules.specs.declared.Read.{Read}
@@ -14,7 +14,7 @@ use Rattle.rules.specs.declared.Read.the-variants.{Form, Refused}
 use Rattle.rules.specs.declared.DigitRead.{DigitRead}
 use Rattle.rules.specs.declared.DigitRead.the-variants.{Digit, NoDigit}
 use Rattle.rules.specs.Line.{linesAt}
-use Rattle.rules.specs.Table.{tableBytes}
+use Rattle.pactl.specs.Table.{tableBytes}
 use Rattle.rules.specs.Text.{byteAt}
 use Rattle.rules.specs.Reader.{Reading, formed, refused, readOf}
 

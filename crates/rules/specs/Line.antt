@@ -4,7 +4,7 @@ use mathlib.Core.Bool.{cond, _||_}
 use mathlib.Core.List.{List, [], _∷_, _++_}
 use lib.Dec.{eqb}
 use lib.ListN.{length}
-use Rattle.rules.specs.declared.Line.{Line}
+use Rattle.pactl.specs.declared.Line.{Line}
 use Rattle.rules.specs.declared.Constant.{Constant}
 use Rattle.rules.specs.declared.Constant.the-variants.{True, False}
 use Rattle.rules.specs.declared.Unary.{Unary}
@@ -12,28 +12,7 @@ use Rattle.rules.specs.declared.Unary.the-variants.{Not, Ey, Ep, Ap, Ay,
 use Rattle.rules.specs.declared.Binary.{Binary}
 use Rattle.rules.specs.declared.Binary.the-variants.{And, Es, As, Or}
 use Rattle.rules.specs.Formula.{Formula, atom, constant, unary, binary}
-
--- The six kinds of line (01, The rule: kinds 0 to 5). In the first the numbers are a process and a proposition, in the others lines.
-abbrev pub line : ℕ → ℕ → ℕ → Line
-line kind a b = record { kind = kind; a = a; b = b }
-
-abbrev pub propositionLine : ℕ → ℕ → Line
-propositionLine p b = line 0 p b
-
-abbrev pub notLine : ℕ → Line
-notLine a = line 1 a 0
-
-abbrev pub andLine : ℕ → ℕ → Line
-andLine a b = line 2 a b
-
-abbrev pub eyLine : ℕ → Line
-eyLine a = line 3 a 0
-
-abbrev pub esLine : ℕ → ℕ → Line
-esLine a b = line 4 a b
-
-abbrev pub asLine : ℕ → ℕ → Line
-asLine a b = line 5 a b
+use Rattle.pactl.specs.Line.{line, propositionLine, notLine, andLine, eyLine, esLine, asLine}
 
 -- The lines of true from line n on: proposition 0 of process 0, not, and of those two, not.
 unfoldable pub trueLines : ℕ → List Line

@@ -9,7 +9,7 @@ use Rattle.rules.specs.declared.RuleRead.{RuleRead}
 use Rattle.rules.specs.declared.RuleRead.the-variants.{Accepted, Refused}
 use Rattle.rules.specs.Formula.{Formula}
 use Rattle.rules.specs.Line.{lineCount, linesAt}
-use Rattle.rules.specs.Table.{tableBytes}
+use Rattle.pactl.specs.Table.{tableBytes}
 use Rattle.rules.specs.Reader.{Reading, formed, refused, readRule}
 
 -- The 192 bytes of a form's table: its lines, then zeros.

@@ -7,8 +7,9 @@ ghost use Prim.Native.Nat.{_+_, _≤_, _<_};
 ghost use mathlib.Core.Path.{_≡_};
 ghost use mathlib.Core.List.{[], _∷_};
 ghost use lib.ListN.{length};
-ghost use Rattle.rules.specs.Line.{line, notLine, trueLines, constantLines, linesBefore, linesAfter, linesBetween, linesAfterBoth};
+ghost use Rattle.rules.specs.Line.{trueLines, constantLines, linesBefore, linesAfter, linesBetween, linesAfterBoth};
 ghost use Rattle.rules.specs.Laying.{lay, hasTrue};
+ghost use Rattle.pactl.specs.Line.{line, notLine};
 
 // Lays a line down as line n of a table.
 pub fn put_line(table: &mut [u8], n: usize, kind: u8, a: usize, b: usize)

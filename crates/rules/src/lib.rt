@@ -1,18 +1,9 @@
-// The rule language: reading a rule's text to a table of lines, checking a table, and judging a frontier by it.
+// The rule language: reading a rule's text to a table of lines.
 
 pub mod forms;
-pub mod judging;
 pub mod laying;
 pub mod reading;
-pub mod table;
 pub mod words;
-
-// A line of a rule's table.
-pub struct Line {
-    pub kind: u8,
-    pub a: u8,
-    pub b: u8,
-}
 
 // The words of a form, by the number of forms inside it.
 pub enum Constant {

@@ -4,7 +4,7 @@ use crate::Binary;
 use crate::Constant;
 use crate::Unary;
 use crate::WordRead;
-use crate::table::wide;
+use pactl::table::wide;
 ghost use Prim.Native.Nat.{_+_, _≤_};
 ghost use mathlib.Core.Path.{_≡_};
 ghost use lib.ListN.{length};

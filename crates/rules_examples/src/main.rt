@@ -47,9 +47,9 @@ fn print_judged(table: &[u8], lines: u32, labels: [u8; 8]) {
     if table.len() < 192 {
         return;
     }
-    print_number(rules::judging::judge(table, lines, labels, 0, 0, false));
-    print_number(rules::judging::judge(table, lines, labels, 0xaaaa_aaaa_aaaa_aaaa, 0, true));
-    print_number(rules::judging::judge(
+    print_number(pactl::judging::judge(table, lines, labels, 0, 0, false));
+    print_number(pactl::judging::judge(table, lines, labels, 0xaaaa_aaaa_aaaa_aaaa, 0, true));
+    print_number(pactl::judging::judge(
         table,
         lines,
         labels,
@@ -64,7 +64,7 @@ fn print_accepted(k: u32, table: &[u8], lines: u32) {
     print_number(lines as u64);
     if lines <= 64 {
         if table.len() == 192 {
-            if rules::table::good_table(k, table, lines) {
+            if pactl::table::good_table(k, table, lines) {
                 io::write_all(OUT, b" good:");
             } else {
                 io::write_all(OUT, b" bad:");

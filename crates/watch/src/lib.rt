@@ -1,24 +1,60 @@
-// The watch: a record and a window of bytes that the caller lends, and four calls on them.
+// The functions that C calls, on numbers and byte slices, for counts of two bytes.
 
-// Offer: an event is added to the pending ones.
-pub mod offer;
 // Counts and labels out of the words that C hands over.
 pub mod words;
-// Find: the first kept frontier at which a line holds.
-pub mod find;
-// The reply words.
-pub mod reply;
-// Open: a rule's text read, record and window written.
-pub mod open;
-// Take: the first pending event that is decided is taken, or leaves.
-pub mod take;
-// The functions that C calls.
-pub mod exports;
 
-// What take decides on: nothing (was some event ready?), a pending event that has a false clock, or one that is taken and the frontiers that are
-// kept then.
-pub enum Choice {
-    Undecided { seen: bool },
-    Falsified { place: usize },
-    Chosen { place: usize, kept: usize },
+ghost use mathlib.Core.Path.{_≡_};
+ghost use Rattle.watch.specs.Words.{unpackCounts, unpackLabels};
+ghost use Rattle.call_open.specs.Open.{openCall};
+ghost use Rattle.call_offer.specs.Offer.{offerCall};
+ghost use Rattle.call_take.specs.Take.{takeCall};
+ghost use Rattle.call_find.specs.Find.{findCall};
+ghost use Rattle.answers.specs.Answer.{replyWord};
+
+// Opens a watch with a rule's text, so many processes, and start labels that are the bytes of a word.
+#[no_mangle]
+pub extern "C" fn watch_open(
+    rule: &[u8],
+    k: u64,
+    labels: u64,
+    state: &mut [u8],
+    window: &mut [u8],
+) -> u64
+    ensures reply { λ r. ⌜ r ≡ replyWord (openCall 2 (now (rule .entry)) k (unpackLabels labels) (now (state .entry)) (now (window .entry)) .answer) ⌝ }
+    ensures bytes { λ r. ⌜ now (state .exit) ≡ openCall 2 (now (rule .entry)) k (unpackLabels labels) (now (state .entry)) (now (window .entry)) .bytes ⌝ }
+    ensures window { λ r. ⌜ now (window .exit) ≡ openCall 2 (now (rule .entry)) k (unpackLabels labels) (now (state .entry)) (now (window .entry)) .window ⌝ }
+{
+    let bytes = crate::words::unpack_labels(labels);
+    call_open::open(2, rule, k, bytes, state, window)
+}
+
+// Offers an event. Its clock is in two words, process p's count at bits 16p of the first or 16(p - 4) of the second; its labels are the
+// bytes of a word.
+#[no_mangle]
+pub extern "C" fn watch_offer(mask: u64, low: u64, high: u64, labels: u64, state: &mut [u8]) -> u64
+    ensures reply { λ r. ⌜ r ≡ replyWord (offerCall 2 mask (unpackCounts low high) (unpackLabels labels) (now (state .entry)) .answer) ⌝ }
+    ensures bytes { λ r. ⌜ now (state .exit) ≡ offerCall 2 mask (unpackCounts low high) (unpackLabels labels) (now (state .entry)) .bytes ⌝ }
+{
+    let clock = crate::words::unpack_counts(low, high);
+    let bytes = crate::words::unpack_labels(labels);
+    call_offer::offer(2, mask, clock, bytes, state)
+}
+
+// Takes the first pending event that is decided on.
+#[no_mangle]
+pub extern "C" fn watch_take(state: &mut [u8], window: &mut [u8], scratch: &mut [u8]) -> u64
+    ensures reply { λ r. ⌜ r ≡ replyWord (takeCall 2 (now (state .entry)) (now (window .entry)) (now (scratch .entry)) .answer) ⌝ }
+    ensures bytes { λ r. ⌜ now (state .exit) ≡ takeCall 2 (now (state .entry)) (now (window .entry)) (now (scratch .entry)) .bytes ⌝ }
+    ensures window { λ r. ⌜ now (window .exit) ≡ takeCall 2 (now (state .entry)) (now (window .entry)) (now (scratch .entry)) .window ⌝ }
+    ensures scratch { λ r. ⌜ now (scratch .exit) ≡ takeCall 2 (now (state .entry)) (now (window .entry)) (now (scratch .entry)) .scratch ⌝ }
+{
+    call_take::take(2, state, window, scratch)
+}
+
+// Finds the place of the first kept frontier at which a line holds.
+#[no_mangle]
+pub extern "C" fn watch_find(line: u64, state: &[u8], window: &[u8]) -> u64
+    ensures { λ r. ⌜ r ≡ replyWord (findCall 2 line (now (state .entry)) (now (window .entry))) ⌝ }
+{
+    call_find::find(2, line, state, window)
 }

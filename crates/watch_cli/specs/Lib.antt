@@ -3,6 +3,3 @@
 -- What a reader has to believe
 pub mod Answers
 -- What is proved of it
-pub mod AnswerLaws
-pub mod Rooms
-pub mod KeptRule

@@ -9,7 +9,7 @@ use crate::answers::say_state;
 // Opens a watch with start labels 0.
 pub fn open(rule: &[u8], k: u64, s: &mut [u8; 1368], window: &mut [u8]) {
     say(b"open: ");
-    let word = watch::exports::watch_open(rule, k, 0, s, window);
+    let word = watch::watch_open(rule, k, 0, s, window);
     say_state(word, s);
 }
 
@@ -17,12 +17,12 @@ pub fn open(rule: &[u8], k: u64, s: &mut [u8; 1368], window: &mut [u8]) {
 pub fn offer(name: &[u8], mask: u64, clock: u64, labels: u64, s: &mut [u8; 1368]) {
     say(name);
     say(b": ");
-    say_held(watch::exports::watch_offer(mask, clock, 0, labels, s));
+    say_held(watch::watch_offer(mask, clock, 0, labels, s));
 }
 
 pub fn take(s: &mut [u8; 1368], window: &mut [u8], scratch: &mut [u8]) {
     say(b"take: ");
-    let word = watch::exports::watch_take(s, window, scratch);
+    let word = watch::watch_take(s, window, scratch);
     say_state(word, s);
 }
 
@@ -30,5 +30,5 @@ pub fn find(line: u64, s: &[u8; 1368], window: &[u8]) {
     say(b"find ");
     say_number(line);
     say(b": ");
-    say_found(watch::exports::watch_find(line, s, window));
+    say_found(watch::watch_find(line, s, window));
 }

@@ -22,7 +22,7 @@ fn twice() {
 // Offers process 0's events up to number n; their answers are not printed.
 fn offer_up_to(n: u16, s: &mut [u8; 1368]) {
     for i in 0..n {
-        watch::exports::watch_offer(1, clock(i + 1, 0, 0), 0, 0, s);
+        watch::watch_offer(1, clock(i + 1, 0, 0), 0, 0, s);
     }
 }
 

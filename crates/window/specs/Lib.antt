@@ -5,13 +5,7 @@ pub mod Step
 pub mod Start
 -- What the code's proofs cite
 pub mod Lists
-pub mod Many
+pub mod SteppedCount
 pub mod StepCode
-pub mod StepCodeLaws
 pub mod Prepared
-pub mod PreparedLaws
-pub mod GatherLaws
-pub mod ShapeLaws
-pub mod Laying
-pub mod LayingLaws
 pub mod Marks

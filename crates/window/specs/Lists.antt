@@ -8,6 +8,8 @@ use mathlib.Core.Logic.{_⊎_, inl, inr, ⊎-elim}
 use lib.Dec.{T}
 use lib.ListN.{length, getD}
 use Rattle.window.specs.Step.{filtered}
+use Rattle.clocks.specs.Counts.{listOf}
+use Rattle.clocks.specs.stored.CountsLaws.{getD-listOf}
 
 module _ {A : Type 0} where
   pub filtered-e : (t : A → Bool) (xs : List A) (x : A) → List·Memᴰ x (filtered t xs) → List·Memᴰ x xs × T (t x)
@@ -56,3 +58,7 @@ mapped-e {A} f (x ∷ xs) z m = ⊎-elim (λ q. (x, List·Memᴰ·head refl, q))
 pub mapped-i : {A B : Type 0} (f : A → B) (xs : List A) (x : A) → List·Memᴰ x xs → List·Memᴰ (f x) (map f xs)
 mapped-i f [] x m = absurd (List·Memᴰ·not-nil m)
 mapped-i f (y ∷ ys) x m = ⊎-elim (λ q. List·Memᴰ·head (ap f q)) (λ k. List·Memᴰ·tail (mapped-i f ys x k)) (List·Memᴰ·cases-cons m)
+
+-- What was made for process p.
+pub made-at : {A : Type 0} (xs : List A) (f : ℕ → A) (d : A) (p : ℕ) → xs ≡ listOf 8 f → p < 8 → getD xs p d ≡ f p
+made-at {A} xs f d p e l = ap (λ (ys : List A). getD ys p d) e ∙ getD-listOf 8 f p d l

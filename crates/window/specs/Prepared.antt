@@ -8,16 +8,6 @@ use Rattle.clocks.specs.declared.Event.{Event}
 use Rattle.clocks.specs.Event.{involved, count}
 use Rattle.clocks.specs.Counts.{listOf}
 
--- ---- To choose a new frontier's bytes by
-
--- A byte to choose by: all its bits are set, or none.
-abbrev pub fullByte : Bool → ℕ
-fullByte b = cond b 255 0
-
--- Full bytes at the processes in a mask, empty ones at the others.
-abbrev pub fullBytes : ℕ → List ℕ
-fullBytes mask = listOf 8 (λ p. fullByte (bit mask p))
-
 -- ---- To test a frontier's counts by
 
 -- The lowest and the highest count of a process at which an event with count n there may be taken; the lowest is above the highest where

@@ -3,8 +3,8 @@ use Prim.Native.Nat.{ℕ}
 use mathlib.Core.Bool.{false}
 use mathlib.Core.List.{List}
 use lib.ListN.{replicate}
-use Rattle.rules.specs.declared.Line.{Line}
-use Rattle.rules.specs.Judge.{judge}
+use Rattle.pactl.specs.declared.Line.{Line}
+use Rattle.pactl.specs.Judge.{judge}
 use Rattle.frontiers.specs.declared.Frontier.{Frontier}
 
 unfoldable pub startFrontier : ℕ → List ℕ → List Line → Frontier

@@ -7,17 +7,17 @@ use lib.Dec.{eqb, leb, ltb}
 use lib.ListN.{getD, set, length, replicate}
 use lib.Bits.{bitOr, bitAnd}
 use lib.Count.{trailingZeros}
-use Rattle.rules.specs.declared.Line.{Line}
+use Rattle.pactl.specs.declared.Line.{Line}
 use Rattle.clocks.specs.declared.Event.{Event}
 use Rattle.codec.specs.Bit.{bit}
 use Rattle.clocks.specs.Event.{Cut, involved, apply, minus}
 use Rattle.clocks.specs.Bounded.{allBelow, anyBelow}
 use Rattle.clocks.specs.Counts.{at, listOf}
 use Rattle.clocks.specs.Tested.{ready}
-use Rattle.rules.specs.Judge.{judge}
+use Rattle.pactl.specs.Judge.{judge}
 use Rattle.frontiers.specs.declared.Frontier.{Frontier}
-use Rattle.frontiers.specs.Seek.{seek, keysOf}
-use Rattle.frontiers.specs.Order.{before}
+use Rattle.lookup.specs.Seek.{seek, keysOf}
+use Rattle.lookup.specs.Order.{before}
 
 -- What a step is taken in: how many processes are stored, how many there are, which are closed, the rule's table, the event, and the
 -- taken counts with it.

@@ -7,7 +7,7 @@ ghost use mathlib.Core.List.{List};
 ghost use lib.ListN.{length};
 ghost use Rattle.clocks.specs.Event.{one};
 ghost use Rattle.frontiers.specs.Width.{Width};
-ghost use Rattle.frontiers.specs.Bytes.{frontierLength, frontierAt, frontiers};
+ghost use Rattle.frontiers.specs.Bytes.{frontierLength, frontiers};
 ghost use Rattle.window.specs.Step.{keptAfter};
 ghost use Rattle.window.specs.StepCode.{settingWith};
 ghost use Rattle.window.specs.Marks.{Marked};
@@ -17,17 +17,6 @@ fn one_if(t: bool) -> usize
     ensures { λ r. ⌜ (r ≡ one t) × (r ≤ 1) ⌝ }
 {
     if t { 1 } else { 0 }
-}
-
-// The counts of frontier number i.
-pub fn counts_at(window: &[u8], w: usize, i: usize) -> [u32; 8]
-    requires { ⌜ Width w ⌝ }
-    requires { ⌜ i ≤ 1024 ⌝ }
-    requires { ⌜ i * frontierLength w + frontierLength w ≤ length (now window) ⌝ }
-    ensures { λ r. ⌜ r ≡ frontierAt w (now (window .entry)) i .counts ⌝ }
-{
-    let place = frontiers::place::frontier_place(w, i);
-    frontiers::counts::read_counts(window, place, w)
 }
 
 // How many frontiers there are after the event; each frontier's mark says what comes of it.
@@ -56,7 +45,7 @@ pub fn count_after(
     let mut total = 0;
     let mut i = 0;
     while i < n {
-        let counts = counts_at(window, w, i);
+        let counts = frontiers::stored::counts_at(window, w, i);
         let here = one_if(crate::prepared::stays(opens, reached, counts));
         let there = one_if(crate::prepared::within(low, high, counts));
         marks[i] = (here + 2 * there) as u8;

@@ -1,16 +1,4 @@
-// A window of the kept cuts: its step for an event.
+// A window of the kept cuts: which of them stay, which an event leads on from, and how many there are then.
 
-pub mod advance;
-pub mod gather;
 pub mod kept;
-pub mod lay;
-pub mod merge;
 pub mod prepared;
-pub mod step;
-
-// What is gathered from the cuts that precede a new frontier: the OR and the AND of their values, and where each process's next look-up begins.
-pub struct Found {
-    pub ors: u64,
-    pub ands: u64,
-    pub hints: [usize; 8],
-}

@@ -127,5 +127,5 @@ pub fn stays(opens: [bool; 8], reached: [u32; 8], counts: [u32; 8]) -> bool
     if some_complete(opens, reached, counts) {
         return true;
     }
-    frontiers::order::counts_same(counts, reached)
+    lookup::order::counts_same(counts, reached)
 }

@@ -7,14 +7,14 @@ use lib.ListN.{length, getD, length-map}
 use Rattle.clocks.specs.declared.Event.{Event}
 use Rattle.clocks.specs.Event.{Cut}
 use Rattle.clocks.specs.Counts.{listOf, at}
-use Rattle.clocks.specs.Lattice.{zeros}
+use Rattle.clocks.specs.cuts.Lattice.{zeros}
 use Rattle.frontiers.specs.declared.Frontier.{Frontier}
-use Rattle.frontiers.specs.Seek.{seek, keysOf}
+use Rattle.lookup.specs.Seek.{seek, keysOf}
 use Rattle.window.specs.Step.{valuesAt}
 use Rattle.window_laws.specs.Represents.{World, frontierOf, Sorted}
-use Rattle.frontiers.specs.Order.{Ascending}
+use Rattle.lookup.specs.Order.{Ascending}
 use Rattle.window.specs.Lists.{map-map, getD-mapped}
-use Rattle.frontiers.specs.SeekLaws.{seek-finds, seek-ends}
+use Rattle.lookup.specs.SeekLaws.{seek-finds, seek-ends}
 use Rattle.frontiers.specs.ListLaws.{place-member, member-place}
 
 pub sorted-ascending : (n : ℕ) (cuts : List Cut) → Sorted n cuts → Ascending (map (listOf n) cuts)

@@ -11,15 +11,15 @@ use lib.ListN.{getD}
 use Rattle.clocks.specs.declared.Event.{Event}
 use Rattle.codec.specs.Bit.{bit}
 use Rattle.codec.specs.BitLaws.{bits-equal, bit-above, bit-top, bit-under-top}
-use Rattle.rules.specs.Judge.{withBit}
-use Rattle.rules.specs.Truth.{lineTruth}
-use Rattle.rules.specs.TruthLocal.{line-truth-local}
+use Rattle.pactl.specs.Judge.{withBit}
+use Rattle.pactl.specs.Truth.{lineTruth}
+use Rattle.pactl.specs.TruthLocal.{line-truth-local}
 use Rattle.clocks.specs.History.{taken, event, maskOf, labelOf, Consistent, Agree, ofEvent}
 use Rattle.clocks.specs.Event.{Cut, involved, Ready, apply}
-use Rattle.clocks.specs.EventLaws.{either, ready-same, apply-next, apply-other}
+use Rattle.clocks.specs.cuts.EventLaws.{either, ready-same, apply-next, apply-other}
 use Rattle.clocks.specs.Counts.{listOf, at}
-use Rattle.clocks.specs.HistoryLaws.{event-next, event-other}
-use Rattle.clocks.specs.CountsLaws.{getD-listOf, listOf-same, at-listOf}
+use Rattle.clocks.specs.cuts.HistoryLaws.{event-next, event-other}
+use Rattle.clocks.specs.stored.CountsLaws.{getD-listOf, listOf-same, at-listOf}
 use Rattle.clocks.specs.Valid.{History, ClockRule}
 use Rattle.frontiers.specs.declared.Frontier.{Frontier}
 use Rattle.window.specs.Step.{advanced}

@@ -7,9 +7,9 @@ use lib.Dec.{T}
 use lib.Bits.{bitOr, bitAnd}
 use Rattle.codec.specs.Bit.{bit}
 use Rattle.codec.specs.BitLaws.{bit-or, bit-and}
-use Rattle.rules.specs.Truth.{Property}
+use Rattle.pactl.specs.Truth.{Property}
 use Rattle.clocks.specs.Event.{Cut}
-use Rattle.clocks.specs.BoundedLaws.{and-i, and-l, and-r, or-l, or-r, or-e}
+use Rattle.clocks.specs.stored.BoundedLaws.{and-i, and-l, and-r, or-l, or-r, or-e}
 
 -- What is gathered from the cuts of a set, for one property and its bit.
 pub record Gathers (q : Property) (From : Cut → Type 0) (i ors ands : ℕ) : Type 0 where

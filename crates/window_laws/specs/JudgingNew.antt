@@ -12,32 +12,32 @@ use lib.ListN.{getD, length, length-map}
 use lib.Count.{trailingZeros}
 use borrow.Author.Tests.{eq-eqb, ne-eqb}
 use Rattle.clocks.specs.declared.Event.{Event}
-use Rattle.rules.specs.TruthLaws.{Ruled, Leads}
-use Rattle.rules.specs.Truth.{Model, lineTruth}
+use Rattle.pactl.specs.TruthLaws.{Ruled, Leads}
+use Rattle.pactl.specs.Truth.{Model, lineTruth}
 use Rattle.clocks.specs.History.{maskOf, Consistent, Follows, Causal, ofEvent, taken, event, labelOf}
 use Rattle.clocks.specs.Event.{Cut, involved, Ready, apply, minus, less}
-use Rattle.clocks.specs.ClockRule.{history-causal, consistent-silent}
-use Rattle.clocks.specs.PrecedingStep.{origin-precedes, precedes-new}
-use Rattle.clocks.specs.Preceding.{mask-precedes, precedes-last}
-use Rattle.clocks.specs.Step.{consistent-new, Advanced}
+use Rattle.clocks.specs.validity.ClockRule.{history-causal, consistent-silent}
+use Rattle.clocks.specs.cuts.PrecedingStep.{origin-precedes, precedes-new}
+use Rattle.clocks.specs.cuts.Preceding.{mask-precedes, precedes-last}
+use Rattle.clocks.specs.cuts.Step.{consistent-new, Advanced}
 use Rattle.clocks.specs.Counts.{at, listOf}
-use Rattle.clocks.specs.CountsLaws.{getD-listOf, listOf-same, at-listOf}
+use Rattle.clocks.specs.stored.CountsLaws.{getD-listOf, listOf-same, at-listOf}
 use Rattle.clocks.specs.Valid.{WellFormed, Takeable, History}
-use Rattle.clocks.specs.EventLaws.{either, true-T, ready-same, apply-next, apply-up, less-minus, less-apply}
-use Rattle.clocks.specs.TestedLaws.{in-takeable, involved-below}
-use Rattle.clocks.specs.BoundedLaws.{and-l, and-r}
-use Rattle.clocks.specs.HistoryLaws.{event-zero, event-next}
+use Rattle.clocks.specs.cuts.EventLaws.{either, true-T, ready-same, apply-next, apply-up, less-minus, less-apply}
+use Rattle.clocks.specs.stored.TestedLaws.{in-takeable, involved-below}
+use Rattle.clocks.specs.stored.BoundedLaws.{and-l, and-r}
+use Rattle.clocks.specs.cuts.HistoryLaws.{event-zero, event-next}
 use Rattle.codec.specs.Bit.{bit}
-use Rattle.clocks.specs.KeptStep.{new-kept}
-use Rattle.clocks.specs.CausalLaws.{mask-some}
-use Rattle.clocks.specs.Agree.{agree-old}
-use Rattle.rules.specs.Judge.{judge}
-use Rattle.rules.specs.JudgeLaws.{judge-above}
-use Rattle.rules.specs.JudgeTruth.{Preceding, LabelsAt, judged-right}
+use Rattle.clocks.specs.cuts.KeptStep.{new-kept}
+use Rattle.clocks.specs.cuts.CausalLaws.{mask-some}
+use Rattle.clocks.specs.cuts.Agree.{agree-old}
+use Rattle.pactl.specs.Judge.{judge}
+use Rattle.pactl.specs.JudgeLaws.{judge-above}
+use Rattle.pactl.specs.JudgeTruth.{Preceding, LabelsAt, judged-right}
 use Rattle.frontiers.specs.declared.Frontier.{Frontier}
 use Rattle.window_laws.specs.FrontierLaws.{advanced-counts, advanced-masks, bit-wordOf, frontier-agree, word-is, advanced-labels}
 use Rattle.window.specs.Step.{Setting, advanced, sought, withoutLast, Gathered, consider, gathered, valuesAt, judgedBy}
-use Rattle.frontiers.specs.Seek.{keysOf, seek}
+use Rattle.lookup.specs.Seek.{keysOf, seek}
 use Rattle.window_laws.specs.Represents.{World, modelOf, openIn, KeptIn, frontierOf, Sorted, settingOf, Proper, wordOf}
 use Rattle.window_laws.specs.FoundLaid.{found-e, found-i}
 use Rattle.window_laws.specs.OrderCuts.{before-pointwise}

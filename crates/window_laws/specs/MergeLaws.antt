@@ -5,11 +5,11 @@ use mathlib.Core.Bool.{Bool, true, false, cond}
 use mathlib.Core.List.{List, [], _∷_, _++_, map, List·Memᴰ, List·Memᴰ·head, List·Memᴰ·tail, List·Memᴰ·cases-cons, List·Memᴰ·not-nil, Memᴰ·append-left}
 use mathlib.Core.Logic.{_⊎_, inl, inr, ⊎-elim}
 use lib.Dec.{T}
-use Rattle.clocks.specs.EventLaws.{true-T}
+use Rattle.clocks.specs.cuts.EventLaws.{true-T}
 use Rattle.window.specs.Step.{filtered, mergeInto, merge}
 use Rattle.window_laws.specs.Represents.{SortedBy}
-use Rattle.frontiers.specs.Order.{before}
-use Rattle.frontiers.specs.OrderLaws.{before-trans}
+use Rattle.lookup.specs.Order.{before}
+use Rattle.lookup.specs.OrderLaws.{before-trans}
 use Rattle.window.specs.Lists.{filtered-e, mapped-e}
 
 module _ {A : Type 0} (key : A → List ℕ) where

@@ -7,11 +7,11 @@ use mathlib.Core.List.{List}
 use mathlib.Core.Logic.{_⊎_, inl, inr, ⊎-elim}
 use lib.Dec.{T}
 use lib.ListN.{getD}
-use Rattle.clocks.specs.EventLaws.{true-T}
+use Rattle.clocks.specs.cuts.EventLaws.{true-T}
 use Rattle.clocks.specs.Counts.{listOf}
-use Rattle.clocks.specs.CountsLaws.{length-listOf, getD-listOf}
-use Rattle.frontiers.specs.OrderLaws.{before-e, not-before, below-before}
-use Rattle.frontiers.specs.Order.{before}
+use Rattle.clocks.specs.stored.CountsLaws.{length-listOf, getD-listOf}
+use Rattle.lookup.specs.OrderLaws.{before-e, not-before, below-before}
+use Rattle.lookup.specs.Order.{before}
 
 -- a cut that is nowhere above another and below it at a stored process stands before it
 pub before-pointwise : (n : ℕ) (f g : ℕ → ℕ) → ((p : ℕ) → f p ≤ g p) → (o : ℕ) → o < n → f o < g o → T (before (listOf n f) (listOf n g))

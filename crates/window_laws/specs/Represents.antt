@@ -6,12 +6,12 @@ use mathlib.Core.Bool.{Bool, true, not}
 use mathlib.Core.List.{List, [], _∷_, map, List·Memᴰ}
 use lib.Dec.{T}
 use lib.ListN.{length}
-use Rattle.rules.specs.declared.Line.{Line}
+use Rattle.pactl.specs.declared.Line.{Line}
 use Rattle.clocks.specs.declared.Event.{Event}
 use Rattle.codec.specs.Bit.{bit}
-use Rattle.rules.specs.Judge.{withBit}
-use Rattle.rules.specs.Truth.{Model, lineTruth}
-use Rattle.rules.specs.Table.{goodTable}
+use Rattle.pactl.specs.Judge.{withBit}
+use Rattle.pactl.specs.Truth.{Model, lineTruth}
+use Rattle.pactl.specs.Table.{goodTable}
 use Rattle.clocks.specs.History.{taken, maskOf, labelOf}
 use Rattle.clocks.specs.Event.{Cut}
 use Rattle.clocks.specs.Kept.{KeptCut}
@@ -19,7 +19,7 @@ use Rattle.clocks.specs.Counts.{listOf}
 use Rattle.clocks.specs.Valid.{History, ClockRule}
 use Rattle.frontiers.specs.declared.Frontier.{Frontier}
 use Rattle.window.specs.Step.{Setting}
-use Rattle.frontiers.specs.Order.{before}
+use Rattle.lookup.specs.Order.{before}
 
 -- What does not change while a watch runs: how many processes are stored and how many there are, which are closed, the start labels,
 -- the rule's table.

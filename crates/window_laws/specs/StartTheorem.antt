@@ -10,16 +10,16 @@ use lib.ListN.{length, replicate}
 use Rattle.clocks.specs.declared.Event.{Event}
 use Rattle.codec.specs.Bit.{bit}
 use Rattle.codec.specs.BitLaws.{bit-zero}
-use Rattle.rules.specs.Judge.{judge}
-use Rattle.rules.specs.TruthLaws.{Leads}
-use Rattle.rules.specs.Truth.{Model, lineTruth}
-use Rattle.rules.specs.JudgeTruth.{judged-right}
+use Rattle.pactl.specs.Judge.{judge}
+use Rattle.pactl.specs.TruthLaws.{Leads}
+use Rattle.pactl.specs.Truth.{Model, lineTruth}
+use Rattle.pactl.specs.JudgeTruth.{judged-right}
 use Rattle.clocks.specs.History.{taken, event, labelOf, Consistent, maskOf}
 use Rattle.clocks.specs.Event.{Cut}
 use Rattle.clocks.specs.Counts.{listOf}
-use Rattle.clocks.specs.Lattice.{zeros, zeros-consistent}
-use Rattle.clocks.specs.CountsLaws.{getD-listOf}
-use Rattle.rules.specs.JudgeLaws.{judge-above}
+use Rattle.clocks.specs.cuts.Lattice.{zeros, zeros-consistent}
+use Rattle.clocks.specs.stored.CountsLaws.{getD-listOf}
+use Rattle.pactl.specs.JudgeLaws.{judge-above}
 use Rattle.window_laws.specs.Represents.{World, modelOf, Proper, wordOf, frontierOf, Represents}
 use Rattle.frontiers.specs.declared.Frontier.{Frontier}
 use Rattle.window_laws.specs.FrontierLaws.{word-is}

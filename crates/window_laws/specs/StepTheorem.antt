@@ -14,27 +14,27 @@ use borrow.Author.Tests.{eq-eqb}
 use Rattle.clocks.specs.declared.Event.{Event}
 use Rattle.clocks.specs.History.{taken, Consistent, Follows, Causal}
 use Rattle.clocks.specs.Event.{Cut, involved, Ready, apply, one}
-use Rattle.clocks.specs.ClockRule.{history-causal, taken-silent, consistent-silent}
+use Rattle.clocks.specs.validity.ClockRule.{history-causal, taken-silent, consistent-silent}
 use Rattle.clocks.specs.Kept.{Kept}
 use Rattle.clocks.specs.Bounded.{allBelow, anyBelow}
-use Rattle.clocks.specs.EventLaws.{true-T, T-true, ready-same, apply-next}
-use Rattle.clocks.specs.TestedLaws.{involved-below, ready-test}
+use Rattle.clocks.specs.cuts.EventLaws.{true-T, T-true, ready-same, apply-next}
+use Rattle.clocks.specs.stored.TestedLaws.{involved-below, ready-test}
 use Rattle.clocks.specs.Counts.{at, listOf}
-use Rattle.clocks.specs.BoundedLaws.{and-i, and-l, and-r, or-l, or-r, or-e, all-i, all-e, any-i, any-e}
-use Rattle.clocks.specs.CountsLaws.{length-listOf, getD-listOf, at-beyond}
+use Rattle.clocks.specs.stored.BoundedLaws.{and-i, and-l, and-r, or-l, or-r, or-e, all-i, all-e, any-i, any-e}
+use Rattle.clocks.specs.stored.CountsLaws.{length-listOf, getD-listOf, at-beyond}
 use Rattle.clocks.specs.Valid.{WellFormed, Takeable, History}
-use Rattle.clocks.specs.Agree.{agree-old}
-use Rattle.clocks.specs.KeptStep.{new-kept, kept-step}
-use Rattle.clocks.specs.Step.{consistent-old, consistent-new}
+use Rattle.clocks.specs.cuts.Agree.{agree-old}
+use Rattle.clocks.specs.cuts.KeptStep.{new-kept, kept-step}
+use Rattle.clocks.specs.cuts.Step.{consistent-old, consistent-new}
 use Rattle.window.specs.Step.{Setting, stays, enabledAt, advanced, Slot, slotCounts, lay, staying, fresh, Gathered, gathered, judgedBy, filtered, merge, slots, stepped}
 use Rattle.window_laws.specs.Represents.{World, openIn, frontierOf, settingOf, Proper, KeptIn, Sorted, SortedBy, Represents}
 use Rattle.frontiers.specs.declared.Frontier.{Frontier}
 use Rattle.window_laws.specs.FrontierLaws.{frontier-agree, advanced-counts}
 use Rattle.window_laws.specs.MergeLaws.{sorted-front, sorted-back, merge-e, merge-sorted, merge-map, sorted-filtered, sorted-map, merge-i}
 use Rattle.window_laws.specs.JudgingNew.{judged-new}
-use Rattle.frontiers.specs.Order.{before}
+use Rattle.lookup.specs.Order.{before}
 use Rattle.window_laws.specs.OrderCuts.{compare-cuts}
-use Rattle.frontiers.specs.OrderLaws.{before-irrefl, before-trans, before-add}
+use Rattle.lookup.specs.OrderLaws.{before-irrefl, before-trans, before-add}
 use Rattle.window.specs.Lists.{filtered-e, filtered-i, filtered-map, map-map, mapped-e, mapped-i}
 
 -- ---- the tests on frontiers say what they should of the cuts

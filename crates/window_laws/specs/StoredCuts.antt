@@ -13,9 +13,9 @@ use Rattle.codec.specs.Bit.{bit}
 use Rattle.codec.specs.LowestBit.{trailing-lt, bit-trailing}
 use Rattle.codec.specs.BitLaws.{bit-zero, lt-of-bits}
 use Rattle.clocks.specs.Event.{Cut, involved}
-use Rattle.clocks.specs.EventLaws.{T-true}
+use Rattle.clocks.specs.cuts.EventLaws.{T-true}
 use Rattle.clocks.specs.Counts.{listOf}
-use Rattle.clocks.specs.CountsLaws.{getD-listOf}
+use Rattle.clocks.specs.stored.CountsLaws.{getD-listOf}
 use Rattle.clocks.specs.Valid.{WellFormed}
 
 -- cuts that count nothing from n up are known by their first n counts

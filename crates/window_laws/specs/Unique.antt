@@ -8,14 +8,14 @@ use lib.Dec.{T}
 use Rattle.clocks.specs.declared.Event.{Event}
 use Rattle.clocks.specs.History.{Agree, Causal}
 use Rattle.clocks.specs.Event.{Cut}
-use Rattle.clocks.specs.ClockRule.{history-causal}
+use Rattle.clocks.specs.validity.ClockRule.{history-causal}
 use Rattle.clocks.specs.Counts.{listOf}
-use Rattle.clocks.specs.SameEvents.{Same, same-sym, same-taken, same-agree, same-consistent}
+use Rattle.clocks.specs.cuts.SameEvents.{Same, same-sym, same-taken, same-agree, same-consistent}
 use Rattle.frontiers.specs.declared.Frontier.{Frontier}
 use Rattle.window_laws.specs.FrontierLaws.{frontier-agree}
 use Rattle.window_laws.specs.Represents.{World, openIn, KeptIn, frontierOf, SortedBy, Represents, Proper}
-use Rattle.frontiers.specs.Order.{before}
-use Rattle.frontiers.specs.OrderLaws.{before-irrefl, before-trans}
+use Rattle.lookup.specs.Order.{before}
+use Rattle.lookup.specs.OrderLaws.{before-irrefl, before-trans}
 
 pub sorted-unique : {A : Type 0} (key : A → List ℕ) (xs ys : List A) → SortedBy key xs → SortedBy key ys → ((z : A) → List·Memᴰ z xs → List·Memᴰ z ys) → ((z : A) → List·Memᴰ z ys → List·Memᴰ z xs) → xs ≡ ys
 sorted-unique key [] [] s t f g = refl

@@ -8,16 +8,16 @@ use lib.Dec.{T}
 use lib.ListN.{length, getD, length-map}
 use Rattle.clocks.specs.declared.Event.{Event}
 use Rattle.codec.specs.Bit.{bit}
-use Rattle.rules.specs.Truth.{lineTruth}
+use Rattle.pactl.specs.Truth.{lineTruth}
 use Rattle.clocks.specs.History.{taken, Consistent, Causal}
 use Rattle.clocks.specs.Event.{Cut}
-use Rattle.clocks.specs.ClockRule.{history-causal, consistent-silent}
+use Rattle.clocks.specs.validity.ClockRule.{history-causal, consistent-silent}
 use Rattle.clocks.specs.Counts.{listOf}
-use Rattle.clocks.specs.Lattice.{taken-consistent}
+use Rattle.clocks.specs.cuts.Lattice.{taken-consistent}
 use Rattle.frontiers.specs.declared.Frontier.{Frontier}
 use Rattle.window_laws.specs.FrontierLaws.{bit-wordOf}
 use Rattle.window_laws.specs.Represents.{World, modelOf, KeptIn, frontierOf, Sorted, Represents, Proper}
-use Rattle.frontiers.specs.Order.{before}
+use Rattle.lookup.specs.Order.{before}
 use Rattle.window_laws.specs.OrderCuts.{before-above}
 
 module _ (W : World) (valid : List Event → Event → Type 0) (ts : List Event) (P : Proper W valid ts) (fs : List Frontier) (R : Represents W ts fs) where

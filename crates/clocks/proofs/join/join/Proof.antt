@@ -8,8 +8,8 @@ use borrow.Author.Needs.{needs}
 use Rattle.codec.specs.Bit.{bit}
 use Rattle.clocks.specs.Counts.{listOf, rows, at}
 use Rattle.clocks.specs.Valid.{joinTo}
-use Rattle.clocks.specs.JoinSteps.{join-next, join-skip}
-use Rattle.clocks.specs.Lattice.{upper}
+use Rattle.clocks.proofs.join.JoinSteps.{join-next, join-skip}
+use Rattle.clocks.specs.cuts.Lattice.{upper}
 use Rattle.clocks.proofs.join.join.Statement.{statement}
 use Rattle.clocks.proofs.join.join.Tie as tie
 

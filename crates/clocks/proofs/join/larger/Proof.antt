@@ -4,8 +4,8 @@ use mathlib.Core.Path.{_≡_}
 use lib.ListN.{length, getD}
 use borrow.Author.Needs.{needs}
 use Rattle.clocks.specs.Counts.{at}
-use Rattle.clocks.specs.Lattice.{upper}
-use Rattle.clocks.specs.CountsLaws.{filled, fill-next}
+use Rattle.clocks.specs.cuts.Lattice.{upper}
+use Rattle.clocks.specs.stored.CountsLaws.{filled, fill-next}
 use Rattle.clocks.proofs.join.larger.Statement.{statement}
 use Rattle.clocks.proofs.join.larger.Tie as tie
 

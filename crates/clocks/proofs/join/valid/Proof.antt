@@ -10,8 +10,8 @@ use Rattle.clocks.specs.Counts.{at, rows}
 use Rattle.clocks.specs.ValidTest.{validBy}
 use Rattle.clocks.specs.Bounded.{allBelow}
 use Rattle.clocks.specs.Event.{one, involved, count}
-use Rattle.clocks.specs.ValidTestLaws.{equalsKnown, valid-known}
-use Rattle.clocks.specs.BoundedSteps.{all-none, all-next, all-stop}
+use Rattle.clocks.specs.validity.ValidTestLaws.{equalsKnown, valid-known}
+use Rattle.clocks.specs.stored.BoundedTurns.{all-none, all-next, all-stop}
 use Rattle.clocks.proofs.join.valid.Statement.{statement}
 use Rattle.clocks.proofs.join.valid.Tie as tie
 

@@ -2,7 +2,7 @@
 use mathlib.Core.Path.{_≡_, sym, _∙_}
 use lib.ListN.{length, length-map}
 use borrow.Author.Needs.{needs}
-use Rattle.clocks.specs.KeyLaws.{key-at, key-beyond}
+use Rattle.clocks.specs.stored.KeyLaws.{key-at, key-beyond}
 use Rattle.clocks.specs.Key.{lowest}
 use Rattle.clocks.proofs.order.key.Statement.{statement}
 use Rattle.clocks.proofs.order.key.Tie as tie

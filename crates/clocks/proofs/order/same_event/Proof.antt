@@ -8,8 +8,8 @@ use borrow.Author.Needs.{needs}
 use Rattle.clocks.specs.Bounded.{allBelow}
 use Rattle.clocks.specs.Counts.{at}
 use Rattle.clocks.specs.SameEvent.{sameAt}
-use Rattle.clocks.specs.BoundedSteps.{all-none, all-next}
-use Rattle.clocks.specs.SameEventLaws.{differ-mask, differ-at, same-all}
+use Rattle.clocks.specs.stored.BoundedTurns.{all-none, all-next}
+use Rattle.clocks.specs.stored.SameEventLaws.{differ-mask, differ-at, same-all}
 use Rattle.clocks.proofs.order.same_event.Statement.{statement}
 use Rattle.clocks.proofs.order.same_event.Tie as tie
 

@@ -1,7 +1,7 @@
 -- The test of count 0 chooses which of the two conditions can hold.
 use mathlib.Core.Bool.{true, false}
 use borrow.Author.Tests.{eq-eqb, ne-eqb}
-use Rattle.clocks.specs.RefusalLaws.{choice}
+use Rattle.clocks.specs.stored.RefusalLaws.{choice}
 use Rattle.clocks.proofs.refusal.bad_count.Statement.{statement}
 use Rattle.clocks.proofs.refusal.bad_count.Tie as tie
 

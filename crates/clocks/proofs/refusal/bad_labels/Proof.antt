@@ -8,7 +8,7 @@ use borrow.Author.Needs.{needs}
 use Rattle.clocks.specs.Counts.{at}
 use Rattle.clocks.specs.Bounded.{anyBelow}
 use Rattle.clocks.specs.Refusal.{badLabels, badLabel}
-use Rattle.clocks.specs.BoundedSteps.{any-none, any-next, any-stop}
+use Rattle.clocks.specs.stored.BoundedTurns.{any-none, any-next, any-stop}
 use Rattle.clocks.proofs.refusal.bad_labels.Statement.{statement}
 use Rattle.clocks.proofs.refusal.bad_labels.Tie as tie
 

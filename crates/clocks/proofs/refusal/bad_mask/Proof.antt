@@ -2,7 +2,7 @@
 use mathlib.Core.Path.{sym}
 use borrow.Author.Needs.{needs}
 use Rattle.clocks.specs.Refusal.{badMask}
-use Rattle.clocks.specs.RefusalLaws.{mask-shift}
+use Rattle.clocks.specs.stored.RefusalLaws.{mask-shift}
 use Rattle.clocks.proofs.refusal.bad_mask.Statement.{statement}
 use Rattle.clocks.proofs.refusal.bad_mask.Tie as tie
 

@@ -6,7 +6,7 @@ use mathlib.Core.Bool.{false}
 use borrow.Author.Needs.{needs}
 use Rattle.clocks.specs.Bounded.{anyBelow}
 use Rattle.clocks.specs.Refusal.{badStart, badStartLabel}
-use Rattle.clocks.specs.BoundedSteps.{any-none, any-next, any-stop}
+use Rattle.clocks.specs.stored.BoundedTurns.{any-none, any-next, any-stop}
 use Rattle.clocks.proofs.refusal.bad_start.Statement.{statement}
 use Rattle.clocks.proofs.refusal.bad_start.Tie as tie
 

@@ -3,7 +3,7 @@ use mathlib.Core.Path.{sym, _∙_, _≡_}
 use mathlib.Core.Bool.{false}
 use borrow.Author.Needs.{needs}
 use Rattle.clocks.specs.Refusal.{badMask, badClock}
-use Rattle.clocks.specs.RefusalLaws.{fault-7, fault-8, fault-9, fault-0}
+use Rattle.clocks.specs.stored.RefusalLaws.{fault-7, fault-8, fault-9, fault-0}
 use Rattle.clocks.proofs.refusal.event_fault.Statement.{statement}
 use Rattle.clocks.proofs.refusal.event_fault.Tie as tie
 

@@ -6,8 +6,8 @@ use lib.ListN.{length, getD}
 use borrow.Author.Needs.{needs}
 use Rattle.clocks.specs.Counts.{at}
 use Rattle.clocks.specs.Event.{apply, involved, count}
-use Rattle.clocks.specs.CountsLaws.{filled, fill-next}
-use Rattle.clocks.specs.StepCounts.{apply-ready}
+use Rattle.clocks.specs.stored.CountsLaws.{filled, fill-next}
+use Rattle.clocks.specs.stored.StepCountLaws.{apply-ready}
 use Rattle.clocks.proofs.step.apply.Statement.{statement}
 use Rattle.clocks.proofs.step.apply.Tie as tie
 

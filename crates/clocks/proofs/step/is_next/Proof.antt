@@ -4,7 +4,7 @@ use native.Mathlib.Omega.{arith}
 use mathlib.Core.Path.{_≡_, sym}
 use borrow.Author.Tests.{ne-eqb}
 use borrow.Author.Needs.{needs}
-use Rattle.clocks.specs.StepCounts.{eqb-next}
+use Rattle.clocks.specs.stored.StepCountLaws.{eqb-next}
 use Rattle.clocks.proofs.step.is_next.Statement.{statement}
 use Rattle.clocks.proofs.step.is_next.Tie as tie
 

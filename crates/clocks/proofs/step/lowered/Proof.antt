@@ -3,7 +3,7 @@ use mathlib.Core.Path.{sym, ap, _∙_}
 use borrow.Author.Needs.{needs}
 use Rattle.clocks.specs.Event.{minus}
 use Rattle.clocks.specs.Counts.{listOf}
-use Rattle.clocks.specs.StepCounts.{lowered-minus}
+use Rattle.clocks.specs.stored.StepCountLaws.{lowered-minus}
 use Rattle.clocks.proofs.step.lowered.Statement.{statement}
 use Rattle.clocks.proofs.step.lowered.Tie as tie
 

@@ -6,7 +6,7 @@ use lib.ListN.{length, getD}
 use borrow.Author.Needs.{needs}
 use Rattle.clocks.specs.Counts.{at}
 use Rattle.clocks.specs.Event.{minus, one}
-use Rattle.clocks.specs.CountsLaws.{filled, fill-next}
+use Rattle.clocks.specs.stored.CountsLaws.{filled, fill-next}
 use Rattle.clocks.proofs.step.minus.Statement.{statement}
 use Rattle.clocks.proofs.step.minus.Tie as tie
 

@@ -10,7 +10,7 @@ use Rattle.clocks.specs.Bounded.{allBelow}
 use Rattle.clocks.specs.Counts.{at}
 use Rattle.clocks.specs.Event.{involved, count}
 use Rattle.clocks.specs.Tested.{readyAt, ready}
-use Rattle.clocks.specs.BoundedSteps.{all-none, all-next, all-stop}
+use Rattle.clocks.specs.stored.BoundedTurns.{all-none, all-next, all-stop}
 use Rattle.clocks.specs.declared.Event.{Event}
 use Rattle.clocks.proofs.step.ready.Statement.{statement}
 use Rattle.clocks.proofs.step.ready.Tie as tie

@@ -5,7 +5,7 @@ use mathlib.Core.Path.{_≡_}
 use lib.ListN.{length, getD}
 use denote.Ref.{now}
 use borrow.Author.Needs.{needs}
-use Rattle.clocks.specs.CountsLaws.{fill-next, filled}
+use Rattle.clocks.specs.stored.CountsLaws.{fill-next, filled}
 use Rattle.codec.specs.Little.{number}
 use Rattle.frontiers.specs.BytesLaws.{count-within}
 use Rattle.frontiers.specs.StoreLaws.{count-next}

@@ -8,7 +8,7 @@ use lib.Seq.{sets}
 use borrow.Author.Needs.{needs}
 use denote.Ref.{now}
 use Rattle.frontiers.proofs.moving.clear.Statement.{statement}
-use Rattle.frontiers.specs.MovingSteps.{clear-next}
+use Rattle.frontiers.proofs.moving.MovingSteps.{clear-next}
 
 abbrev Inv-loop : tie.InvT-loop
 Inv-loop s₀ from n i₀ s i = (i ≤ n) × (length s ≡ length s₀) × (s ≡ sets s₀ from (replicate i 0))

@@ -8,7 +8,7 @@ use lib.ListN.{length, getD, set}
 use borrow.Author.Needs.{needs}
 use denote.Ref.{now}
 use Rattle.frontiers.proofs.moving.move_down.Statement.{statement}
-use Rattle.frontiers.specs.MovingSteps.{movedDown, down-next, down-all}
+use Rattle.frontiers.proofs.moving.MovingSteps.{movedDown, down-next, down-all}
 
 abbrev Inv-loop : tie.InvT-loop
 Inv-loop s₀ to n by i₀ s i = (i ≤ n) × (length s ≡ length s₀) × (s ≡ movedDown s₀ to by n i)

@@ -9,7 +9,7 @@ use lib.ListN.{length, getD, set}
 use borrow.Author.Needs.{needs}
 use denote.Ref.{now}
 use Rattle.frontiers.proofs.moving.move_up.Statement.{statement}
-use Rattle.frontiers.specs.MovingSteps.{movedUp, up-none, up-next, up-all}
+use Rattle.frontiers.proofs.moving.MovingSteps.{movedUp, up-none, up-next, up-all}
 
 abbrev Inv-loop : tie.InvT-loop
 Inv-loop s₀ from n by i₀ s i = (i ≤ n) × (length s ≡ length s₀) × (s ≡ movedUp s₀ from by n i)

@@ -5,7 +5,7 @@ use mathlib.Core.Path.{_≡_, refl}
 use lib.ListN.{length, getD}
 use denote.Ref.{now}
 use borrow.Author.Needs.{needs}
-use Rattle.clocks.specs.CountsLaws.{fill-next}
+use Rattle.clocks.specs.stored.CountsLaws.{fill-next}
 use Rattle.frontiers.specs.StoreLaws.{part-filled}
 use Rattle.frontiers.proofs.stored.read_eight.Statement.{statement}
 use Rattle.frontiers.proofs.stored.read_eight.Tie as tie

@@ -1,7 +1,7 @@
 -- Inside the line it is the line's byte, behind it 256.
 use mathlib.Core.Path.{sym, _∙_}
 use borrow.Author.Needs.{needs}
-use Rattle.rules.specs.TextLaws.{byteAt-inside, byteAt-behind}
+use Rattle.rules.specs.reading.TextLaws.{byteAt-inside, byteAt-behind}
 use Rattle.lines.proofs.number.byte_at.Statement.{statement}
 use Rattle.lines.proofs.number.byte_at.Tie as tie
 

@@ -7,11 +7,11 @@ use mathlib.Core.List.{[]}
 use lib.ListN.{length, getD}
 use borrow.Author.Needs.{needs}
 use denote.Ref.{now}
-use Rattle.clocks.specs.CountsLaws.{filled, fill-next}
+use Rattle.clocks.specs.stored.CountsLaws.{filled, fill-next}
 use Rattle.codec.specs.Little.{number}
 use Rattle.clocks.specs.Counts.{listOf}
 use Rattle.records.proofs.fields.last_clocks.Statement.{statement}
-use Rattle.records.specs.RecordSteps.{clock-within, clockAt, clock-next}
+use Rattle.records.specs.RecordLaws.{clock-within, clockAt, clock-next}
 use Rattle.records.specs.Record.{clocksPlace, lastClocks}
 
 abbrev Inv-loop : tie.InvT-loop

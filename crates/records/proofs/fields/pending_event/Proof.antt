@@ -7,7 +7,7 @@ use lib.ListN.{length}
 use borrow.Author.Needs.{needs}
 use denote.Ref.{now}
 use Rattle.records.proofs.fields.pending_event.Statement.{statement}
-use Rattle.records.specs.RecordSteps.{event-within, event-parts}
+use Rattle.records.specs.RecordLaws.{event-within, event-parts}
 use Rattle.records.specs.Record.{eventLength}
 
 pending-place-requires : tie.Need-pending-place-requires

@@ -10,11 +10,11 @@ use borrow.Fn.PlainCycle.{Measures, is, falls, and}
 use Rattle.rules.specs.Line.{lineCount}
 use Rattle.rules.specs.declared.WordRead.the-variants.{AtWord, ConstantWord, UnaryWord, BinaryWord}
 use Rattle.rules.specs.declared.WordRead.{WordRead}
-use Rattle.rules.specs.ReaderSteps.{expect-met, expect-other}
+use Rattle.rules.proofs.forms.ReaderSteps.{expect-met, expect-other}
 use Rattle.rules.specs.Reader.{bodyWith, innerWith, formAt}
-use Rattle.rules.specs.LayingLaws.{done-refused, before-four, between-one}
-use Rattle.rules.specs.FormDone.{room-first, room-second, unary-fault-done, unary-done, binary-fault-done, binary-second-fault-done, binary-done}
-use Rattle.rules.specs.FormSteps.{Opened, formAt-other, formAt-deep, formAt-word, word-near, NextBy, inside, form-done, fault-done}
+use Rattle.rules.proofs.LayingSteps.{done-refused, before-four, between-one}
+use Rattle.rules.proofs.forms.FormDoneSteps.{room-first, room-second, unary-fault-done, unary-done, binary-fault-done, binary-second-fault-done, binary-done}
+use Rattle.rules.proofs.FormSteps.{Opened, formAt-other, formAt-deep, formAt-word, word-near, NextBy, inside, form-done, fault-done}
 use Rattle.rules.proofs.forms.+read_form+read_inner.{statement}
 use Rattle.rules.proofs.forms.+read_form+read_inner.Tie.{close}
 use Rattle.rules.proofs.forms.read_form.Reads as read-form

@@ -5,7 +5,7 @@ use mathlib.Core.Path.{_≡_, _∙_}
 use lib.ListN.{length}
 use borrow.Author.Needs.{needs}
 use Rattle.rules.specs.Line.{linesAfterBoth}
-use Rattle.rules.specs.LayingLaws.{both-three}
+use Rattle.rules.proofs.LayingSteps.{both-three}
 use Rattle.rules.proofs.forms.close_binary.Statement.{statement}
 use Rattle.rules.proofs.forms.close_binary.Tie as tie
 

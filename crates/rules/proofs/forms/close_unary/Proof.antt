@@ -5,7 +5,7 @@ use mathlib.Core.Path.{_≡_, _∙_}
 use lib.ListN.{length}
 use borrow.Author.Needs.{needs}
 use Rattle.rules.specs.Line.{linesAfter}
-use Rattle.rules.specs.LayingLaws.{after-three}
+use Rattle.rules.proofs.LayingSteps.{after-three}
 use Rattle.rules.proofs.forms.close_unary.Statement.{statement}
 use Rattle.rules.proofs.forms.close_unary.Tie as tie
 

@@ -6,8 +6,8 @@ use borrow.Author.Needs.{needs}
 use Rattle.rules.specs.Line.{lineCount, linesAt}
 use Rattle.rules.specs.Formula.{atom}
 use Rattle.rules.specs.Text.{byteAt}
-use Rattle.rules.specs.LayingLaws.{done-refused, done-close}
-use Rattle.rules.specs.ReaderSteps.{expect-met, expect-other, digit-met, digit-other}
+use Rattle.rules.proofs.LayingSteps.{done-refused, done-close}
+use Rattle.rules.proofs.forms.ReaderSteps.{expect-met, expect-other, digit-met, digit-other}
 use Rattle.rules.specs.Reader.{atomAt}
 use Rattle.rules.proofs.forms.read_atom.Statement.{statement}
 use Rattle.rules.proofs.forms.read_atom.Tie as tie

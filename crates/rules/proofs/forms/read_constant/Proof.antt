@@ -1,10 +1,10 @@
 -- The lines that were laid down are as many as the word counts.
 use native.Mathlib.Omega.{arith}
 use borrow.Author.Needs.{needs}
-use Rattle.rules.specs.LayingLaws.{constant-five, done-close}
+use Rattle.rules.proofs.LayingSteps.{constant-five, done-close}
 use Rattle.rules.specs.Line.{lineCount, linesAt}
 use Rattle.rules.specs.Formula.{constant}
-use Rattle.rules.specs.LineLaws.{length-constant}
+use Rattle.rules.specs.lines.LineLaws.{length-constant}
 use Rattle.rules.proofs.forms.read_constant.Statement.{statement}
 use Rattle.rules.proofs.forms.read_constant.Tie as tie
 

@@ -4,7 +4,7 @@ use mathlib.Core.Bool.{true, false}
 use mathlib.Core.Path.{_≡_, refl, sym, _∙_}
 use borrow.Author.Needs.{needs}
 use Rattle.rules.specs.Line.{trueLines}
-use Rattle.rules.specs.LayingLaws.{lay-none, linesBefore-cond}
+use Rattle.rules.proofs.LayingSteps.{lay-none, linesBefore-cond}
 use Rattle.rules.specs.Laying.{hasTrue}
 use Rattle.rules.proofs.laying.lay_before.Statement.{statement}
 use Rattle.rules.proofs.laying.lay_before.Tie as tie

@@ -2,7 +2,7 @@
 use native.Mathlib.Omega.{arith}
 use mathlib.Core.Path.{refl, sym}
 use borrow.Author.Needs.{needs}
-use Rattle.rules.specs.LayingLaws.{lay-none}
+use Rattle.rules.proofs.LayingSteps.{lay-none}
 use Rattle.rules.specs.Line.{linesBetween}
 use Rattle.rules.proofs.laying.lay_between.Statement.{statement}
 use Rattle.rules.proofs.laying.lay_between.Tie as tie

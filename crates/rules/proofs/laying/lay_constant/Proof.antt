@@ -2,7 +2,7 @@
 use mathlib.Core.Path.{refl}
 use borrow.Author.Needs.{needs}
 use Rattle.rules.specs.Line.{constantLines, trueLines}
-use Rattle.rules.specs.LayingLaws.{lay-lay}
+use Rattle.rules.proofs.LayingSteps.{lay-lay}
 use Rattle.rules.proofs.laying.lay_constant.Statement.{statement}
 use Rattle.rules.proofs.laying.lay_constant.Tie as tie
 

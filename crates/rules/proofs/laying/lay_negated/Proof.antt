@@ -1,6 +1,6 @@
 -- Three lines behind one another.
 use borrow.Author.Needs.{needs}
-use Rattle.rules.specs.LayingLaws.{lay-three}
+use Rattle.rules.proofs.LayingSteps.{lay-three}
 use Rattle.rules.proofs.laying.lay_negated.Statement.{statement}
 use Rattle.rules.proofs.laying.lay_negated.Tie as tie
 

@@ -1,6 +1,6 @@
 -- Four lines behind one another.
 use borrow.Author.Needs.{needs}
-use Rattle.rules.specs.LayingLaws.{lay-four}
+use Rattle.rules.proofs.LayingSteps.{lay-four}
 use Rattle.rules.specs.Line.{trueLines}
 use Rattle.rules.proofs.laying.lay_true.Statement.{statement}
 use Rattle.rules.proofs.laying.lay_true.Tie as tie

@@ -5,7 +5,7 @@ use native.Mathlib.Omega.{arith}
 use mathlib.Core.Path.{_≡_}
 use lib.ListN.{length-set}
 use borrow.Author.Needs.{needs}
-use Rattle.rules.specs.Table.{tableBytes}
+use Rattle.pactl.specs.Table.{tableBytes}
 use Rattle.rules.specs.Laying.{lay}
 use Rattle.rules.proofs.laying.put_line.Statement.{statement}
 use Rattle.rules.proofs.laying.put_line.Tie as tie

@@ -4,10 +4,10 @@ use native.Mathlib.Omega.{arith}
 use mathlib.Core.Path.{_≡_, _∙_}
 use borrow.Author.Needs.{needs}
 use Rattle.rules.specs.Line.{lineCount}
-use Rattle.rules.specs.ReaderLaws.{formAt-formed}
+use Rattle.rules.specs.reading.ReaderLaws.{formAt-formed}
 use Rattle.rules.specs.Reader.{formAt}
-use Rattle.rules.specs.FormSteps.{form-done, fault-done}
-use Rattle.rules.specs.RuleTableLaws.{rule-fault, rule-more, rule-form, rule-length, rule-refused, rule-accepted, take-laid}
+use Rattle.rules.proofs.FormSteps.{form-done, fault-done}
+use Rattle.rules.specs.lines.RuleTableLaws.{rule-fault, rule-more, rule-form, rule-length, rule-refused, rule-accepted, take-laid}
 use Rattle.rules.proofs.reading.read_rule.Statement.{statement}
 use Rattle.rules.proofs.reading.read_rule.Tie as tie
 

@@ -1,7 +1,7 @@
 -- Inside the text it is the text's byte, behind it 256.
 use mathlib.Core.Path.{sym, _∙_}
 use borrow.Author.Needs.{needs}
-use Rattle.rules.specs.TextLaws.{byteAt-inside, byteAt-behind}
+use Rattle.rules.specs.reading.TextLaws.{byteAt-inside, byteAt-behind}
 use Rattle.rules.proofs.words.byte_at.Statement.{statement}
 use Rattle.rules.proofs.words.byte_at.Tie as tie
 

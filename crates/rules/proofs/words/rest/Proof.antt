@@ -8,7 +8,7 @@ use lib.ListN.{length, getD, drop}
 use borrow.Author.Tests.{eq-eqb, ne-eqb}
 use borrow.Author.Needs.{needs}
 use Rattle.rules.specs.Text.{byteAt}
-use Rattle.rules.specs.WordSteps.{restAt-next, restAt-end}
+use Rattle.rules.proofs.words.WordSteps.{restAt-next, restAt-end}
 use Rattle.rules.specs.Reader.{restAt}
 use Rattle.rules.proofs.words.rest.Statement.{statement}
 use Rattle.rules.proofs.words.rest.Tie as tie

@@ -4,7 +4,7 @@ use native.Mathlib.Omega.{arith}
 use mathlib.Core.Path.{_≡_, refl, subst, _∙_}
 use lib.ListN.{length, take, drop, length-set, length-drop}
 use borrow.Author.Needs.{needs}
-use Rattle.watch_cli.specs.KeptRule.{copied-next}
+use Rattle.watch_cli.proofs.opening.KeptRuleSteps.{copied-next}
 use Rattle.watch_cli.proofs.opening.keep_rule.Statement.{statement}
 use Rattle.watch_cli.proofs.opening.keep_rule.Tie as tie
 

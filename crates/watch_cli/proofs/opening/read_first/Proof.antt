@@ -1,8 +1,8 @@
 -- The line's number was at most 1,024, or the line would have been turned back (`room-within`); k was tested.
 use mathlib.Core.Path.{sym, subst, _∙_}
 use borrow.Author.Needs.{needs}
-use Rattle.records.specs.RefusalSteps.{processes-within}
-use Rattle.watch_cli.specs.Rooms.{RoomWithin, room-within}
+use Rattle.refusals.specs.RefusalLaws.{processes-within}
+use Rattle.watch_cli.proofs.opening.RoomSteps.{RoomWithin, room-within}
 use Rattle.watch_cli.proofs.opening.read_first.Statement.{statement}
 use Rattle.watch_cli.proofs.opening.read_first.Tie as tie
 

@@ -2,7 +2,7 @@
 use native.Mathlib.Omega.{arith}
 use mathlib.Core.Path.{subst, _∙_}
 use borrow.Author.Needs.{needs}
-use Rattle.watch_cli.specs.KeptRule.{Stands, rule-stands}
+use Rattle.watch_cli.proofs.opening.KeptRuleSteps.{Stands, rule-stands}
 use Rattle.lines.specs.RuleLaws.{RuleWithin}
 use Rattle.watch_cli.proofs.opening.read_second.Statement.{statement}
 use Rattle.watch_cli.proofs.opening.read_second.Tie as tie

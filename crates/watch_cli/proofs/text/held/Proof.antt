@@ -3,7 +3,7 @@ use native.Mathlib.Omega.{arith}
 use mathlib.Core.List.{[], _∷_}
 use borrow.Author.Needs.{needs}
 use Rattle.watch_cli.specs.Answers.{heldText, numeral}
-use Rattle.watch_cli.specs.AnswerLaws.{behind}
+use Rattle.watch_cli.proofs.text.AnswerSteps.{behind}
 use Rattle.watch_cli.proofs.text.held.Statement.{statement}
 use Rattle.watch_cli.proofs.text.held.Tie as tie
 

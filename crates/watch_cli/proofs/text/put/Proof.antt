@@ -7,7 +7,7 @@ use mathlib.Core.List.{_++_, append-nil, List}
 use lib.ListN.{length, take, length-set}
 use lib.Seq.{take-all}
 use borrow.Author.Needs.{needs}
-use Rattle.watch_cli.specs.AnswerLaws.{laid-next}
+use Rattle.watch_cli.proofs.text.AnswerSteps.{laid-next}
 use Rattle.watch_cli.proofs.text.put.Statement.{statement}
 use Rattle.watch_cli.proofs.text.put.Tie as tie
 

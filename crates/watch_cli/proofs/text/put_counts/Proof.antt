@@ -6,7 +6,7 @@ use mathlib.Core.List.{_++_, append-nil, [], _∷_}
 use lib.ListN.{length, take}
 use borrow.Author.Needs.{needs}
 use Rattle.watch_cli.specs.Answers.{moreCounts, numeral}
-use Rattle.watch_cli.specs.AnswerLaws.{behind, counts-next, counts-end}
+use Rattle.watch_cli.proofs.text.AnswerSteps.{behind, counts-next, counts-end}
 use Rattle.watch_cli.proofs.text.put_counts.Statement.{statement}
 use Rattle.watch_cli.proofs.text.put_counts.Tie as tie
 

@@ -5,7 +5,7 @@ use mathlib.Core.Path.{ap, _∙_}
 use mathlib.Core.List.{List, _++_}
 use lib.ListN.{take}
 use borrow.Author.Needs.{needs}
-use Rattle.watch_cli.specs.AnswerLaws.{twenty, digits-numeral}
+use Rattle.watch_cli.proofs.text.AnswerSteps.{twenty, digits-numeral}
 use Rattle.watch_cli.proofs.text.put_number.Statement.{statement}
 use Rattle.watch_cli.proofs.text.put_number.Tie as tie
 

@@ -17,7 +17,7 @@ use Rattle.frontiers.specs.WindowLaws.{place-within}
 use Rattle.frontiers.specs.Bytes.{frontiers, frontierAt}
 use Rattle.window.specs.Step.{stays, enabledAt, keptAfter}
 use Rattle.window.specs.StepCode.{settingWith, staysWith}
-use Rattle.window.specs.StepCodeLaws.{keptAfter-none, keptAfter-more}
+use Rattle.window.proofs.SettingSteps.{keptAfter-none, keptAfter-more}
 use Rattle.window.specs.Prepared.{boundCounts}
 use Rattle.window.specs.Marks.{Marked, marked-none, marked-more}
 

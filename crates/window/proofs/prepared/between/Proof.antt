@@ -5,7 +5,7 @@ use mathlib.Core.Path.{ap, _∙_}
 use mathlib.Core.Bool.{_&&_}
 use lib.Dec.{leb}
 use Rattle.window.specs.Prepared.{lowest}
-use Rattle.window.specs.PreparedLaws.{between-ready}
+use Rattle.window.proofs.PreparedSteps.{between-ready}
 use Rattle.window.proofs.prepared.between.Statement.{statement}
 use Rattle.window.proofs.prepared.between.Tie as tie
 

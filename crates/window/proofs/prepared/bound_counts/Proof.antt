@@ -6,7 +6,7 @@ use mathlib.Core.Bool.{Bool}
 use lib.ListN.{length, getD}
 use Rattle.clocks.specs.Counts.{at}
 use Rattle.clocks.specs.Event.{involved, count}
-use Rattle.clocks.specs.CountsLaws.{filled, fill-next}
+use Rattle.clocks.specs.stored.CountsLaws.{filled, fill-next}
 use Rattle.window.specs.Prepared.{bound}
 use Rattle.window.proofs.prepared.bound_counts.Statement.{statement}
 use Rattle.window.proofs.prepared.bound_counts.Tie as tie

@@ -7,7 +7,7 @@ use mathlib.Core.Bool.{Bool, false, not, _&&_}
 use lib.Dec.{ltb}
 use lib.ListN.{length, getD}
 use Rattle.codec.specs.Bit.{bit}
-use Rattle.clocks.specs.CountsLaws.{filled, fill-next}
+use Rattle.clocks.specs.stored.CountsLaws.{filled, fill-next}
 use Rattle.window.proofs.prepared.open_ones.Statement.{statement}
 use Rattle.window.proofs.prepared.open_ones.Tie as tie
 

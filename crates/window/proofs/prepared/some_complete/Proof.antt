@@ -5,8 +5,8 @@ use Prim.Native.Nat.{ℕ, _≤_, _-_}
 use mathlib.Core.Path.{_≡_, sym, ap, _∙_}
 use mathlib.Core.Bool.{Bool, _||_}
 use Rattle.clocks.specs.Bounded.{anyBelow}
-use Rattle.clocks.specs.BoundedSteps.{any-none, any-more}
-use Rattle.window.specs.PreparedLaws.{completeIn, complete-open}
+use Rattle.clocks.specs.stored.BoundedTurns.{any-none, any-more}
+use Rattle.window.proofs.PreparedSteps.{completeIn, complete-open}
 use Rattle.window.proofs.prepared.some_complete.Statement.{statement}
 use Rattle.window.proofs.prepared.some_complete.Tie as tie
 

@@ -9,12 +9,12 @@ use Rattle.clocks.specs.declared.Event.{Event}
 use Rattle.clocks.specs.Event.{involved, count}
 use Rattle.clocks.specs.Counts.{at}
 use Rattle.clocks.specs.Bounded.{allBelow}
-use Rattle.clocks.specs.BoundedSteps.{all-none, all-more}
+use Rattle.clocks.specs.stored.BoundedTurns.{all-none, all-more}
 use Rattle.clocks.specs.Tested.{readyAt, ready}
 use Rattle.window.specs.Prepared.{boundCounts}
-use Rattle.window.specs.PreparedLaws.{made-at}
 use Rattle.window.proofs.prepared.within.Statement.{statement}
 use Rattle.window.proofs.prepared.within.Tie as tie
+use Rattle.window.specs.Lists.{made-at}
 
 -- What the event asks of process p.
 abbrev test : Event → List ℕ → ℕ → Bool

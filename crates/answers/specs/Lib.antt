@@ -1,0 +1,6 @@
+-- What the calls share: their answers, the words that C gets, and the order of their refusals.
+
+-- What a reader has to believe
+pub mod Answer
+-- What is proved of refusals in their order
+pub mod Turns

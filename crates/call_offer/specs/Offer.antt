@@ -1,0 +1,41 @@
+-- Offer (01, The calls): an event is added to the pending ones, in its place by lowest process and count; or it is turned back.
+use Prim.Native.Nat.{ℕ, suc, _+_, _%_}
+use mathlib.Core.Bool.{cond}
+use mathlib.Core.List.{List, [], _∷_}
+use lib.Dec.{leb}
+use lib.ListN.{length}
+use Rattle.clocks.specs.declared.Event.{Event}
+use Rattle.clocks.specs.Key.{keyOf, keyBefore}
+use Rattle.clocks.specs.Counts.{at}
+use Rattle.clocks.specs.Refusal.{badMask, badClock, badLabels}
+use Rattle.records.specs.Record.{processCount, pendingCount, takenCounts, pendingEvents, inserted}
+use Rattle.refusals.specs.Refusals.{badRecordLength, badState, alreadyTaken, conflicting}
+use Rattle.answers.specs.Answer.{Answer, turnedBack, held}
+
+-- What a call that is lent the record answers and leaves there.
+pub record Offered : Type 0 where
+  pub answer : Answer
+  pub bytes : List ℕ
+
+-- The place of an event among the pending ones: behind those whose key is before its own.
+unfoldable pub placeAmong : Event → List Event → ℕ
+placeAmong e [] = 0
+placeAmong e (f ∷ fs) = cond (keyBefore (keyOf f) (keyOf e)) (suc (placeAmong e fs)) 0
+
+-- The event that an offer brings: of its mask's word the eight bits that can be set.
+abbrev pub offeredEvent : ℕ → List ℕ → List ℕ → Event
+offeredEvent mask clock labels = record { mask = mask % 256; clock = clock; labels = labels }
+
+unfoldable pub offerCall : ℕ → ℕ → List ℕ → List ℕ → List ℕ → Offered
+offerCall w mask clock labels s =
+    let e = offeredEvent mask clock labels in
+    let turned : ℕ → Offered = λ n. record { answer = turnedBack n 0; bytes = s } in
+    cond (badRecordLength w (length s)) (turned 6)
+    (cond (badState w 1024 s) (turned 34)
+    (cond (badMask (processCount s) mask) (turned 7)
+    (cond (badClock (processCount s) mask clock) (turned 8)
+    (cond (badLabels mask labels) (turned 9)
+    (cond (alreadyTaken e (at (takenCounts w s))) (turned 31)
+    (cond (conflicting e (pendingEvents w s)) (turned 32)
+    (cond (leb 32 (pendingCount s)) (turned 33)
+    (record { answer = held (pendingCount s + 1); bytes = inserted w s (placeAmong e (pendingEvents w s)) e }))))))))

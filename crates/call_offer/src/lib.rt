@@ -1,0 +1,107 @@
+// Offer (01, The calls): an event is added to the pending ones, in its place by lowest process and count; or it is turned back.
+
+use clocks::Event;
+use records::fields::pending_count;
+use records::fields::pending_event;
+use records::fields::process_count;
+use records::fields::taken_counts;
+use refusals::already_taken;
+use refusals::bad_record_length;
+use refusals::bad_state;
+use refusals::conflicting;
+use updates::insert_event;
+ghost use Prim.Native.Nat.{ℕ, _≤_, _<_, _^_};
+ghost use mathlib.Core.Path.{_≡_};
+ghost use mathlib.Core.Bool.{cond};
+ghost use lib.ListN.{length};
+ghost use Rattle.clocks.specs.Counts.{at};
+ghost use Rattle.frontiers.specs.Width.{Width};
+ghost use Rattle.records.specs.Record.{recordLength, pendingCount, pendingEvents};
+ghost use Rattle.call_offer.specs.Offer.{placeAmong, offeredEvent, offerCall};
+ghost use Rattle.answers.specs.Answer.{replyWord};
+ghost use Rattle.call_offer.specs.OfferCode.{offerFault};
+
+// The event that an offer brings.
+fn offered_event(mask: u64, clock: [u32; 8], labels: [u8; 8]) -> Event
+    ensures { λ r. ⌜ r ≡ offeredEvent mask clock labels ⌝ }
+{
+    Event {
+        mask: (mask % 256) as u8,
+        clock,
+        labels,
+    }
+}
+
+// The place of an event among the pending ones: behind those whose key is before its own.
+pub fn place_among(s: &[u8], w: usize, e: Event) -> usize
+    requires { ⌜ Width w ⌝ }
+    requires { ⌜ length (now s) ≡ recordLength w ⌝ }
+    requires { ⌜ pendingCount (now s) ≤ 32 ⌝ }
+    ensures { λ r. ⌜ (r ≡ placeAmong e (pendingEvents w (now (s .entry)))) × (r ≤ pendingCount (now (s .entry))) ⌝ }
+{
+    let n = pending_count(s);
+    let mut i = 0;
+    while i < n {
+        let f = pending_event(s, w, i);
+        if !clocks::order::key_before(clocks::order::key(f), clocks::order::key(e)) {
+            return i;
+        }
+        i += 1;
+    }
+    i
+}
+
+// The number that the pending events turn an offer back with, in their order; 0 for none.
+fn pending_fault(conflict: bool, full: bool) -> u64
+    ensures { λ r. ⌜ r ≡ cond conflict 32 (cond full 33 0) ⌝ }
+{
+    if conflict {
+        return 32;
+    }
+    if full {
+        return 33;
+    }
+    0
+}
+
+// The number that an offer is turned back with, in their order; 0 for none.
+pub fn offer_fault(w: usize, mask: u64, clock: [u32; 8], labels: [u8; 8], s: &[u8]) -> u64
+    requires { ⌜ Width w ⌝ }
+    ensures { λ r. ⌜ r ≡ offerFault w mask clock labels (now (s .entry)) ⌝ }
+{
+    if bad_record_length(w, s.len()) {
+        return 6;
+    }
+    if bad_state(s, w, 1024) {
+        return 34;
+    }
+    let fault = clocks::refusal::event_fault(process_count(s), mask, clock, labels);
+    if fault != 0 {
+        return fault;
+    }
+    let e = offered_event(mask, clock, labels);
+    if already_taken(e, taken_counts(s, w)) {
+        return 31;
+    }
+    let conflict = conflicting(s, w, e);
+    let full = 32 <= pending_count(s);
+    pending_fault(conflict, full)
+}
+
+// Offers an event: the reply, and the record's bytes after it.
+pub fn offer(w: usize, mask: u64, clock: [u32; 8], labels: [u8; 8], s: &mut [u8]) -> u64
+    requires { ⌜ Width w ⌝ }
+    requires { ⌜ ((p : ℕ) → at clock p < 256 ^ w) ⌝ }
+    ensures reply { λ r. ⌜ r ≡ replyWord (offerCall w mask clock labels (now (s .entry)) .answer) ⌝ }
+    ensures bytes { λ r. ⌜ now (s .exit) ≡ offerCall w mask clock labels (now (s .entry)) .bytes ⌝ }
+{
+    let fault = offer_fault(w, mask, clock, labels, s);
+    if fault != 0 {
+        return fault;
+    }
+    let e = offered_event(mask, clock, labels);
+    let n = pending_count(s);
+    let i = place_among(s, w, e);
+    insert_event(s, w, i, e);
+    65536 * ((n + 1) as u64)
+}

@@ -1,0 +1,66 @@
+-- The record cleared, then its numbers and its table stored: the law `stored-record`.
+use Rattle.call_open.proofs.write_record.Tie as tie
+use Prim.Native.Nat.{ℕ}
+use native.Mathlib.Omega.{arith}
+use mathlib.Core.Path.{_≡_}
+use mathlib.Core.List.{List}
+use lib.ListN.{length, set, length-set}
+use borrow.Author.Needs.{needs}
+use denote.Ref.{now}
+use Rattle.call_open.proofs.write_record.Statement.{statement}
+use Rattle.call_open.proofs.OpenSteps.{stored-record}
+
+table-place-requires : tie.Need-table-place-requires
+table-place-requires c κs = search needs
+
+clear-requires : tie.Need-clear-requires
+clear-requires c κs = search needs
+
+cast-s : tie.Need-cast-s
+cast-s c = search needs
+
+slice-write-s : tie.Need-slice-write-s
+slice-write-s c = search needs
+
+cast-s-2 : tie.Need-cast-s-2
+cast-s-2 c = search needs
+
+-- Two stores leave the length.
+kept-length : (s : List ℕ) (k lines : ℕ) → length (set (set s 0 k) 1 lines) ≡ length s
+kept-length s k lines = simp length-set
+
+slice-write-s-2 : tie.Need-slice-write-s-2
+slice-write-s-2 c = simp length-set (omega arith)
+
+write-u32-requires : tie.Need-write-u32-requires
+write-u32-requires c κs = let a = c .before .before .before .before .before .before .before .before .args in omega (arith, kept-length (c .before .before .before .clear .last .0) (a .k) (a .lines))
+
+mul-copy-in : tie.Need-mul-copy-in
+mul-copy-in c = search needs
+
+copy-in-requires : tie.Need-copy-in-requires
+copy-in-requires c κs = let a = c .before .before .before .before .before .before .before .before .before .before .before .before .args in (omega (arith, kept-length (c .before .before .before .before .before .before .before .clear .last .0) (a .k) (a .lines)), search needs)
+
+same-length : tie.Need-same-length
+same-length c = let a = c .before .before .before .before .before .before .before .before .before .before .before .before .before .before .before .args in omega (arith, kept-length (c .before .before .before .before .before .before .before .before .before .before .clear .last .0) (a .k) (a .lines))
+
+returns : tie.Need-returns
+returns c =
+    let a = c .before .before .before .before .before .before .before .before .before .before .before .before .before .before .before .args in
+    cc (stored-record (a .w) (a .k) (a .lines) (now (a .s)) (now (a .table)) (search needs) (search needs) (search needs))
+
+pub write-record-spec : {M : Type 1} → statement M
+write-record-spec =
+    tie.close
+    (tie.spec
+    table-place-requires
+    clear-requires
+    cast-s
+    slice-write-s
+    cast-s-2
+    slice-write-s-2
+    write-u32-requires
+    mul-copy-in
+    copy-in-requires
+    same-length
+    returns)

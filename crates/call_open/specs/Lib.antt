@@ -1,0 +1,6 @@
+-- Open.
+
+-- What a reader has to believe
+pub mod Open
+-- What its functions' contracts cite
+pub mod OpenCode

@@ -1,0 +1,127 @@
+// Open (01, The calls): reads a rule's text, the number of processes and the start labels, and writes record and window.
+
+use answers::state_word;
+use answers::turned_word;
+use frontiers::Frontier;
+use frontiers::moving::clear;
+use frontiers::moving::copy_in;
+use refusals::bad_processes;
+use refusals::bad_record_length;
+use refusals::bad_window_length;
+use records::fields::table_place;
+use rules::RuleRead;
+ghost use Prim.Native.Nat.{_*_, _≤_};
+ghost use mathlib.Core.Path.{_≡_};
+ghost use lib.ListN.{length};
+ghost use Rattle.pactl.specs.TableBytes.{linesOf};
+ghost use Rattle.frontiers.specs.Width.{Width};
+ghost use Rattle.frontiers.specs.Bytes.{frontierLength, windowBytes};
+ghost use Rattle.records.specs.Record.{recordLength};
+ghost use Rattle.call_open.specs.Open.{firstRecord, openTable, openCall};
+ghost use Rattle.answers.specs.Answer.{replyWord};
+ghost use Rattle.call_open.specs.OpenCode.{zerosJudged, openFault};
+
+// Writes the record of a new watch: the number of processes, the table's first lines, one frontier kept.
+pub fn write_record(s: &mut [u8], w: usize, k: u32, table: &[u8], lines: u32)
+    requires { ⌜ Width w ⌝ }
+    requires { ⌜ length (now s) ≡ recordLength w ⌝ }
+    requires { ⌜ k ≤ 8 ⌝ }
+    requires { ⌜ lines ≤ 64 ⌝ }
+    requires { ⌜ 3 * lines ≤ length (now table) ⌝ }
+    ensures { λ r. ⌜ now (s .exit) ≡ firstRecord w k (linesOf (now (table .entry)) lines) ⌝ }
+{
+    let all = s.len();
+    let place = table_place(w);
+    clear(s, 0, all);
+    s[0] = k as u8;
+    s[1] = lines as u8;
+    codec::write_u32(s, 4, 1);
+    copy_in(s, place, table, 3 * (lines as usize));
+}
+
+// Writes the window of a new watch: the cut of zeros, with its labels and values.
+pub fn write_window(window: &mut [u8], w: usize, labels: [u8; 8], values: u64)
+    requires { ⌜ Width w ⌝ }
+    requires { ⌜ frontierLength w ≤ length (now window) ⌝ }
+    ensures { λ r. ⌜ now (window .exit) ≡ windowBytes w (length (now (window .entry))) (zerosJudged labels values) ⌝ }
+{
+    let all = window.len();
+    clear(window, 0, all);
+    let counts = [0u32; 8];
+    let masks = [0u8; 8];
+    frontiers::stored::write_frontier(
+        window,
+        w,
+        Frontier {
+            counts,
+            labels,
+            masks,
+            values,
+        },
+    );
+}
+
+// Opens with a table: the reply, and the bytes of record and window after it.
+pub fn open_table(
+    w: usize,
+    k: u32,
+    labels: [u8; 8],
+    table: &[u8],
+    lines: u32,
+    s: &mut [u8],
+    window: &mut [u8],
+) -> u64
+    requires { ⌜ Width w ⌝ }
+    requires { ⌜ length (now s) ≡ recordLength w ⌝ }
+    requires { ⌜ frontierLength w ≤ length (now window) ⌝ }
+    requires { ⌜ k ≤ 8 ⌝ }
+    requires { ⌜ (1 ≤ lines) × (lines ≤ 64) ⌝ }
+    requires { ⌜ 3 * lines ≤ length (now table) ⌝ }
+    ensures reply { λ r. ⌜ r ≡ replyWord (openTable w (linesOf (now (table .entry)) lines) k labels (length (now (window .entry))) .answer) ⌝ }
+    ensures bytes { λ r. ⌜ now (s .exit) ≡ openTable w (linesOf (now (table .entry)) lines) k labels (length (now (window .entry))) .bytes ⌝ }
+    ensures window { λ r. ⌜ now (window .exit) ≡ openTable w (linesOf (now (table .entry)) lines) k labels (length (now (window .entry))) .window ⌝ }
+{
+    let values = pactl::judging::judge(table, lines, labels, 0, 0, false);
+    write_record(s, w, k, table, lines);
+    write_window(window, w, labels, values);
+    state_word(codec::has_bit(values, lines - 1), 1)
+}
+
+// The number that an open is turned back with before its text is read; 0 for none.
+pub fn open_fault(w: usize, k: u64, labels: [u8; 8], n: usize, m: usize) -> u64
+    requires { ⌜ Width w ⌝ }
+    ensures { λ r. ⌜ r ≡ openFault w k labels n m ⌝ }
+{
+    if bad_record_length(w, n) {
+        return 6;
+    }
+    if bad_window_length(w, m) {
+        return 6;
+    }
+    if bad_processes(k) {
+        return 5;
+    }
+    if clocks::refusal::bad_start(k as u32, labels) {
+        return 9;
+    }
+    0
+}
+
+// Opens a watch with a rule's text: the reply, and the bytes of record and window after it.
+pub fn open(w: usize, rule: &[u8], k: u64, labels: [u8; 8], s: &mut [u8], window: &mut [u8]) -> u64
+    requires { ⌜ Width w ⌝ }
+    ensures reply { λ r. ⌜ r ≡ replyWord (openCall w (now (rule .entry)) k labels (now (s .entry)) (now (window .entry)) .answer) ⌝ }
+    ensures bytes { λ r. ⌜ now (s .exit) ≡ openCall w (now (rule .entry)) k labels (now (s .entry)) (now (window .entry)) .bytes ⌝ }
+    ensures window { λ r. ⌜ now (window .exit) ≡ openCall w (now (rule .entry)) k labels (now (s .entry)) (now (window .entry)) .window ⌝ }
+{
+    let fault = open_fault(w, k, labels, s.len(), window.len());
+    if fault != 0 {
+        return fault;
+    }
+    let mut table = [0u8; 192];
+    let read = rules::reading::read_rule(rule, k as u32, &mut table);
+    match read {
+        RuleRead::Refused { number, place } => turned_word(number, place),
+        RuleRead::Accepted { lines } => open_table(w, k as u32, labels, &table, lines, s, window),
+    }
+}

@@ -1,0 +1,104 @@
+-- What the code learns from its choice: which decision it was, and what holds of the event that was decided on.
+use Prim.Native.Nat.{ℕ, _+_, _≤_, _<_}
+use native.Mathlib.Omega.{arith}
+use mathlib.Core.Path.{_≡_, ap, subst, _∙_}
+use mathlib.Core.Bool.{Bool, false}
+use mathlib.Core.List.{List}
+use lib.Dec.{T, ltb, leb, leb→le, ltb→lt}
+use lib.ListN.{length, getD}
+use Rattle.clocks.specs.declared.Event.{Event}
+use Rattle.clocks.specs.stored.BoundedLaws.{and-l, and-r}
+use Rattle.clocks.specs.stored.CountsLaws.{length-listOf, getD-listOf}
+use Rattle.frontiers.specs.declared.Frontier.{Frontier}
+use Rattle.frontiers.specs.Bytes.{frontiers}
+use Rattle.window.specs.Step.{Setting, fits, keptAfter}
+use Rattle.call_take.specs.declared.Choice.the-variants.{Undecided, Falsified, Chosen}
+use Rattle.records.specs.Record.{keptCount, pendingCount, pendingAt, pendingEvents, readyIn}
+use Rattle.call_take.specs.Take.{Decision, undecided, false-clock, chosen, tried, settingIn, decided, takeWithin}
+use Rattle.call_take.specs.TrialLaws.{Outcome, outcome, none-decides, falsifies, chooses}
+use Rattle.call_take.specs.TakeCode.{choiceFor}
+
+-- Of an event that is taken: it is pending and ready, and so many frontiers, at least one and no more than are allowed, are kept.
+pub record Taking (w : ℕ) (s : List ℕ) (allowed : ℕ) (fs : List Frontier) (i kept : ℕ) : Type 0 where
+  pub pending : i < pendingCount s
+  pub ready : T (readyIn w s (pendingAt w s i))
+  pub many : kept ≡ keptAfter (settingIn w s (pendingAt w s i)) fs
+  pub some : 1 ≤ kept
+  pub few : kept ≤ allowed
+
+fits-e : (t : Setting) (allowed : ℕ) (fs : List Frontier) → T (fits t allowed fs) → (0 < keptAfter t fs) × (keptAfter t fs ≤ allowed)
+unfolding fits
+fits-e t allowed fs h = (ltb→lt 0 (keptAfter t fs) (and-l (ltb 0 (keptAfter t fs)) (leb (keptAfter t fs) allowed) h), leb→le (keptAfter t fs) allowed (and-r (ltb 0 (keptAfter t fs)) (leb (keptAfter t fs) allowed) h))
+
+module _ (w : ℕ) (s : List ℕ) (allowed : ℕ) (fs : List Frontier) where
+  abbrev trial : Decision
+  trial = tried w s allowed fs 0 false (pendingEvents w s)
+
+  abbrev first : Event
+  first = pendingAt w s 0
+
+  came : Outcome w s allowed fs 0 false (pendingEvents w s) first
+  came = outcome w s allowed fs first 0 false (pendingEvents w s)
+
+  count : length (pendingEvents w s) ≡ pendingCount s
+  unfolding pendingEvents
+  count = length-listOf (pendingCount s) (pendingAt w s)
+
+  at-place : (j : ℕ) → j < pendingCount s → getD (pendingEvents w s) j first ≡ pendingAt w s j
+  unfolding pendingEvents
+  at-place j l = getD-listOf (pendingCount s) (pendingAt w s) j first l
+
+  -- ---- Which decision it was
+  from-undecided : (seen : Bool) (d : Decision) → Undecided seen ≡ choiceFor w s fs d → d ≡ undecided seen
+  unfolding choiceFor
+  from-undecided seen (undecided b) e = cc
+  from-undecided seen (false-clock i) e = let z : _≡_ {A = ℕ} 0 1 = cc in absurd (omega arith)
+  from-undecided seen (chosen i) e = let z : _≡_ {A = ℕ} 0 1 = cc in absurd (omega arith)
+
+  from-falsified : (i : ℕ) (d : Decision) → Falsified i ≡ choiceFor w s fs d → d ≡ false-clock i
+  unfolding choiceFor
+  from-falsified i (undecided b) e = let z : _≡_ {A = ℕ} 0 1 = cc in absurd (omega arith)
+  from-falsified i (false-clock j) e = cc
+  from-falsified i (chosen j) e = let z : _≡_ {A = ℕ} 0 1 = cc in absurd (omega arith)
+
+  from-chosen : (i kept : ℕ) (d : Decision) → Chosen i kept ≡ choiceFor w s fs d → (d ≡ chosen i) × (kept ≡ keptAfter (settingIn w s (pendingAt w s i)) fs)
+  unfolding choiceFor
+  from-chosen i kept (undecided b) e = let z : _≡_ {A = ℕ} 0 1 = cc in absurd (omega arith)
+  from-chosen i kept (false-clock j) e = let z : _≡_ {A = ℕ} 0 1 = cc in absurd (omega arith)
+  from-chosen i kept (chosen j) e = let same : i ≡ j = cc in (cc, cc)
+
+  pub choice-undecided : (seen : Bool) → Undecided seen ≡ choiceFor w s fs trial → trial ≡ undecided seen
+  choice-undecided seen h = from-undecided seen trial h
+
+  -- ---- What holds of the event
+  pub choice-falsified : (i : ℕ) → Falsified i ≡ choiceFor w s fs trial → (trial ≡ false-clock i) × (i < pendingCount s)
+  choice-falsified i h = (from-falsified i trial h, go came (from-falsified i trial h))
+    where
+      go : Outcome w s allowed fs 0 false (pendingEvents w s) first → trial ≡ false-clock i → i < pendingCount s
+      go (none-decides after t u o) d = let z : _≡_ {A = ℕ} 0 1 = cc in absurd (omega arith)
+      go (falsifies j l t r n u) d = let same : i ≡ 0 + j = cc in omega (arith, count)
+      go (chooses j l t r v f u) d = let z : _≡_ {A = ℕ} 0 1 = cc in absurd (omega arith)
+
+  pub choice-chosen : (i kept : ℕ) → Chosen i kept ≡ choiceFor w s fs trial → (trial ≡ chosen i) × Taking w s allowed fs i kept
+  choice-chosen i kept h = let c = from-chosen i kept trial h in (c .0, go came (c .0) (c .1))
+    where
+      go : Outcome w s allowed fs 0 false (pendingEvents w s) first → trial ≡ chosen i → kept ≡ keptAfter (settingIn w s (pendingAt w s i)) fs → Taking w s allowed fs i kept
+      go (none-decides after t u o) d k = let z : _≡_ {A = ℕ} 0 1 = cc in absurd (omega arith)
+      go (falsifies j l t r n u) d k = let z : _≡_ {A = ℕ} 0 1 = cc in absurd (omega arith)
+      go (chooses j l t r v f u) d k =
+          let same : i ≡ 0 + j = cc in
+          let here : getD (pendingEvents w s) j first ≡ pendingAt w s i = at-place j (omega (arith, count)) ∙ ap (pendingAt w s) (omega arith) in
+          let room = fits-e (settingIn w s (pendingAt w s i)) allowed fs (subst (λ (e : Event). T (fits (settingIn w s e) allowed fs)) here f) in
+          record {
+            pending = omega (arith, count);
+            ready = subst (λ (e : Event). T (readyIn w s e)) here r;
+            many = k;
+            some = omega (arith, room .0);
+            few = omega (arith, room .1);
+          }
+
+-- A take within so many frontiers, by its decision.
+pub within-by : (w allowed : ℕ) (s window : List ℕ) (d : Decision) → tried w s allowed (frontiers w window (keptCount s)) 0 false (pendingEvents w s) ≡ d
+    → takeWithin w allowed s window ≡ decided w s window (frontiers w window (keptCount s)) d
+unfolding takeWithin
+within-by w allowed s window d e = rw e

@@ -1,0 +1,5 @@
+-- What the functions' proofs here share.
+pub mod ChoiceSteps
+pub mod TakeCallSteps
+pub mod TakenSteps
+pub mod TrialSteps

@@ -1,0 +1,50 @@
+-- The counts that the event leads to are the setting's, and the table does not matter for how many frontiers are kept, nor for their marks.
+use Rattle.call_take.proofs.kept_with.Tie as tie
+use native.Mathlib.Omega.{arith}
+use mathlib.Core.Path.{_≡_, ap, _∙_}
+use Prim.Native.Nat.{ℕ, _<_}
+use mathlib.Core.List.{List}
+use borrow.Author.Needs.{needs}
+use denote.Ref.{now}
+use Rattle.call_take.proofs.kept_with.Statement.{statement}
+use Rattle.clocks.specs.Event.{apply}
+use Rattle.clocks.specs.Counts.{at, listOf}
+use Rattle.records.specs.Record.{takenCounts, readyIn}
+use Rattle.call_take.proofs.TrialSteps.{setting-with}
+
+process-count-requires : tie.Need-process-count-requires
+process-count-requires c κs = search needs
+
+taken-counts-requires : tie.Need-taken-counts-requires
+taken-counts-requires c κs = search needs
+
+apply-requires : tie.Need-apply-requires
+unfolding readyIn
+apply-requires c κs = rw (c .taken-counts .ensures) (c .before .before .before .before .before .pre .1 .1 .1 .1 .0)
+
+count-after-requires : tie.Need-count-after-requires
+count-after-requires c κs = search needs
+
+same-length : tie.Need-same-length
+same-length c = search needs
+
+returns : tie.Need-returns
+returns c =
+    let a = c .before .before .before .before .before .before .before .before .before .before .args in
+    let small : a .e .mask < 256 = omega arith in
+    let counts : c .before .before .before .before .apply .result ≡ listOf 8 (apply (a .e) (at (takenCounts (a .w) (now (a .s))))) =
+    c .before .before .before .before .apply .ensures ∙ ap (λ (l : List ℕ). listOf 8 (apply (a .e) (at l))) (c .before .before .before .before .before .taken-counts .ensures) in (
+      rw (setting-with (a .w) (now (a .s)) (a .e) small, ← counts, ← (c .before .before .before .before .before .before .process-count .ensures .0)) (c .before .before .count-after .ensures .0 _ _),
+      rw (setting-with (a .w) (now (a .s)) (a .e) small, ← counts, ← (c .before .before .before .before .before .before .process-count .ensures .0)) (c .before .before .count-after .ensures .1 .1 _ _),
+    )
+
+pub kept-with-spec : {M : Type 1} → statement M
+kept-with-spec =
+    tie.close
+    (tie.spec
+    process-count-requires
+    taken-counts-requires
+    apply-requires
+    count-after-requires
+    same-length
+    returns)

@@ -1,0 +1,110 @@
+-- The parameters of the step make the setting of the record (`setting-lent`).
+use Rattle.call_take.proofs.step_window.Tie as tie
+use Prim.Native.Nat.{ℕ, _-_}
+use native.Mathlib.Omega.{arith}
+use mathlib.Core.List.{List}
+use lib.ListN.{length, take, drop, length-take, length-drop}
+use mathlib.Core.Path.{_≡_, ap, _∙_}
+use borrow.Author.Needs.{needs}
+use denote.Ref.{now}
+use Rattle.call_take.proofs.step_window.Statement.{statement}
+use Rattle.clocks.specs.Event.{apply}
+use Rattle.clocks.specs.Counts.{at, listOf}
+use Rattle.frontiers.specs.Bytes.{frontiers}
+use Rattle.window.specs.Step.{Setting, keptAfter}
+use Rattle.window.specs.StepCode.{settingWith}
+use Rattle.records.specs.Record.{takenCounts, readyIn}
+use Rattle.call_take.specs.Take.{settingIn}
+use Rattle.call_take.proofs.TrialSteps.{setting-lent}
+
+process-count-requires : tie.Need-process-count-requires
+process-count-requires c κs = search needs
+
+line-total-requires : tie.Need-line-total-requires
+line-total-requires c κs = search needs
+
+taken-counts-requires : tie.Need-taken-counts-requires
+taken-counts-requires c κs = search needs
+
+apply-requires : tie.Need-apply-requires
+unfolding readyIn
+apply-requires c κs = rw (c .taken-counts .ensures) (c .before .before .before .before .before .before .before .pre .1 .1 .1 .1 .1 .1 .1 .0)
+
+table-place-requires : tie.Need-table-place-requires
+table-place-requires c κs = search needs
+
+sub-step : tie.Need-sub-step
+sub-step c = search needs
+
+part-step-start : tie.Need-part-step-start
+part-step-start c = search needs
+
+part-step-end : tie.Need-part-step-end
+part-step-end c = search needs
+
+-- The step's parameters make the record's setting.
+setting : (c : tie.After-table-place) → let a = c .before .before .before .before .before .before .before .before .before .args in
+    settingIn (a .w) (now (a .s)) (a .e) ≡ settingWith (c .before .before .before .before .process-count .result) 0 (take (length (now (a .s)) - c .table-place .result) (drop (c .table-place .result) (now (a .s)))) (c .before .before .before .line-total .result) (a .e) (c .before .apply .result)
+setting c =
+    let a = c .before .before .before .before .before .before .before .before .before .args in
+    let counts : c .before .apply .result ≡ listOf 8 (apply (a .e) (at (takenCounts (a .w) (now (a .s))))) =
+    c .before .apply .ensures ∙ ap (λ (l : List ℕ). listOf 8 (apply (a .e) (at l))) (c .before .before .taken-counts .ensures) in
+    setting-lent (a .w) (now (a .s)) (a .e) _ _ _ _ (omega arith) (c .before .before .before .before .process-count .ensures .0) (c .table-place .ensures .0) (c .before .before .before .line-total .ensures .0) counts
+
+step-requires : tie.Need-step-requires
+step-requires c κs =
+    let a = c .before .before .before .before .before .before .before .before .before .before .before .before .args in
+    let asked = c .before .before .before .before .before .before .before .before .before .before .before .before .pre in (
+      search needs,
+      (
+        asked .1 .1 .1 .1 .1 .1 .0,
+        (
+          search needs,
+          (
+            search needs,
+            (
+              search needs,
+              (
+                (search needs, simp (length-take, length-drop) (omega arith)),
+                (
+                  search needs,
+                  (
+                    asked .1 .1 .1 .1 .1 .1 .1 .1 .0 ∙ ap (λ (t : Setting). keptAfter t (frontiers (a .w) (now (a .window)) (a .n))) (setting (c .before .before .before)),
+                    (asked .1 .1 .1 .1 .1 .1 .1 .1 .1 .0, rw (setting (c .before .before .before)) at (asked .1 .1 .1 .1 .1 .1 .1 .1 .1 .1)),
+                  ),
+                ),
+              ),
+            ),
+          ),
+        ),
+      ),
+    )
+
+same-length : tie.Need-same-length
+same-length c = search needs
+
+same-length-2 : tie.Need-same-length-2
+same-length-2 c = search needs
+
+returns : tie.Need-returns
+returns c =
+    let to = setting (c .before .before .before .before .before .before .before .before) in
+    let step = c .before .before .before .before .step .ensures in
+    (rw to (step .0), (step .1 .0, rw to (step .1 .1)))
+
+pub step-window-spec : {M : Type 1} → statement M
+step-window-spec =
+    tie.close
+    (tie.spec
+    process-count-requires
+    line-total-requires
+    taken-counts-requires
+    apply-requires
+    table-place-requires
+    sub-step
+    part-step-start
+    part-step-end
+    step-requires
+    same-length
+    same-length-2
+    returns)

@@ -1,0 +1,158 @@
+-- The three ways of a decision: the laws `choice-undecided`, `choice-falsified` and `choice-chosen`.
+use Rattle.call_take.proofs.take_within.Tie as tie
+use Prim.Native.Nat.{ℕ}
+use native.Mathlib.Nat.{mul-le-mul-right}
+use native.Mathlib.Omega.{arith}
+use mathlib.Core.Path.{_≡_, sym, ap, _∙_}
+use mathlib.Core.Bool.{false}
+use mathlib.Core.List.{List}
+use lib.ListN.{length, replicate}
+use borrow.Author.Needs.{needs}
+use denote.Ref.{now}
+use Rattle.frontiers.specs.declared.Frontier.{Frontier}
+use Rattle.frontiers.specs.Bytes.{frontierLength, frontiers}
+use Rattle.call_take.proofs.take_within.Statement.{statement}
+use Rattle.answers.specs.Answer.{replyWord}
+use Rattle.call_take.proofs.ChoiceSteps.{within-by, choice-undecided, choice-falsified, choice-chosen}
+use Rattle.records.specs.Record.{keptCount, pendingEvents}
+use Rattle.call_take.specs.Take.{Taken, tried, decided}
+use Rattle.call_take.specs.TakeCode.{choiceFor}
+
+abbrev kept : ℕ → List ℕ → List ℕ → List Frontier
+kept w s window = frontiers w window (keptCount s)
+
+kept-count-requires : tie.Need-kept-count-requires
+kept-count-requires c κs = search needs
+
+cast-n : tie.Need-cast-n
+cast-n c = search needs
+
+slice-aggregate-decide : tie.Need-slice-aggregate-decide
+slice-aggregate-decide c = search needs
+
+decide-requires : tie.Need-decide-requires
+decide-requires c κs =
+    let asked = c .before .before .before .before .before .before .before .before .pre .1 .1 .1 .1 .0 in
+    let count = c .before .before .before .kept-count .ensures in
+    (search needs, (search needs, (search needs, (search needs, ((rw count (asked .0), rw count (asked .1)), rw count (asked .0))))))
+
+-- What is to be known of the call that decides: its frontiers are those that the record says are kept.
+decision : (c : tie.After-decide) → let a = c .before .before .before .before .before .before .before .before .before .args in
+    c .decide .result ≡ choiceFor (a .w) (now (a .s)) (kept (a .w) (now (a .s)) (now (a .window))) (tried (a .w) (now (a .s)) (a .allowed) (kept (a .w) (now (a .s)) (now (a .window))) 0 false (pendingEvents (a .w) (now (a .s))))
+decision c = rw (← (c .before .before .before .before .kept-count .ensures)) (c .decide .ensures .0)
+
+enum-known-choice : tie.Need-enum-known-choice
+enum-known-choice c = search needs
+
+clear-all-requires : tie.Need-clear-all-requires
+clear-all-requires c κs = search needs
+
+undecided-word-requires : tie.Need-undecided-word-requires
+undecided-word-requires c κs = search needs
+
+enum-known-choice-2 : tie.Need-enum-known-choice-2
+enum-known-choice-2 c = search needs
+
+remove-event-requires : tie.Need-remove-event-requires
+remove-event-requires c κs =
+    let a = c .before .before .before .before .before .before .before .before .before .before .before .before .before .before .args in
+    let t = choice-falsified (a .w) (now (a .s)) (a .allowed) _ _ (sym (c .before .before .choice2 .given .1) ∙ decision (c .before .before .before .before .before)) in
+    (search needs, (search needs, (t .1, search needs)))
+
+clear-all-requires-2 : tie.Need-clear-all-requires-2
+clear-all-requires-2 c κs = search needs
+
+enum-known-choice-3 : tie.Need-enum-known-choice-3
+enum-known-choice-3 c = search needs
+
+slice-aggregate-take-event : tie.Need-slice-aggregate-take-event
+slice-aggregate-take-event c = search needs
+
+take-event-requires : tie.Need-take-event-requires
+take-event-requires c κs =
+    let a = c .before .before .before .before .before .before .before .before .before .before .before .before .before .before .before .before .before .args in
+    let asked = c .before .before .before .before .before .before .before .before .before .before .before .before .before .before .before .before .before .pre in
+    let count = c .before .before .before .before .before .before .before .before .before .before .before .before .kept-count .ensures in
+    let t = choice-chosen (a .w) (now (a .s)) (a .allowed) _ _ _ (sym (c .before .before .before .before .before .choice3 .given .1) ∙ decision (c .before .before .before .before .before .before .before .before)) .1 in
+    let long : length (c .before .before .before .before .before .before .before .before .decide .last .1 .1 .1 .0) ≡ 1024 = search needs in
+    (search needs, (search needs, (search needs, ((rw count (asked .1 .1 .1 .1 .0 .0), rw count (asked .1 .1 .1 .1 .0 .1)), ((t .some, omega (arith, t .few), omega (arith, mul-le-mul-right (frontierLength (a .w)) (t .few))), (search needs, ((t .pending, search needs), (t .ready, (rw count (t .many), (rw (long, count) (asked .1 .1 .1 .1 .0 .0), c .before .before .before .before .before .before .before .before .decide .ensures .1 _ _ (c .before .before .before .before .before .choice3 .given .1)))))))))))
+
+same-length : tie.Need-same-length
+same-length c = search needs
+
+same-length-2 : tie.Need-same-length-2
+same-length-2 c = search needs
+
+same-length-3 : tie.Need-same-length-3
+same-length-3 c = search needs
+
+returns : tie.Need-returns
+unfolding decided
+returns c =
+    let a = c .before .before .before .before .before .before .before .before .before .before .before .before .before .before .before .before .before .before .args in
+    let whole = within-by (a .w) (a .allowed) (now (a .s)) (now (a .window)) _ (choice-undecided (a .w) (now (a .s)) (a .allowed) _ _ (sym (c .before .before .before .before .before .before .choice .given .1) ∙ decision (c .before .before .before .before .before .before .before .before .before))) in
+    (c .undecided-word .ensures ∙ ap (λ (o : Taken). replyWord (o .answer)) (sym whole), (ap (λ (o : Taken). o .bytes) (sym whole), (ap (λ (o : Taken). o .window) (sym whole), c .before .before .before .clear-all .ensures ∙ ap (λ (n : ℕ). replicate n 0) (c .before .before .before .before .before .before .before .before .before .before .before .before .before .before .before .before .before .before .pre .1 .1 .1 .1 .1 .1) ∙ ap (λ (o : Taken). o .scratch) (sym whole))))
+
+same-length-4 : tie.Need-same-length-4
+same-length-4 c = search needs
+
+same-length-5 : tie.Need-same-length-5
+same-length-5 c = search needs
+
+same-length-6 : tie.Need-same-length-6
+same-length-6 c = search needs
+
+returns-2 : tie.Need-returns-2
+unfolding decided replyWord
+returns-2 c =
+    let a = c .before .before .before .before .before .before .before .before .before .before .before .before .before .before .before .before .before .before .before .before .before .args in
+    let whole = within-by (a .w) (a .allowed) (now (a .s)) (now (a .window)) _ (choice-falsified (a .w) (now (a .s)) (a .allowed) _ _ (sym (c .before .before .before .before .before .before .before .before .before .choice2 .given .1) ∙ decision (c .before .before .before .before .before .before .before .before .before .before .before .before)) .0) in
+    (ap (λ (o : Taken). replyWord (o .answer)) (sym whole), (c .before .before .before .before .before .before .remove-event .ensures ∙ ap (λ (o : Taken). o .bytes) (sym whole), (ap (λ (o : Taken). o .window) (sym whole), c .before .before .clear-all2 .ensures ∙ ap (λ (n : ℕ). replicate n 0) (c .before .before .before .before .before .before .before .before .before .before .before .before .before .before .before .before .before .before .before .before .before .pre .1 .1 .1 .1 .1 .1) ∙ ap (λ (o : Taken). o .scratch) (sym whole))))
+
+same-length-7 : tie.Need-same-length-7
+same-length-7 c = search needs
+
+same-length-8 : tie.Need-same-length-8
+same-length-8 c = search needs
+
+same-length-9 : tie.Need-same-length-9
+same-length-9 c = search needs
+
+returns-3 : tie.Need-returns-3
+unfolding decided
+returns-3 c =
+    let a = c .before .before .before .before .before .before .before .before .before .before .before .before .before .before .before .before .before .before .before .before .before .before .before .before .args in
+    let whole = within-by (a .w) (a .allowed) (now (a .s)) (now (a .window)) _ (choice-chosen (a .w) (now (a .s)) (a .allowed) _ _ _ (sym (c .before .before .before .before .before .before .before .before .before .before .before .before .choice3 .given .1) ∙ decision (c .before .before .before .before .before .before .before .before .before .before .before .before .before .before .before)) .0) in
+    let e = c .before .before .before .before .before .before .take-event .ensures in
+    let count = c .before .before .before .before .before .before .before .before .before .before .before .before .before .before .before .before .before .before .before .kept-count .ensures in
+    (rw (whole, ← count) (e .0), (rw (whole, ← count) (e .1 .0), (rw (whole, ← count) (e .1 .1 .0), rw whole (e .1 .1 .1))))
+
+pub take-within-spec : {M : Type 1} → statement M
+take-within-spec =
+    tie.close
+    (tie.spec
+    kept-count-requires
+    cast-n
+    slice-aggregate-decide
+    decide-requires
+    enum-known-choice
+    clear-all-requires
+    undecided-word-requires
+    enum-known-choice-2
+    remove-event-requires
+    clear-all-requires-2
+    enum-known-choice-3
+    slice-aggregate-take-event
+    take-event-requires
+    same-length
+    same-length-2
+    same-length-3
+    returns
+    same-length-4
+    same-length-5
+    same-length-6
+    returns-2
+    same-length-7
+    same-length-8
+    same-length-9
+    returns-3)

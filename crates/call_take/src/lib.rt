@@ -1,0 +1,293 @@
+// Take (01, The calls): the ready pending events are tried in their order; the first that is decided is taken or leaves.
+
+use answers::state_word;
+use clocks::Event;
+use records::fields::kept_count;
+use records::fields::last_clocks;
+use records::fields::line_total;
+use records::fields::pending_count;
+use records::fields::pending_event;
+use records::fields::process_count;
+use records::fields::taken_counts;
+use refusals::bad_record_length;
+use refusals::bad_state;
+use refusals::bad_window_length;
+use refusals::room_of;
+use records::fields::table_place;
+use updates::count_taken;
+use updates::remove_event;
+ghost use Prim.Native.Nat.{ℕ, _*_, _-_, _^_, _≤_, _<_};
+ghost use mathlib.Core.Path.{_≡_};
+ghost use mathlib.Core.Bool.{false, cond, _&&_};
+ghost use lib.Dec.{T, ltb, leb};
+ghost use mathlib.Core.List.{map};
+ghost use lib.ListN.{length, getD, replicate};
+ghost use Rattle.codec.specs.Bit.{bit};
+ghost use Rattle.clocks.specs.Counts.{at};
+ghost use Rattle.frontiers.specs.Width.{Width};
+ghost use Rattle.frontiers.specs.Bytes.{frontierLength, frontiers, replaced};
+ghost use Rattle.window.specs.Step.{keptAfter, stepped};
+ghost use Rattle.window.specs.StepCode.{Fitting};
+ghost use Rattle.window.specs.Marks.{Marked};
+ghost use Rattle.records.specs.Record.{recordLength, processCount, lineTotal, pendingCount, keptCount, pendingAt, pendingEvents, removed, counted, readyIn};
+ghost use Rattle.answers.specs.Answer.{turnedBack, nothingReady, replyWord};
+ghost use Rattle.call_take.specs.Take.{settingIn, tried, chosen, decided, takeWithin, takeCall};
+ghost use Rattle.call_take.specs.TakeCode.{choiceFor, MarkedFor, takeFault};
+
+// What take decides on: nothing (was some event ready?), a pending event that has a false clock, or one that is taken and the frontiers that are
+// kept then.
+pub enum Choice {
+    Undecided { seen: bool },
+    Falsified { place: usize },
+    Chosen { place: usize, kept: usize },
+}
+
+// How many frontiers are kept once a ready event is taken; the marks say what comes of each.
+pub fn kept_with(s: &[u8], w: usize, window: &[u8], marks: &mut [u8], n: usize, e: Event) -> usize
+    requires { ⌜ Width w ⌝ }
+    requires { ⌜ length (now s) ≡ recordLength w ⌝ }
+    requires { ⌜ processCount (now s) ≤ 8 ⌝ }
+    requires { ⌜ (n ≤ 1024) × (n * frontierLength w ≤ length (now window)) ⌝ }
+    requires { ⌜ T (readyIn w (now s) e) ⌝ }
+    requires { ⌜ n ≤ length (now marks) ⌝ }
+    ensures { λ r. ⌜ r ≡ keptAfter (settingIn w (now (s .entry)) e) (frontiers w (now (window .entry)) n) ⌝ }
+    ensures { λ r. ⌜ Marked (settingIn w (now (s .entry)) e) w (now (window .entry)) n (now (marks .exit)) ⌝ }
+{
+    let k = process_count(s);
+    let reached = clocks::step::apply(e, taken_counts(s, w));
+    window::kept::count_after(window, marks, w, n, k, 0, e, reached)
+}
+
+// So many frontiers fit where at most so many are allowed; none at all never fit.
+fn fitting(kept: usize, allowed: usize) -> bool
+    ensures { λ r. ⌜ r ≡ (ltb 0 kept && leb kept allowed) ⌝ }
+{
+    if kept == 0 {
+        return false;
+    }
+    kept <= allowed
+}
+
+// The first pending event that has a false clock, or that fits, with its marks; or none, and whether one was ready.
+pub fn decide(
+    s: &[u8],
+    w: usize,
+    window: &[u8],
+    marks: &mut [u8],
+    n: usize,
+    allowed: usize,
+) -> Choice
+    requires { ⌜ Width w ⌝ }
+    requires { ⌜ length (now s) ≡ recordLength w ⌝ }
+    requires { ⌜ processCount (now s) ≤ 8 ⌝ }
+    requires { ⌜ pendingCount (now s) ≤ 32 ⌝ }
+    requires { ⌜ (n ≤ 1024) × (n * frontierLength w ≤ length (now window)) ⌝ }
+    requires { ⌜ n ≤ length (now marks) ⌝ }
+    ensures { λ r. ⌜ r ≡ choiceFor w (now (s .entry)) (frontiers w (now (window .entry)) n) (tried w (now (s .entry)) allowed (frontiers w (now (window .entry)) n) 0 false (pendingEvents w (now (s .entry)))) ⌝ }
+    ensures { λ r. ⌜ MarkedFor w (now (s .entry)) (now (window .entry)) n (now (marks .exit)) r ⌝ }
+{
+    let taken = taken_counts(s, w);
+    let last = last_clocks(s, w);
+    let pending = pending_count(s);
+    let mut choice = Choice::Undecided { seen: false };
+    let mut i = 0;
+    'events: while i < pending {
+        let e = pending_event(s, w, i);
+        if clocks::step::ready(e, taken) {
+            if !clocks::join::valid(e, last) {
+                choice = Choice::Falsified { place: i };
+                break 'events;
+            }
+            let kept = kept_with(s, w, window, marks, n, e);
+            if fitting(kept, allowed) {
+                choice = Choice::Chosen { place: i, kept };
+                break 'events;
+            }
+            choice = Choice::Undecided { seen: true };
+        }
+        i += 1;
+    }
+    choice
+}
+
+// The window's step for a ready event, by the record's table and counts.
+fn step_window(
+    s: &[u8],
+    w: usize,
+    window: &mut [u8],
+    marks: &[u8],
+    scratch: &mut [u8],
+    n: usize,
+    kept: usize,
+    e: Event,
+)
+    requires { ⌜ Width w ⌝ }
+    requires { ⌜ length (now s) ≡ recordLength w ⌝ }
+    requires { ⌜ (processCount (now s) ≤ 8) × (lineTotal (now s) ≤ 64) ⌝ }
+    requires { ⌜ (n ≤ 1024) × (n * frontierLength w ≤ length (now window)) ⌝ }
+    requires { ⌜ (kept ≤ 1024) × (kept * frontierLength w ≤ length (now window)) ⌝ }
+    requires { ⌜ length (now scratch) ≡ length (now window) ⌝ }
+    requires { ⌜ Fitting w e ⌝ }
+    requires { ⌜ T (readyIn w (now s) e) ⌝ }
+    requires { ⌜ kept ≡ keptAfter (settingIn w (now s) e) (frontiers w (now window) n) ⌝ }
+    requires { ⌜ n ≤ length (now marks) ⌝ }
+    requires { ⌜ Marked (settingIn w (now s) e) w (now window) n (now marks) ⌝ }
+    ensures window { λ r. ⌜ now (window .exit) ≡ replaced w (now (window .entry)) n (stepped (settingIn w (now (s .entry)) e) (frontiers w (now (window .entry)) n)) ⌝ }
+    ensures scratch { λ r. ⌜ now (scratch .exit) ≡ replicate (length (now (scratch .entry))) 0 ⌝ }
+    ensures frontiers { λ r. ⌜ frontiers w (now (window .exit)) kept ≡ stepped (settingIn w (now (s .entry)) e) (frontiers w (now (window .entry)) n) ⌝ }
+{
+    let k = process_count(s);
+    let lines = line_total(s);
+    let reached = clocks::step::apply(e, taken_counts(s, w));
+    let place = table_place(w);
+    window_step::step::step(
+        window,
+        marks,
+        scratch,
+        w,
+        n,
+        kept,
+        k,
+        0,
+        e,
+        reached,
+        &s[place..],
+        lines,
+    );
+}
+
+// The rule's truth at the last of so many frontiers: the table's last line.
+fn verdict(window: &[u8], w: usize, kept: usize, lines: u32) -> bool
+    requires { ⌜ Width w ⌝ }
+    requires { ⌜ (1 ≤ kept) × (kept ≤ 1024) × (kept * frontierLength w ≤ length (now window)) ⌝ }
+    requires { ⌜ (1 ≤ lines) × (lines ≤ 64) ⌝ }
+    ensures { λ r. ⌜ r ≡ bit (getD (map (λ f. f .values) (frontiers w (now (window .entry)) kept)) (kept - 1) 0) (lines - 1) ⌝ }
+{
+    codec::has_bit(frontiers::stored::values_at(window, w, kept - 1), lines - 1)
+}
+
+// Pending event number i leaves and is counted as taken.
+fn count_event(s: &mut [u8], w: usize, i: usize, e: Event, kept: u32)
+    requires { ⌜ Width w ⌝ }
+    requires { ⌜ length (now s) ≡ recordLength w ⌝ }
+    requires { ⌜ (i < pendingCount (now s)) × (pendingCount (now s) ≤ 32) ⌝ }
+    requires { ⌜ ((p : ℕ) → at (e .clock) p < 256 ^ w) ⌝ }
+    requires { ⌜ T (readyIn w (now s) e) ⌝ }
+    ensures { λ r. ⌜ now (s .exit) ≡ counted w (removed w (now (s .entry)) i) e kept ⌝ }
+{
+    remove_event(s, w, i);
+    count_taken(s, w, e, kept);
+}
+
+// Takes pending event number i, with which so many frontiers are kept: the reply, and the bytes of the three buffers after it.
+fn take_event(
+    s: &mut [u8],
+    w: usize,
+    window: &mut [u8],
+    marks: &[u8],
+    scratch: &mut [u8],
+    n: usize,
+    i: usize,
+    kept: usize,
+) -> u64
+    requires { ⌜ Width w ⌝ }
+    requires { ⌜ length (now s) ≡ recordLength w ⌝ }
+    requires { ⌜ (processCount (now s) ≤ 8) × (1 ≤ lineTotal (now s)) × (lineTotal (now s) ≤ 64) ⌝ }
+    requires { ⌜ (n ≤ 1024) × (n * frontierLength w ≤ length (now window)) ⌝ }
+    requires { ⌜ (1 ≤ kept) × (kept ≤ 1024) × (kept * frontierLength w ≤ length (now window)) ⌝ }
+    requires { ⌜ length (now scratch) ≡ length (now window) ⌝ }
+    requires { ⌜ (i < pendingCount (now s)) × (pendingCount (now s) ≤ 32) ⌝ }
+    requires { ⌜ T (readyIn w (now s) (pendingAt w (now s) i)) ⌝ }
+    requires { ⌜ kept ≡ keptAfter (settingIn w (now s) (pendingAt w (now s) i)) (frontiers w (now window) n) ⌝ }
+    requires { ⌜ n ≤ length (now marks) ⌝ }
+    requires { ⌜ Marked (settingIn w (now s) (pendingAt w (now s) i)) w (now window) n (now marks) ⌝ }
+    ensures reply { λ r. ⌜ r ≡ replyWord (decided w (now (s .entry)) (now (window .entry)) (frontiers w (now (window .entry)) n) (chosen i) .answer) ⌝ }
+    ensures bytes { λ r. ⌜ now (s .exit) ≡ decided w (now (s .entry)) (now (window .entry)) (frontiers w (now (window .entry)) n) (chosen i) .bytes ⌝ }
+    ensures window { λ r. ⌜ now (window .exit) ≡ decided w (now (s .entry)) (now (window .entry)) (frontiers w (now (window .entry)) n) (chosen i) .window ⌝ }
+    ensures scratch { λ r. ⌜ now (scratch .exit) ≡ replicate (length (now (window .entry))) 0 ⌝ }
+{
+    let e = pending_event(s, w, i);
+    let lines = line_total(s);
+    step_window(s, w, window, marks, scratch, n, kept, e);
+    count_event(s, w, i, e, kept as u32);
+    state_word(verdict(window, w, kept, lines), kept as u32)
+}
+
+// The word of a take that decides on no event: 36 where one was ready, else nothing ready.
+fn undecided_word(seen: bool) -> u64
+    ensures { λ r. ⌜ r ≡ replyWord (cond seen (turnedBack 36 0) nothingReady) ⌝ }
+{
+    if seen { 36 } else { 0 }
+}
+
+// Takes an event where at most so many frontiers of the window may be used: the reply, and the bytes of the three buffers after it.
+pub fn take_within(
+    w: usize,
+    allowed: usize,
+    s: &mut [u8],
+    window: &mut [u8],
+    scratch: &mut [u8],
+) -> u64
+    requires { ⌜ Width w ⌝ }
+    requires { ⌜ length (now s) ≡ recordLength w ⌝ }
+    requires { ⌜ (processCount (now s) ≤ 8) × (1 ≤ lineTotal (now s)) × (lineTotal (now s) ≤ 64) ⌝ }
+    requires { ⌜ pendingCount (now s) ≤ 32 ⌝ }
+    requires { ⌜ (keptCount (now s) ≤ 1024) × (keptCount (now s) * frontierLength w ≤ length (now window)) ⌝ }
+    requires { ⌜ (allowed ≤ 1024) × (allowed * frontierLength w ≤ length (now window)) ⌝ }
+    requires { ⌜ length (now scratch) ≡ length (now window) ⌝ }
+    ensures reply { λ r. ⌜ r ≡ replyWord (takeWithin w allowed (now (s .entry)) (now (window .entry)) .answer) ⌝ }
+    ensures bytes { λ r. ⌜ now (s .exit) ≡ takeWithin w allowed (now (s .entry)) (now (window .entry)) .bytes ⌝ }
+    ensures window { λ r. ⌜ now (window .exit) ≡ takeWithin w allowed (now (s .entry)) (now (window .entry)) .window ⌝ }
+    ensures scratch { λ r. ⌜ now (scratch .exit) ≡ takeWithin w allowed (now (s .entry)) (now (window .entry)) .scratch ⌝ }
+{
+    let n = kept_count(s) as usize;
+    let mut marks = [0u8; 1024];
+    let choice = decide(s, w, window, &mut marks, n, allowed);
+    match choice {
+        Choice::Undecided { seen } => {
+            frontiers::moving::clear_all(scratch);
+            undecided_word(seen)
+        }
+        Choice::Falsified { place } => {
+            remove_event(s, w, place);
+            frontiers::moving::clear_all(scratch);
+            35
+        }
+        Choice::Chosen { place, kept } => take_event(s, w, window, &marks, scratch, n, place, kept),
+    }
+}
+
+// The number that a take is turned back with; 0 for none.
+pub fn take_fault(w: usize, s: &[u8], n: usize, m: usize) -> u64
+    requires { ⌜ Width w ⌝ }
+    ensures { λ r. ⌜ r ≡ takeFault w (now (s .entry)) n m ⌝ }
+{
+    if bad_record_length(w, s.len()) {
+        return 6;
+    }
+    if bad_window_length(w, n) {
+        return 6;
+    }
+    if m != n {
+        return 6;
+    }
+    if bad_state(s, w, room_of(w, n)) {
+        return 34;
+    }
+    0
+}
+
+// Takes the first event that is decided on: the reply, and the bytes of the three buffers after it.
+pub fn take(w: usize, s: &mut [u8], window: &mut [u8], scratch: &mut [u8]) -> u64
+    requires { ⌜ Width w ⌝ }
+    ensures reply { λ r. ⌜ r ≡ replyWord (takeCall w (now (s .entry)) (now (window .entry)) (now (scratch .entry)) .answer) ⌝ }
+    ensures bytes { λ r. ⌜ now (s .exit) ≡ takeCall w (now (s .entry)) (now (window .entry)) (now (scratch .entry)) .bytes ⌝ }
+    ensures window { λ r. ⌜ now (window .exit) ≡ takeCall w (now (s .entry)) (now (window .entry)) (now (scratch .entry)) .window ⌝ }
+    ensures scratch { λ r. ⌜ now (scratch .exit) ≡ takeCall w (now (s .entry)) (now (window .entry)) (now (scratch .entry)) .scratch ⌝ }
+{
+    let fault = take_fault(w, s, window.len(), scratch.len());
+    if fault != 0 {
+        return fault;
+    }
+    take_within(w, room_of(w, window.len()), s, window, scratch)
+}

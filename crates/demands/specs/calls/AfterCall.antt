@@ -1,0 +1,197 @@
+-- The invariant goes through every call.
+use Prim.Native.Nat.{ℕ, _+_, _*_, _≤_, _<_}
+use native.Mathlib.Omega.{arith}
+use native.Mathlib.Nat.{le-div-iff-mul-le, le-trans}
+use mathlib.Core.Path.{_≡_, sym, ap, _∙_, subst, refl}
+use mathlib.Core.List.{List, _++_, [], _∷_, List·Memᴰ, List·Memᴰ·head, List·Memᴰ·tail}
+use mathlib.Core.Bool.{Bool, true, false, not, _||_, _&&_}
+use mathlib.Core.Logic.{_↔_}
+use lib.ListN.{length, replicate, length-append, length-replicate, getD}
+use lib.Dec.{eqb, T, leb, ltb, leb→le}
+use Rattle.pactl.specs.declared.Line.{Line}
+use Rattle.clocks.specs.declared.Event.{Event}
+use Rattle.frontiers.specs.Bytes.{windowBytes, frontierLength, frontiers}
+use Rattle.clocks.specs.Event.{Cut, Ready}
+use Rattle.clocks.specs.Counts.{at}
+use Rattle.frontiers.specs.declared.Frontier.{Frontier}
+use Rattle.window.specs.SteppedCount.{stepped-many}
+use Rattle.window.specs.Step.{Setting, stepped, keptAfter, fits}
+use Rattle.window_laws.specs.Represents.{settingOf}
+use Rattle.frontiers.specs.ListLaws.{place-member}
+use Rattle.clocks.specs.History.{taken}
+use Rattle.clocks.specs.stored.BoundedLaws.{and-r, or-false-e}
+use Rattle.clocks.specs.Valid.{Joined, WellFormed}
+use Rattle.demands.specs.Watching.{Rule, Watching, worldOf}
+use Rattle.demands.specs.calls.WatchingLaws.{says-pending, lent-longer, never-34, says-frontiers, says-event, ready-in, valid-in, setting-in}
+use Rattle.call_offer.specs.Offer.{offeredEvent}
+use Rattle.demands.specs.Ledger.{Ledger}
+use Rattle.demands.specs.Run.{Passed, Watch, offeredLedger, after, offers, decisionOf, ledgerAfter, Call, run, takes, finds}
+use Rattle.demands.specs.calls.OfferLaws.{OfferCase, offer-case, accepted-watching, turned, accepted}
+use Rattle.call_take.specs.Take.{Decision, tried, decided, takeWithin, takeCall, undecided, settingIn}
+use Rattle.records.specs.Record.{readyIn, validIn, keptCount, removed}
+use Rattle.refusals.specs.Refusals.{badRecordLength, badWindowLength, roomOf, badState}
+use Rattle.answers.specs.Answer.{turnedBack}
+use Rattle.call_take.specs.TrialLaws.{Outcome, outcome, none-decides, falsifies, chooses}
+use Rattle.demands.specs.calls.TakeLaws.{falsified-watching, taken-watching, taken-window}
+use Rattle.demands.specs.Status.{removeAt}
+use Rattle.pactl.specs.Line.{line}
+use Rattle.refusals.specs.RefusalLaws.{room-few}
+
+-- ---- A watch and its ledger
+abbrev pub WatchRight : ℕ → ℕ → List Line → Cut → Watch → Type 0
+WatchRight w k table start W = Watching w k table start (W .ledger) (W .bytes) (W .window)
+
+-- Stands for an event that is not there.
+abbrev pub noEvent : Event
+noEvent = record { mask = 0; clock = []; labels = [] }
+
+-- the room of a window, in frontiers and in bytes
+room-iff : (w n total : ℕ) → (n ≤ roomOf w total) ↔ (n * frontierLength w ≤ total)
+unfolding roomOf frontierLength
+room-iff w n total = le-div-iff-mul-le (omega arith)
+
+module _ (w k : ℕ) (table : List Line) (start : Cut) (R : Rule w k table start) where
+  -- ---- a window lent longer
+  pub lengthened : (L : Ledger) (bytes window : List ℕ) → Watching w k table start L bytes window → (zeros : ℕ) → Watching w k table start L bytes (window ++ replicate zeros 0)
+  lengthened L bytes window X zeros = record {
+    kept = X .kept;
+    bytes-are = X .bytes-are;
+    window-is = lent-longer w k table start R L bytes window X zeros ∙ ap (λ (t : ℕ). windowBytes w t (X .kept)) (sym long);
+    room = omega (arith, long, X .room);
+    few = X .few;
+    represents = X .represents;
+    right = X .right;
+    ordered = X .ordered;
+    clear = X .clear;
+    faultless = X .faultless;
+    storable = X .storable;
+    many = X .many;
+  }
+    where
+      long : length (window ++ replicate zeros 0) ≡ length window + zeros
+      long = length-append window (replicate zeros 0) ∙ ap (λ (n : ℕ). length window + n) (length-replicate zeros 0)
+
+  -- ---- offer
+  offer-right : (W : Watch) → WatchRight w k table start W → (mask : ℕ) (clock labels : List ℕ) → Passed w (offers mask clock labels) → WatchRight w k table start (after w (offers mask clock labels) W)
+  unfolding after offeredLedger
+  offer-right W X mask clock labels p = go (offer-case w mask clock labels (W .bytes))
+    where
+      e : Event
+      e = offeredEvent mask clock labels
+
+      go : OfferCase w mask clock labels (W .bytes) → WatchRight w k table start (after w (offers mask clock labels) W)
+      go (turned n q) = rw q X
+      go (accepted h7 h8 h9 h31 h32 h33 q) =
+          rw (q, says-pending w k table start R (W .ledger) (W .bytes) (W .window) X)
+          (rw (says-pending w k table start R (W .ledger) (W .bytes) (W .window) X) at (accepted-watching w k table start R (W .ledger) (W .bytes) (W .window) X mask clock labels p h7 h8 h9 h31 h32 h33))
+
+  -- ---- take, lent a window of whatever length
+  module _ (L : Ledger) (bytes lent : List ℕ) (X : Watching w k table start L bytes lent) (scratch : List ℕ) where
+    -- 6, of the three lent buffers
+    unfoldable pub badLengths : Bool
+    badLengths = badRecordLength w (length bytes) || (badWindowLength w (length lent) || not (eqb (length scratch) (length lent)))
+
+    pub take-6 : badLengths ≡ true → (takeCall w bytes lent scratch ≡ record { answer = turnedBack 6 0; bytes = bytes; window = lent; scratch = scratch }) × (decisionOf w bytes lent scratch ≡ undecided false)
+    unfolding takeCall decisionOf badLengths
+    take-6 h = (rw h, rw h)
+
+    -- else it goes through the pending events
+    abbrev pub decision : Decision
+    decision = tried w bytes (roomOf w (length lent)) (X .kept) 0 false (L .pending)
+
+    read : frontiers w lent (keptCount bytes) ≡ X .kept
+    read = ap (λ (s : List ℕ). frontiers w s (keptCount bytes)) (X .window-is) ∙ says-frontiers w k table start R L bytes lent X (length lent)
+
+    pub take-else : badLengths ≡ false → (takeCall w bytes lent scratch ≡ decided w bytes lent (X .kept) decision) × (decisionOf w bytes lent scratch ≡ decision)
+    unfolding takeCall decisionOf badLengths takeWithin
+    take-else h =
+        let n : badState w (roomOf w (length lent)) bytes ≡ false = never-34 w k table start R L bytes lent X (roomOf w (length lent)) (room-iff w (length (X .kept)) (length lent) .1 (X .room)) in
+        (rw (h, n, read, says-pending w k table start R L bytes lent X), rw (h, n, read, says-pending w k table start R L bytes lent X))
+
+    -- what the trial comes to
+    pub trial : Outcome w bytes (roomOf w (length lent)) (X .kept) 0 false (L .pending) noEvent
+    trial = outcome w bytes (roomOf w (length lent)) (X .kept) noEvent 0 false (L .pending)
+
+    -- of a pending event, by the taken events
+    module _ (j : ℕ) (l : j < length (L .pending)) where
+      abbrev e : Event
+      e = getD (L .pending) j noEvent
+
+      formed : WellFormed k e
+      formed = X .right .formed e (place-member (L .pending) j noEvent l)
+
+      pub is-ready : T (readyIn w bytes e) → Ready e (taken (L .history))
+      is-ready = ready-in w k table start R L bytes lent X e formed .0
+
+      pub is-valid : T (validIn w bytes e) → Joined 8 (L .history) e
+      is-valid = valid-in w k table start R L bytes lent X e formed .0
+
+      is-false : validIn w bytes e ≡ false → Joined 8 (L .history) e → ⊥
+      is-false h t = subst T h (valid-in w k table start R L bytes lent X e formed .1 t)
+
+      abbrev gs : List Frontier
+      gs = stepped (settingOf (worldOf k table start) (L .history) e) (X .kept)
+
+      -- it fits exactly if the stepped window does
+      fits-room : T (fits (settingIn w bytes e) (roomOf w (length lent)) (X .kept)) → length gs ≤ roomOf w (length lent)
+      unfolding fits
+      fits-room t =
+          let s : Setting = settingOf (worldOf k table start) (L .history) e in
+          let q : settingIn w bytes e ≡ s = setting-in w k table start R L bytes lent X e in
+          let u : T (ltb 0 (keptAfter s (X .kept)) && leb (keptAfter s (X .kept)) (roomOf w (length lent))) = rw q at t in
+          rw (stepped-many s (X .kept)) (leb→le (keptAfter s (X .kept)) (roomOf w (length lent)) (and-r (ltb 0 (keptAfter s (X .kept))) (leb (keptAfter s (X .kept)) (roomOf w (length lent))) u))
+
+    -- ---- the watch after it
+    room-1024 : badLengths ≡ false → roomOf w (length lent) ≤ 1024
+    unfolding badLengths
+    room-1024 h =
+        let windows = or-false-e (badRecordLength w (length bytes)) (badWindowLength w (length lent) || not (eqb (length scratch) (length lent))) h .1 in
+        room-few w (length lent) (or-false-e (badWindowLength w (length lent)) (not (eqb (length scratch) (length lent))) windows .0)
+
+    pub take-right : badLengths ≡ false → Watching w k table start (ledgerAfter w bytes L decision) (decided w bytes lent (X .kept) decision .bytes) (decided w bytes lent (X .kept) decision .window)
+    unfolding ledgerAfter decided
+    take-right h = go trial
+      where
+        go : Outcome w bytes (roomOf w (length lent)) (X .kept) 0 false (L .pending) noEvent
+            → Watching w k table start (ledgerAfter w bytes L decision) (decided w bytes lent (X .kept) decision .bytes) (decided w bytes lent (X .kept) decision .window)
+        go (none-decides b q u o) = rw q X
+        go (falsifies j l q r n x) =
+            let i : 0 + j ≡ j = omega arith in
+            rw (q, i, says-event w k table start R L bytes lent X j noEvent l)
+            (subst (Watching w k table start (record { history = L .history; pending = removeAt j (L .pending); falsified = getD (L .pending) j noEvent ∷ L .falsified }) (removed w bytes j)) (sym (X .window-is))
+            (falsified-watching w k table start R L bytes lent X j noEvent l (is-ready j l r) (is-false j l n) (length lent) (omega arith)))
+        go (chooses j l q r v f x) =
+            let i : 0 + j ≡ j = omega arith in
+            let many : length (gs j l) ≤ roomOf w (length lent) = fits-room j l f in
+            let fit = room-iff w (length (gs j l)) (length lent) .0 many in
+            rw (q, i, says-event w k table start R L bytes lent X j noEvent l, setting-in w k table start R L bytes lent X (getD (L .pending) j noEvent), taken-window w k table start R L bytes lent X j noEvent l (is-ready j l r) (is-valid j l v) fit)
+            (taken-watching w k table start R L bytes lent X j noEvent l (is-ready j l r) (is-valid j l v) (length lent)
+            fit (le-trans many (room-1024 h)))
+
+  -- ---- Theorem
+  pub after-right : (W : Watch) → WatchRight w k table start W → (c : Call) → Passed w c → WatchRight w k table start (after w c W)
+  unfolding after ledgerAfter
+  after-right W X (offers mask clock labels) p = offer-right W X mask clock labels p
+  after-right W X (finds line) p = X
+  after-right W X (takes zeros scratch) p = go (badLengths L bytes lent X′ scratch) refl
+    where
+      L : Ledger
+      L = W .ledger
+
+      bytes : List ℕ
+      bytes = W .bytes
+
+      lent : List ℕ
+      lent = W .window ++ replicate zeros 0
+
+      X′ : Watching w k table start L bytes lent
+      X′ = lengthened L bytes (W .window) X zeros
+
+      go : (b : Bool) → badLengths L bytes lent X′ scratch ≡ b → WatchRight w k table start (after w (takes zeros scratch) W)
+      go true h = let t = take-6 L bytes lent X′ scratch h in rw (t .0, t .1) X′
+      go false h = let t = take-else L bytes lent X′ scratch h in rw (t .0, t .1) (take-right L bytes lent X′ scratch h)
+
+  pub run-right : (W : Watch) → WatchRight w k table start W → (cs : List Call) → ((c : Call) → List·Memᴰ c cs → Passed w c) → WatchRight w k table start (run w cs W)
+  unfolding run
+  run-right W X [] p = X
+  run-right W X (c ∷ cs) p = run-right (after w c W) (after-right W X c (p c (List·Memᴰ·head refl))) cs (λ d m. p d (List·Memᴰ·tail m))

@@ -1,0 +1,62 @@
+-- Judging one frontier: the truth of each table line there, as bits of a word (01, The rule: kinds 0 to 5; The window: values). It
+-- is made from the frontier's labels and from the words of the cuts that precede it: their OR, `any`, their AND, `all`, and whether there is
+-- one, `preceded`.
+use Prim.Native.Nat.{ℕ, _+_, _^_}
+use mathlib.Core.Bool.{Bool, not, cond, _&&_, _||_}
+use mathlib.Core.List.{List, [], _∷_}
+use lib.Dec.{eqb}
+use lib.ListN.{getD}
+use Rattle.codec.specs.Bit.{bit}
+use Rattle.pactl.specs.declared.Line.{Line}
+
+-- ---- The six kinds, in the order of source 000, section 3. v has the bits of the earlier lines, i is the line's own number.
+
+-- Proposition b of process a, which the process's label byte says.
+unfoldable pub propositionJudged : List ℕ → ℕ → ℕ → Bool
+propositionJudged labels a b = bit (getD labels a 0) b
+
+-- Not line a.
+unfoldable pub notJudged : ℕ → ℕ → Bool
+notJudged v a = not (bit v a)
+
+-- Line a and line b.
+unfoldable pub andJudged : ℕ → ℕ → ℕ → Bool
+andJudged v a b = bit v a && bit v b
+
+-- EY a: some preceding cut has line a.
+unfoldable pub eyJudged : ℕ → ℕ → Bool
+eyJudged any a = bit any a
+
+-- E(a S b): line b, or line a and some preceding cut has this line.
+unfoldable pub esJudged : ℕ → ℕ → ℕ → ℕ → ℕ → Bool
+esJudged v any i a b = bit v b || (bit v a && bit any i)
+
+-- A(a S b): line b, or line a and there is a preceding cut and all of them have this line.
+unfoldable pub asJudged : ℕ → ℕ → Bool → ℕ → ℕ → ℕ → Bool
+asJudged v all preceded i a b = bit v b || (bit v a && (preceded && bit all i))
+
+-- ---- Lines
+
+-- A line, by its kind. No line of another kind is good.
+unfoldable pub judgeLine : List ℕ → ℕ → ℕ → ℕ → Bool → ℕ → Line → Bool
+judgeLine labels v any all preceded i l =
+    cond (eqb (l .kind) 0) (propositionJudged labels (l .a) (l .b))
+    (cond (eqb (l .kind) 1) (notJudged v (l .a))
+    (cond (eqb (l .kind) 2) (andJudged v (l .a) (l .b))
+    (cond (eqb (l .kind) 3) (eyJudged any (l .a))
+    (cond (eqb (l .kind) 4) (esJudged v any i (l .a) (l .b))
+    (asJudged v all preceded i (l .a) (l .b))))))
+
+-- v with bit i added, where that is asked.
+abbrev pub withBit : ℕ → ℕ → Bool → ℕ
+withBit v i t = cond t (v + 2 ^ i) v
+
+-- The lines from line i on, one after the other, v having the bits of the lines before.
+unfoldable pub judgeFrom : List ℕ → ℕ → ℕ → Bool → ℕ → ℕ → List Line → ℕ
+judgeFrom labels any all preceded v i [] = v
+judgeFrom labels any all preceded v i (l ∷ ls) =
+    judgeFrom labels any all preceded (withBit v i (judgeLine labels v any all preceded i l)) (i + 1) ls
+
+-- A frontier's word: bit i is line i, the rest is 0.
+abbrev pub judge : List ℕ → ℕ → ℕ → Bool → List Line → ℕ
+judge labels any all preceded ls = judgeFrom labels any all preceded 0 0 ls

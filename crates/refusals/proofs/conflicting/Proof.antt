@@ -1,0 +1,73 @@
+-- No pending event passed conflicts; the first that does decides: the laws `conflict-next`, `conflict-here` and `conflict-none`.
+use Rattle.refusals.proofs.conflicting.Tie as tie
+use Prim.Native.Nat.{_-_, _≤_}
+use native.Mathlib.Omega.{arith}
+use mathlib.Core.Path.{_≡_, refl, sym, ap, _∙_}
+use borrow.Author.Needs.{needs}
+use denote.Ref.{now}
+use Rattle.refusals.proofs.conflicting.Statement.{statement}
+use Rattle.records.specs.Record.{pendingAt, pendingEvents}
+use Rattle.refusals.specs.Refusals.{conflicts, conflicting}
+use Rattle.refusals.proofs.RefusalSteps.{conflictingFrom, conflict-here, conflict-next, conflict-none}
+
+abbrev Inv-loop : tie.InvT-loop
+Inv-loop s w e n i₀ i = (i ≤ n) × (conflicting e (pendingEvents w s) ≡ conflictingFrom w s e i)
+
+abbrev μ-loop : tie.MeasureT-loop
+μ-loop s w e n i₀ i = n - i
+
+pending-count-requires : tie.Need-pending-count-requires Inv-loop μ-loop
+pending-count-requires c κs = search needs
+
+loop-holds : tie.Need-loop-holds Inv-loop μ-loop
+loop-holds c = (search needs, refl)
+
+pending-event-requires : tie.Need-pending-event-requires Inv-loop μ-loop
+pending-event-requires c κs = search needs
+
+conflicts-requires : tie.Need-conflicts-requires Inv-loop μ-loop
+conflicts-requires c κs = search needs
+
+-- The call's answer is that of pending event number i.
+here : (c : tie.After-conflicts Inv-loop μ-loop) → conflicts (c .before .before .before .before .before .before .args .e) (pendingAt (c .before .before .before .before .before .before .args .w) (now (c .before .before .before .before .before .before .args .s)) (c .before .before .before .loop .i)) ≡ c .conflicts .result
+here c = sym (c .conflicts .ensures ∙ ap (conflicts (c .before .before .before .before .before .before .args .e)) (c .before .pending-event .ensures))
+
+returns : tie.Need-returns Inv-loop μ-loop
+returns c =
+    let a = c .before .before .before .before .before .before .before .args in
+    let l = c .before .before .before .before .loop in
+    sym (l .inv .1 ∙ conflict-here (a .w) (now (a .s)) (a .e) (l .i) (omega arith) (here (c .before) ∙ c .if1 .taken))
+
+add-i : tie.Need-add-i Inv-loop μ-loop
+add-i c = search needs
+
+loop-less : tie.Need-loop-less Inv-loop μ-loop
+loop-less c = search needs
+
+loop-again : tie.Need-loop-again Inv-loop μ-loop
+loop-again c =
+    let a = c .before .before .before .before .before .before .before .args in
+    let l = c .before .before .before .before .loop in
+    (search needs, l .inv .1 ∙ conflict-next (a .w) (now (a .s)) (a .e) (l .i) (omega arith) (here (c .before) ∙ c .if1 .left))
+
+returns-2 : tie.Need-returns-2 Inv-loop μ-loop
+returns-2 c =
+    let a = c .before .before .before .before .args in
+    let l = c .before .loop in
+    sym (l .inv .1 ∙ conflict-none (a .w) (now (a .s)) (a .e) (l .i) (omega arith))
+
+pub conflicting-spec : {M : Type 1} → statement M
+conflicting-spec =
+    tie.close
+    (tie.spec
+    Inv-loop
+    μ-loop
+    pending-count-requires
+    loop-holds
+    pending-event-requires
+    conflicts-requires
+    returns
+    add-i
+    loop-less
+    loop-again
+    returns-2)

@@ -1,0 +1,4 @@
+-- The lines laid down for a form: how many, good, and what they mean.
+pub mod LineLaws
+pub mod RuleTableLaws
+pub mod LinesMean

@@ -1,0 +1,66 @@
+-- The tests of a step by counts alone are those of the definition, and what one more frontier adds to the number kept.
+use Prim.Native.Nat.{ℕ, _+_, _<_}
+use native.Mathlib.Omega.{arith}
+use native.Mathlib.Numerals.{add-one}
+use mathlib.Core.Path.{_≡_, refl, sym, ap, subst, _∙_}
+use mathlib.Core.Bool.{Bool, true, false, cond}
+use mathlib.Core.List.{List, [], _∷_, _++_}
+use lib.Dec.{eqb, eqb→eq}
+use lib.ListN.{length, length-append}
+use lib.Seq.{ext-getD}
+use borrow.Author.Tests.{eq-eqb}
+use Rattle.clocks.specs.declared.Event.{Event}
+use Rattle.clocks.specs.Event.{one}
+use Rattle.clocks.specs.cuts.EventLaws.{true-T}
+use Rattle.clocks.specs.Counts.{at}
+use Rattle.clocks.specs.Bounded.{allBelow}
+use Rattle.clocks.specs.stored.BoundedLaws.{same-test, all-i, all-e}
+use Rattle.lookup.specs.Order.{same}
+use Rattle.lookup.specs.OrderLaws.{same-e, same-i}
+use Rattle.frontiers.specs.Bytes.{frontiers, frontierAt}
+use Rattle.frontiers.specs.WindowLaws.{frontiers-more}
+use Rattle.window.specs.Step.{Setting, stays, enabledAt, filtered, keptAfter}
+use Rattle.window.specs.StepCode.{settingWith, keptOf}
+
+-- ---- Counts that are the same, test by test
+pub same-all : (xs ys : List ℕ) (n : ℕ) → length xs ≡ n → length ys ≡ n → same xs ys ≡ allBelow n (λ p. eqb (at xs p) (at ys p))
+same-all xs ys n h k =
+    same-test _ _
+    (λ t. all-i n (λ p. eqb (at xs p) (at ys p)) (λ p l. true-T (eq-eqb (at xs p) (at ys p) (ap (λ (zs : List ℕ). at zs p) (same-e xs ys t)))))
+    (λ t. same-i xs ys (ext-getD 0 xs ys (h ∙ sym k) (λ p l. eqb→eq (at xs p) (at ys p) (all-e n (λ q. eqb (at xs q) (at ys q)) t p (subst (λ (m : ℕ). p < m) h l)))))
+
+-- ---- The number kept
+filtered-append : {A : Type 0} (t : A → Bool) (xs ys : List A) → filtered t (xs ++ ys) ≡ filtered t xs ++ filtered t ys
+unfolding filtered
+filtered-append t [] ys = refl
+filtered-append t (x ∷ xs) ys = go (t x) (filtered-append t xs ys)
+  where
+    go : (b : Bool) → filtered t (xs ++ ys) ≡ filtered t xs ++ filtered t ys
+        → cond b (x ∷ filtered t (xs ++ ys)) (filtered t (xs ++ ys)) ≡ cond b (x ∷ filtered t xs) (filtered t xs) ++ filtered t ys
+    go true e = rw e
+    go false e = e
+
+length-filtered-more : {A : Type 0} (t : A → Bool) (xs : List A) (x : A) → length (filtered t (xs ++ (x ∷ []))) ≡ length (filtered t xs) + one (t x)
+unfolding filtered
+length-filtered-more {A} t xs x = rw (filtered-append t xs (x ∷ []), length-append) (go (t x))
+  where
+    go : (b : Bool) → length (filtered t xs) + length (cond b (x ∷ []) []) ≡ length (filtered t xs) + one b
+    go true = refl
+    go false = refl
+
+pub keptAfter-none : (s : Setting) (w : ℕ) (bytes : List ℕ) → keptAfter s (frontiers w bytes 0) ≡ 0
+unfolding keptAfter filtered frontiers Rattle.clocks.specs.Counts.listOf
+keptAfter-none s w bytes = refl
+
+pub keptAfter-more : (k closed : ℕ) (table : List ℕ) (lines : ℕ) (e : Event) (reached : List ℕ) (w : ℕ) (bytes : List ℕ) (i : ℕ)
+    → keptAfter (settingWith k closed table lines e reached) (frontiers w bytes (i + 1))
+    ≡ keptAfter (settingWith k closed table lines e reached) (frontiers w bytes i) + keptOf k closed e reached (frontierAt w bytes i .counts)
+unfolding keptAfter stays enabledAt
+keptAfter-more k closed table lines e reached w bytes i =
+    let s = settingWith k closed table lines e reached in
+    let fs = frontiers w bytes i in
+    let f = frontierAt w bytes i in
+    let a : length (filtered (stays s) (fs ++ (f ∷ []))) ≡ length (filtered (stays s) fs) + one (stays s f) = length-filtered-more (stays s) fs f in
+    let b : length (filtered (enabledAt s) (fs ++ (f ∷ []))) ≡ length (filtered (enabledAt s) fs) + one (enabledAt s f) = length-filtered-more (enabledAt s) fs f in
+    rw (add-one, frontiers-more w bytes i, a, b) (omega arith)
+

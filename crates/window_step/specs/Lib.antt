@@ -1,0 +1,4 @@
+-- The code of a step: what its functions' contracts cite.
+pub mod Laying
+pub mod Gathering
+pub mod FullBytes

@@ -1,0 +1,124 @@
+// The merge of the frontiers that stay and the new ones, in one pass over the window.
+
+use clocks::Event;
+ghost use Prim.Native.Nat.{ℕ, _+_, _*_, _≤_, _<_};
+ghost use mathlib.Core.Path.{_≡_};
+ghost use mathlib.Core.Bool.{Bool, true};
+ghost use mathlib.Core.List.{List};
+ghost use lib.ListN.{length};
+ghost use Rattle.codec.specs.Bit.{bit};
+ghost use Rattle.frontiers.specs.declared.Frontier.{Frontier};
+ghost use Rattle.frontiers.specs.Width.{Width};
+ghost use Rattle.frontiers.specs.Bytes.{frontierLength, frontierAt, frontiers};
+ghost use Rattle.window.specs.Step.{keptAfter, stepped};
+ghost use Rattle.window.specs.StepCode.{Fitting, settingWith};
+ghost use Rattle.window_step.specs.Laying.{takes, restOf, freshAt};
+ghost use Rattle.window.specs.Marks.{Marked, Tells};
+
+// The bits of a mark: the frontier stays; the event leads on from it.
+const STAYS: u32 = 0;
+
+const LEADS: u32 = 1;
+
+// Whether a mark has bit p.
+fn is_marked(mark: u8, p: u32) -> bool
+    requires { ⌜ p < 64 ⌝ }
+    ensures { λ r. ⌜ r ≡ bit mark p ⌝ }
+{
+    codec::has_bit(mark as u64, p)
+}
+
+// The first frontier from a number on whose mark has bit p; n for none.
+pub fn next_marked(marks: &[u8], n: usize, from: usize, p: u32) -> usize
+    requires { ⌜ (n ≤ length (now marks)) × (from ≤ n) ⌝ }
+    requires { ⌜ p < 64 ⌝ }
+    ensures { λ r. ⌜ r ≤ n ⌝ }
+    ensures { λ r. ⌜ ((t : Frontier → Bool) (w : ℕ) (window : List ℕ) → Tells p t w window n (now (marks .entry)) → restOf t w window n from ≡ restOf t w window n r) ⌝ }
+    ensures { λ r. ⌜ ((t : Frontier → Bool) (w : ℕ) (window : List ℕ) → Tells p t w window n (now (marks .entry)) → r < n → t (frontierAt w window r) ≡ true) ⌝ }
+{
+    let mut next = from;
+    while next < n {
+        if is_marked(marks[next], p) {
+            return next;
+        }
+        next = next + 1;
+    }
+    n
+}
+
+// Whether the next one to be laid down is new: i is the next that stays, j the next that the event leads on from.
+pub fn fresh_first(window: &[u8], w: usize, n: usize, i: usize, j: usize, e: Event) -> bool
+    requires { ⌜ Width w ⌝ }
+    requires { ⌜ (n ≤ 1024) × (n * frontierLength w ≤ length (now window)) ⌝ }
+    requires { ⌜ (j < n → takes e (frontierAt w (now window) j) ≡ true) ⌝ }
+    ensures { λ r. ⌜ r ≡ freshAt e w (now (window .entry)) n i j ⌝ }
+{
+    if n <= j {
+        return false;
+    }
+    if n <= i {
+        return true;
+    }
+    let from = frontiers::stored::counts_at(window, w, j);
+    let there = clocks::step::apply(e, from);
+    let here = frontiers::stored::counts_at(window, w, i);
+    lookup::order::counts_before(there, here)
+}
+
+// Lays down in the scratch all frontiers that there are after the event, by the marks; closed and reached only say what was marked.
+pub fn lay_all(
+    window: &[u8],
+    marks: &[u8],
+    scratch: &mut [u8],
+    w: usize,
+    n: usize,
+    kept: usize,
+    k: u32,
+    closed: u64,
+    e: Event,
+    reached: [u32; 8],
+    table: &[u8],
+    lines: u32,
+)
+    requires { ⌜ Width w ⌝ }
+    requires { ⌜ Fitting w e ⌝ }
+    requires { ⌜ (n ≤ 1024) × (n * frontierLength w ≤ length (now window)) ⌝ }
+    requires { ⌜ (kept ≤ 1024) × (kept * frontierLength w ≤ length (now scratch)) ⌝ }
+    requires { ⌜ (lines ≤ 64) × (3 * lines ≤ length (now table)) ⌝ }
+    requires { ⌜ k ≤ 8 ⌝ }
+    requires { ⌜ kept ≡ keptAfter (settingWith k closed (now table) lines e reached) (frontiers w (now window) n) ⌝ }
+    requires { ⌜ n ≤ length (now marks) ⌝ }
+    requires { ⌜ Marked (settingWith k closed (now table) lines e reached) w (now window) n (now marks) ⌝ }
+    ensures { λ r. ⌜ frontiers w (now (scratch .exit)) kept ≡ stepped (settingWith k closed (now (table .entry)) lines e reached) (frontiers w (now (window .entry)) n) ⌝ }
+{
+    let mask = e.mask;
+    let full = crate::advance::full_bytes(mask);
+    let mut hints = [0usize; 8];
+    let mut i = next_marked(marks, n, 0, STAYS);
+    let mut j = next_marked(marks, n, 0, LEADS);
+    let mut m = 0;
+    while m < kept {
+        if fresh_first(window, w, n, i, j, e) {
+            let ended = crate::lay::lay_fresh(
+                window,
+                scratch,
+                w,
+                j,
+                m,
+                k,
+                full,
+                e,
+                table,
+                lines,
+                hints,
+            );
+            hints = ended;
+            j = next_marked(marks, n, j + 1, LEADS);
+            m = m + 1;
+        } else {
+            crate::lay::lay_staying(window, scratch, w, i, m);
+            i = next_marked(marks, n, i + 1, STAYS);
+            m = m + 1;
+        }
+    }
+}
