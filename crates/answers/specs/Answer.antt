@@ -2,8 +2,6 @@
 use Prim.Native.Nat.{ℕ, _+_, _*_, _-_}
 use mathlib.Core.Bool.{Bool, true, false}
 use mathlib.Core.List.{List, map}
-use Rattle.rules.specs.reading.ForwardLaws.{place}
-use Rattle.pactl.specs.Pactl.{truth}
 use lib.ListN.{length, getD}
 use Rattle.codec.specs.Bit.{bit}
 use Rattle.frontiers.specs.declared.Frontier.{Frontier}

@@ -10,7 +10,6 @@ use Rattle.frontiers.specs.Bytes.{frontiers}
 use Rattle.records.specs.Record.{lineTotal, keptCount}
 use Rattle.refusals.specs.Refusals.{badRecordLength, badWindowLength, roomOf, badState}
 use Rattle.answers.specs.Answer.{Answer, turnedBack, found, absent}
-use Rattle.pactl.specs.Line.{line}
 
 -- The place, from i on, of the first frontier at which the line holds; none if there is none.
 unfoldable pub findFrom : ℕ → ℕ → List Frontier → Answer

@@ -18,7 +18,6 @@ use Rattle.answers.specs.Answer.{Answer, turnedBack, state, nothingReady, held,
 use Rattle.call_offer.specs.Offer.{placeAmong, offeredEvent, offerCall}
 use Rattle.demands.specs.Ledger.{Ledger}
 use Rattle.demands.specs.Status.{insertAt, removeAt}
-use Rattle.pactl.specs.Line.{line}
 
 -- A call: an offer of an event by its mask, clock and labels; a take, lent the window with so many zeros appended, and a scratch of any
 -- length and content; a find of a line.

@@ -14,7 +14,7 @@ use Rattle.lines.specs.declared.DidLine.{DidLine}
 use Rattle.lines.specs.declared.DidLine.the-variants.{Did}
 use Rattle.lines.specs.declared.Numbers.{Numbers}
 use Rattle.lines.specs.Reading.{valueOf, thenBytes, headRead}
-use Rattle.lines.specs.NumberList.{thenList, thenClose, eight}
+use Rattle.lines.specs.NumberList.{thenList, thenClose, eight, kept}
 use Rattle.lines.specs.Words.{word, placed}
 use Rattle.lines.specs.WordLaws.{low-four, high-four, placed-same}
 use Rattle.lines.specs.Lines.{countLimit, labelLimit, processLimit, thenLast, didOf, didLine}

@@ -13,7 +13,6 @@ use Rattle.refusals.specs.Refusals.{badProcesses, badState, badRecordLen
 use Rattle.clocks.specs.stored.BoundedLaws.{or-false-e}
 use native.Mathlib.Decide.{decLt}
 use native.Mathlib.Nat.{mul-le-mul-right, le-div-iff-mul-le}
-use Rattle.refusals.specs.RefusalLaws.{right-length, state-within}
 
 -- ---- 34
 

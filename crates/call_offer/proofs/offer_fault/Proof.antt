@@ -3,9 +3,9 @@ use Rattle.call_offer.proofs.offer_fault.Tie as tie
 use Prim.Native.Nat.{ℕ}
 use native.Mathlib.Omega.{arith}
 use mathlib.Core.Path.{_≡_, sym, _∙_, ap}
-use mathlib.Core.Bool.{true, false}
+use mathlib.Core.Bool.{true, false, cond}
 use mathlib.Core.List.{List}
-use lib.Dec.{eqb}
+use lib.Dec.{eqb, leb}
 use lib.ListN.{length}
 use borrow.Author.Needs.{needs}
 use borrow.Author.Tests.{le-leb, lt-leb, eq-eqb, ne-eqb}
@@ -89,14 +89,23 @@ conflicting-requires : tie.Need-conflicting-requires
 conflicting-requires c κs = (search needs, (right-length (c .before .before .before .before .before .before .before .before .before .before .before .before .args .w) (length (now (c .before .before .before .before .before .before .before .before .before .before .before .before .args .s))) (length-passed (c .before .before .before .before .before .before .before .before .before)), state-within (c .before .before .before .before .before .before .before .before .before .before .before .before .args .w) 1024 (now (c .before .before .before .before .before .before .before .before .before .before .before .before .args .s)) (state-passed (c .before .before .before .before .before .before .before)) .1))
 
 pending-count-requires : tie.Need-pending-count-requires
-pending-count-requires c κs = ?
+pending-count-requires c κs =
+    let passed = c .before .before .before .before .before .before .before .before .before .before in
+    let a = passed .before .before .before .args in
+    omega (arith, right-length (a .w) (length (now (a .s))) (length-passed passed))
 
 pending-fault-requires : tie.Need-pending-fault-requires
 pending-fault-requires c κs = search needs
 
 returns-5 : tie.Need-returns-5
 unfolding offerFault
-returns-5 c = ?
+returns-5 c =
+    let compared = c .before .before in
+    let untaken = compared .before in
+    let fine = untaken .before .before .before .before in
+    let stood = fine .before .before .before in
+    rw (length-passed (stood .before .before), state-passed stood, event-passed fine, taken-passed untaken, conflict-read compared)
+    (c .pending-fault .ensures ∙ ap (λ (n : ℕ). cond (compared .conflicting .result) 32 (cond (leb 32 n) 33 0)) (c .before .pending-count .ensures .0))
 
 pub offer-fault-spec : {M : Type 1} → statement M
 offer-fault-spec =

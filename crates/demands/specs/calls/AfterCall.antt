@@ -34,7 +34,6 @@ use Rattle.answers.specs.Answer.{turnedBack}
 use Rattle.call_take.specs.TrialLaws.{Outcome, outcome, none-decides, falsifies, chooses}
 use Rattle.demands.specs.calls.TakeLaws.{falsified-watching, taken-watching, taken-window}
 use Rattle.demands.specs.Status.{removeAt}
-use Rattle.pactl.specs.Line.{line}
 use Rattle.refusals.specs.RefusalLaws.{room-few}
 
 -- ---- A watch and its ledger

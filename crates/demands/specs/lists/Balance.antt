@@ -21,7 +21,6 @@ use Rattle.demands.specs.Run.{Call, Watch, decisionOf, ledgerAfter, offe
 use Rattle.demands.specs.Status.{insertAt, removeAt}
 use Rattle.demands.specs.calls.OfferLaws.{OfferCase, offer-case, turned}
 use Rattle.demands.specs.calls.AfterCall.{WatchRight, noEvent, lengthened, badLengths, take-6, decision, take-else, trial}
-use Rattle.pactl.specs.Line.{line}
 
 -- ---- occurrences in a list with one element more or less
 occurs-append : (e : Event) (xs ys : List Event) → occurrences e (xs ++ ys) ≡ occurrences e xs + occurrences e ys
