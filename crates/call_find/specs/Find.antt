@@ -10,6 +10,7 @@ use Rattle.frontiers.specs.Bytes.{frontiers}
 use Rattle.records.specs.Record.{lineTotal, keptCount}
 use Rattle.refusals.specs.Refusals.{badRecordLength, badWindowLength, roomOf, badState}
 use Rattle.answers.specs.Answer.{Answer, turnedBack, found, absent}
+use Rattle.numbers.specs.Refusal.{lengthNumber, noLineNumber, stateNumber}
 
 -- The place, from i on, of the first frontier at which the line holds; none if there is none.
 unfoldable pub findFrom : ℕ → ℕ → List Frontier → Answer
@@ -18,7 +19,7 @@ findFrom line i (f ∷ fs) = cond (bit (f .values) line) (found i) (findFrom lin
 
 unfoldable pub findCall : ℕ → ℕ → List ℕ → List ℕ → Answer
 findCall w line s window =
-    cond (badRecordLength w (length s) || badWindowLength w (length window)) (turnedBack 6 0)
-    (cond (badState w (roomOf w (length window)) s) (turnedBack 34 0)
-    (cond (leb (lineTotal s) line) (turnedBack 11 0)
+    cond (badRecordLength w (length s) || badWindowLength w (length window)) (turnedBack lengthNumber 0)
+    (cond (badState w (roomOf w (length window)) s) (turnedBack stateNumber 0)
+    (cond (leb (lineTotal s) line) (turnedBack noLineNumber 0)
     (findFrom line 0 (frontiers w window (keptCount s)))))

@@ -1,6 +1,9 @@
 // Find (01, The calls): the first kept frontier at which a line of the table holds, or none.
 
 use frontiers::stored::values_at;
+use numbers::refusal::LENGTH;
+use numbers::refusal::NO_SUCH_LINE;
+use numbers::refusal::STATE;
 use records::fields::kept_count;
 use records::fields::line_total;
 use refusals::bad_record_length;
@@ -95,16 +98,16 @@ pub fn find(w: usize, line: u64, s: &[u8], window: &[u8]) -> u64
     ensures { λ r. ⌜ r ≡ replyWord (findCall w line (now (s .entry)) (now (window .entry))) ⌝ }
 {
     if bad_record_length(w, s.len()) {
-        return 6;
+        return LENGTH;
     }
     if bad_window_length(w, window.len()) {
-        return 6;
+        return LENGTH;
     }
     if bad_state(s, w, room_of(w, window.len())) {
-        return 34;
+        return STATE;
     }
     if line_total(s) as u64 <= line {
-        return 11;
+        return NO_SUCH_LINE;
     }
     find_first(w, line as u32, window, kept_count(s) as usize)
 }

@@ -11,6 +11,7 @@ use Rattle.clocks.specs.Refusal.{badMask, badClock, badLabels}
 use Rattle.records.specs.Record.{processCount, pendingCount, takenCounts, pendingEvents, inserted}
 use Rattle.refusals.specs.Refusals.{badRecordLength, badState, alreadyTaken, conflicting}
 use Rattle.answers.specs.Answer.{Answer, turnedBack, held}
+use Rattle.numbers.specs.Refusal.{clockNumber, conflictNumber, fullNumber, labelsNumber, lengthNumber, maskNumber, stateNumber, takenNumber}
 
 -- What a call that is lent the record answers and leaves there.
 pub record Offered : Type 0 where
@@ -30,12 +31,12 @@ unfoldable pub offerCall : ℕ → ℕ → List ℕ → List ℕ → List ℕ �
 offerCall w mask clock labels s =
     let e = offeredEvent mask clock labels in
     let turned : ℕ → Offered = λ n. record { answer = turnedBack n 0; bytes = s } in
-    cond (badRecordLength w (length s)) (turned 6)
-    (cond (badState w 1024 s) (turned 34)
-    (cond (badMask (processCount s) mask) (turned 7)
-    (cond (badClock (processCount s) mask clock) (turned 8)
-    (cond (badLabels mask labels) (turned 9)
-    (cond (alreadyTaken e (at (takenCounts w s))) (turned 31)
-    (cond (conflicting e (pendingEvents w s)) (turned 32)
-    (cond (leb 32 (pendingCount s)) (turned 33)
+    cond (badRecordLength w (length s)) (turned lengthNumber)
+    (cond (badState w 1024 s) (turned stateNumber)
+    (cond (badMask (processCount s) mask) (turned maskNumber)
+    (cond (badClock (processCount s) mask clock) (turned clockNumber)
+    (cond (badLabels mask labels) (turned labelsNumber)
+    (cond (alreadyTaken e (at (takenCounts w s))) (turned takenNumber)
+    (cond (conflicting e (pendingEvents w s)) (turned conflictNumber)
+    (cond (leb 32 (pendingCount s)) (turned fullNumber)
     (record { answer = held (pendingCount s + 1); bytes = inserted w s (placeAmong e (pendingEvents w s)) e }))))))))

@@ -1,6 +1,13 @@
 // Offer (01, The calls): an event is added to the pending ones, in its place by lowest process and count; or it is turned back.
 
 use clocks::Event;
+use numbers::limit::FRONTIERS;
+use numbers::limit::PENDING;
+use numbers::refusal::CONFLICT;
+use numbers::refusal::FULL;
+use numbers::refusal::LENGTH;
+use numbers::refusal::STATE;
+use numbers::refusal::TAKEN;
 use records::fields::pending_count;
 use records::fields::pending_event;
 use records::fields::process_count;
@@ -56,10 +63,10 @@ fn pending_fault(conflict: bool, full: bool) -> u64
     ensures { λ r. ⌜ r ≡ cond conflict 32 (cond full 33 0) ⌝ }
 {
     if conflict {
-        return 32;
+        return CONFLICT;
     }
     if full {
-        return 33;
+        return FULL;
     }
     0
 }
@@ -70,10 +77,10 @@ pub fn offer_fault(w: usize, mask: u64, clock: [u32; 8], labels: [u8; 8], s: &[u
     ensures { λ r. ⌜ r ≡ offerFault w mask clock labels (now (s .entry)) ⌝ }
 {
     if bad_record_length(w, s.len()) {
-        return 6;
+        return LENGTH;
     }
-    if bad_state(s, w, 1024) {
-        return 34;
+    if bad_state(s, w, FRONTIERS) {
+        return STATE;
     }
     let fault = clocks::refusal::event_fault(process_count(s), mask, clock, labels);
     if fault != 0 {
@@ -81,10 +88,10 @@ pub fn offer_fault(w: usize, mask: u64, clock: [u32; 8], labels: [u8; 8], s: &[u
     }
     let e = offered_event(mask, clock, labels);
     if already_taken(e, taken_counts(s, w)) {
-        return 31;
+        return TAKEN;
     }
     let conflict = conflicting(s, w, e);
-    let full = 32 <= pending_count(s);
+    let full = PENDING <= pending_count(s);
     pending_fault(conflict, full)
 }
 

@@ -14,6 +14,7 @@ use Rattle.clocks.specs.Refusal.{badStart}
 use Rattle.records.specs.Record.{eventLength}
 use Rattle.refusals.specs.Refusals.{badRecordLength, badWindowLength, badProcesses}
 use Rattle.answers.specs.Answer.{Answer, turnedBack, stateOf}
+use Rattle.numbers.specs.Refusal.{labelsNumber, lengthNumber, processesNumber}
 
 -- What open answers and leaves in the two buffers that it is lent.
 pub record Opened : Type 0 where
@@ -45,7 +46,7 @@ openRead w k labels s window (refused n i) = record { answer = turnedBack n i; b
 unfoldable pub openCall : ℕ → List ℕ → ℕ → List ℕ → List ℕ → List ℕ → Opened
 openCall w text k labels s window =
     let turned : ℕ → Opened = λ n. record { answer = turnedBack n 0; bytes = s; window = window } in
-    cond (badRecordLength w (length s) || badWindowLength w (length window)) (turned 6)
-    (cond (badProcesses k) (turned 5)
-    (cond (badStart k labels) (turned 9)
+    cond (badRecordLength w (length s) || badWindowLength w (length window)) (turned lengthNumber)
+    (cond (badProcesses k) (turned processesNumber)
+    (cond (badStart k labels) (turned labelsNumber)
     (openRead w k labels s window (readRule text k))))

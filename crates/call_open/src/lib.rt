@@ -5,10 +5,13 @@ use answers::turned_word;
 use frontiers::Frontier;
 use frontiers::moving::clear;
 use frontiers::moving::copy_in;
+use numbers::refusal::LABELS;
+use numbers::refusal::LENGTH;
+use numbers::refusal::PROCESSES;
+use records::fields::table_place;
 use refusals::bad_processes;
 use refusals::bad_record_length;
 use refusals::bad_window_length;
-use records::fields::table_place;
 use rules::RuleRead;
 ghost use Prim.Native.Nat.{_*_, _≤_};
 ghost use mathlib.Core.Path.{_≡_};
@@ -93,16 +96,16 @@ pub fn open_fault(w: usize, k: u64, labels: [u8; 8], n: usize, m: usize) -> u64
     ensures { λ r. ⌜ r ≡ openFault w k labels n m ⌝ }
 {
     if bad_record_length(w, n) {
-        return 6;
+        return LENGTH;
     }
     if bad_window_length(w, m) {
-        return 6;
+        return LENGTH;
     }
     if bad_processes(k) {
-        return 5;
+        return PROCESSES;
     }
     if clocks::refusal::bad_start(k as u32, labels) {
-        return 9;
+        return LABELS;
     }
     0
 }

@@ -14,6 +14,7 @@ use Rattle.clocks.specs.Counts.{at, listOf}
 use Rattle.records.specs.Record.{processCount, lineTotal, keptCount, takenCounts, tableLines, pendingAt, pendingEvents, removed, counted, readyIn, validIn}
 use Rattle.refusals.specs.Refusals.{badRecordLength, badWindowLength, roomOf, badState}
 use Rattle.answers.specs.Answer.{Answer, turnedBack, nothingReady, stateOf}
+use Rattle.numbers.specs.Refusal.{falseClockNumber, lengthNumber, noRoomNumber, stateNumber}
 
 -- What take answers and leaves in the three buffers that it is lent.
 pub record Taken : Type 0 where
@@ -51,8 +52,8 @@ tried w s allowed fs i seen (e ∷ es) =
 
 -- What a decision leads to. The scratch is all 0 afterwards.
 unfoldable pub decided : ℕ → List ℕ → List ℕ → List Frontier → Decision → Taken
-decided w s window fs (undecided seen) = record { answer = cond seen (turnedBack 36 0) nothingReady; bytes = s; window = window; scratch = replicate (length window) 0 }
-decided w s window fs (false-clock i) = record { answer = turnedBack 35 0; bytes = removed w s i; window = window; scratch = replicate (length window) 0 }
+decided w s window fs (undecided seen) = record { answer = cond seen (turnedBack noRoomNumber 0) nothingReady; bytes = s; window = window; scratch = replicate (length window) 0 }
+decided w s window fs (false-clock i) = record { answer = turnedBack falseClockNumber 0; bytes = removed w s i; window = window; scratch = replicate (length window) 0 }
 decided w s window fs (chosen i) =
     let e = pendingAt w s i in
     let gs = stepped (settingIn w s e) fs in
@@ -72,6 +73,6 @@ takeWithin w allowed s window =
 unfoldable pub takeCall : ℕ → List ℕ → List ℕ → List ℕ → Taken
 takeCall w s window scratch =
     let turned : ℕ → Taken = λ n. record { answer = turnedBack n 0; bytes = s; window = window; scratch = scratch } in
-    cond (badRecordLength w (length s) || (badWindowLength w (length window) || not (eqb (length scratch) (length window)))) (turned 6)
-    (cond (badState w (roomOf w (length window)) s) (turned 34)
+    cond (badRecordLength w (length s) || (badWindowLength w (length window) || not (eqb (length scratch) (length window)))) (turned lengthNumber)
+    (cond (badState w (roomOf w (length window)) s) (turned stateNumber)
     (takeWithin w (roomOf w (length window)) s window))

@@ -2,18 +2,22 @@
 
 use answers::state_word;
 use clocks::Event;
+use numbers::refusal::FALSE_CLOCK;
+use numbers::refusal::LENGTH;
+use numbers::refusal::NO_ROOM;
+use numbers::refusal::STATE;
 use records::fields::kept_count;
 use records::fields::last_clocks;
 use records::fields::line_total;
 use records::fields::pending_count;
 use records::fields::pending_event;
 use records::fields::process_count;
+use records::fields::table_place;
 use records::fields::taken_counts;
 use refusals::bad_record_length;
 use refusals::bad_state;
 use refusals::bad_window_length;
 use refusals::room_of;
-use records::fields::table_place;
 use updates::count_taken;
 use updates::remove_event;
 ghost use Prim.Native.Nat.{ℕ, _*_, _-_, _^_, _≤_, _<_};
@@ -217,7 +221,7 @@ fn take_event(
 fn undecided_word(seen: bool) -> u64
     ensures { λ r. ⌜ r ≡ replyWord (cond seen (turnedBack 36 0) nothingReady) ⌝ }
 {
-    if seen { 36 } else { 0 }
+    if seen { NO_ROOM } else { 0 }
 }
 
 // Takes an event where at most so many frontiers of the window may be used: the reply, and the bytes of the three buffers after it.
@@ -251,7 +255,7 @@ pub fn take_within(
         Choice::Falsified { place } => {
             remove_event(s, w, place);
             frontiers::moving::clear_all(scratch);
-            35
+            FALSE_CLOCK
         }
         Choice::Chosen { place, kept } => take_event(s, w, window, &marks, scratch, n, place, kept),
     }
@@ -263,16 +267,16 @@ pub fn take_fault(w: usize, s: &[u8], n: usize, m: usize) -> u64
     ensures { λ r. ⌜ r ≡ takeFault w (now (s .entry)) n m ⌝ }
 {
     if bad_record_length(w, s.len()) {
-        return 6;
+        return LENGTH;
     }
     if bad_window_length(w, n) {
-        return 6;
+        return LENGTH;
     }
     if m != n {
-        return 6;
+        return LENGTH;
     }
     if bad_state(s, w, room_of(w, n)) {
-        return 34;
+        return STATE;
     }
     0
 }

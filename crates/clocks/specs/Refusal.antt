@@ -10,6 +10,7 @@ use Rattle.clocks.specs.Event.{involved, count}
 use Rattle.clocks.specs.Valid.{WellFormed}
 use Rattle.clocks.specs.Bounded.{anyBelow}
 use Rattle.clocks.specs.Counts.{at}
+use Rattle.numbers.specs.Refusal.{clockNumber, labelsNumber, maskNumber}
 
 -- 7: the mask, a word of 64 bits, is 0, or has a bit from k up.
 unfoldable pub badMask : ℕ → ℕ → Bool
@@ -40,7 +41,7 @@ badStart k labels = anyBelow 8 (badStartLabel k labels)
 
 -- The number that an event is turned back with, in their order; 0 for none (01: order of offer, 7, 8, 9).
 unfoldable pub eventFault : ℕ → ℕ → List ℕ → List ℕ → ℕ
-eventFault k m clock labels = cond (badMask k m) 7 (cond (badClock k m clock) 8 (cond (badLabels m labels) 9 0))
+eventFault k m clock labels = cond (badMask k m) maskNumber (cond (badClock k m clock) clockNumber (cond (badLabels m labels) labelsNumber 0))
 
 -- An event that none of the three turns back, in plain words.
 pub record Faultless (k : ℕ) (e : Event) : Type 0 where

@@ -1,5 +1,8 @@
 // What an event or start labels are turned back for (01, Turned back, from the input: 7, 8, 9).
 
+use numbers::refusal::CLOCK;
+use numbers::refusal::LABELS;
+use numbers::refusal::MASK;
 ghost use Prim.Native.Nat.{_≤_};
 ghost use mathlib.Core.Path.{_≡_};
 ghost use mathlib.Core.Bool.{not, _&&_, _||_};
@@ -79,13 +82,13 @@ pub fn event_fault(k: u32, mask: u64, clock: [u32; 8], labels: [u8; 8]) -> u64
     ensures { λ r. ⌜ r ≡ eventFault k mask clock labels ⌝ }
 {
     if bad_mask(k, mask) {
-        return 7;
+        return MASK;
     }
     if bad_clock(k, mask, clock) {
-        return 8;
+        return CLOCK;
     }
     if bad_labels(mask, labels) {
-        return 9;
+        return LABELS;
     }
     0
 }

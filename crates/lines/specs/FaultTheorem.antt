@@ -9,7 +9,6 @@ use lib.Dec.{ltb}
 use lib.ListN.{length, length-append}
 use lib.Seq.{getD-take, getD-append-add}
 use borrow.Author.Tests.{ltb-true, ltb-false, lt-ltb}
-use Rattle.pactl.specs.JudgeLaws.{and-true}
 use Rattle.rules.specs.Text.{byteAt}
 use Rattle.rules.specs.Fault.{Stands}
 use Rattle.rules.specs.reading.WordLaws.{Span}
@@ -26,6 +25,7 @@ use Rattle.lines.specs.PieceStood.{Stood, piece-stood}
 use Rattle.lines.specs.TenSound.{not-at, piece-ten}
 use Rattle.lines.specs.TenComplete.{Stops, Passes, piece-stops, piece-passes}
 use Rattle.lines.specs.GrammarTheorem.{lineRead, one-exact, none-before-one, ten-before-one, read-text}
+use Rattle.clocks.specs.stored.BoundedLaws.{and-true}
 
 -- ---- What the reader turns back by 10
 

@@ -11,12 +11,12 @@ use borrow.Author.Tests.{ltb-true, ltb-false, leb-true, eqb-true, eqb-false, eq-
 use Rattle.clocks.specs.Counts.{at, listOf}
 use Rattle.clocks.specs.stored.CountsLaws.{length-listOf, getD-listOf, at-beyond}
 use Rattle.rules.specs.Text.{byteAt}
-use Rattle.pactl.specs.JudgeLaws.{and-true}
 use Rattle.lines.specs.declared.Read.{Read}
 use Rattle.lines.specs.declared.Read.the-variants.{At, Refused}
 use Rattle.lines.specs.Number.{digits, value, numberOf, numberAt}
 use Rattle.lines.specs.NumberLaws.{inside}
 use Rattle.lines.specs.NumberList.{afterNumber, numbersAt, allNumbersAt, eight, kept}
+use Rattle.clocks.specs.stored.BoundedLaws.{and-true}
 
 -- ---- A number that was read
 

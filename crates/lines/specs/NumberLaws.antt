@@ -12,9 +12,9 @@ use lib.Seq.{drop-cons}
 use borrow.Author.Tests.{ltb-true, ltb-false, leb-true, leb-false, lt-ltb, le-leb, lt-leb}
 use Rattle.rules.specs.Text.{byteAt}
 use Rattle.rules.specs.reading.TextLaws.{byteAt-behind}
-use Rattle.pactl.specs.JudgeLaws.{and-true}
 use Rattle.lines.specs.declared.Read.the-variants.{At, Refused}
 use Rattle.lines.specs.Number.{isDigit, digits, valueFrom, value, numberOf, numberAt}
+use Rattle.clocks.specs.stored.BoundedLaws.{and-true}
 
 -- ---- Places and bytes
 

@@ -9,7 +9,6 @@ use lib.Dec.{leb, ltb, eqb}
 use lib.ListN.{length, drop}
 use borrow.Author.Tests.{eqb-true, ltb-true, le-ltb}
 use Rattle.rules.specs.Text.{byteAt}
-use Rattle.pactl.specs.JudgeLaws.{and-true}
 use Rattle.rules.specs.reading.WordLaws.{if-byte}
 use Rattle.rules.specs.reading.WordsAnswered.{StandsTo, known}
 use Rattle.lines.specs.declared.Read.{Read}
@@ -19,6 +18,7 @@ use Rattle.lines.specs.NumberLaws.{digits-next, digits-end, digits-first
 use Rattle.lines.specs.Reading.{thenByte}
 use Rattle.lines.specs.Grammar.{AllDigits, Numeral}
 use Rattle.lines.specs.PieceLaws.{placeIn, if-test}
+use Rattle.clocks.specs.stored.BoundedLaws.{and-true}
 
 -- A reading is at or behind place m, or is turned back by 10; or it stands at place i.
 abbrev pub Behind : ℕ → Read → Type 0

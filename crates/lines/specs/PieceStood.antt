@@ -10,7 +10,6 @@ use lib.ListN.{length, length-append, take, drop}
 use lib.Seq.{take-all, take-append-le, take-add}
 use borrow.Author.Tests.{eqb-true, eq-eqb, ltb-false}
 use Rattle.rules.specs.Text.{byteAt}
-use Rattle.pactl.specs.JudgeLaws.{and-true}
 use Rattle.rules.specs.reading.WordLaws.{if-byte}
 use Rattle.rules.specs.grammar.FirstBytes.{Begun, begun-inside, begun-next}
 use Rattle.lines.specs.declared.Read.{Read}
@@ -23,6 +22,7 @@ use Rattle.lines.specs.NumberList.{Listed, afterNumber, numbersAt, thenL
 use Rattle.lines.specs.PieceLaws.{if-test, readPiece, readPieces, pieces-stay}
 use Rattle.lines.specs.PieceMeets.{Ended, AllEnded}
 use Rattle.lines.specs.NumberMeets.{if-known}
+use Rattle.clocks.specs.stored.BoundedLaws.{and-true}
 
 -- A line and a text have the same first e bytes.
 pub record Met (s t : List ℕ) (e : ℕ) : Type 0 where

@@ -4,7 +4,7 @@ use native.Mathlib.Omega.{arith}
 use native.Mathlib.Nat.{add-zero, zero-add, pow-suc}
 use native.Mathlib.Numerals.{add-one}
 use mathlib.Core.Path.{_≡_, refl, sym, _∙_}
-use mathlib.Core.Bool.{Bool, true, false, cond, _&&_, _||_, false≢true}
+use mathlib.Core.Bool.{Bool, true, false, cond, _&&_, _||_}
 use mathlib.Core.List.{List, [], _∷_}
 use lib.Dec.{leb, ltb, eqb, lit<}
 use lib.ListN.{length, getD}
@@ -16,6 +16,7 @@ use Rattle.pactl.specs.Judge.{notJudged, andJudged, esJudged, asJudged, 
 use Rattle.pactl.specs.Table.{goodLine, goodFrom, goodTable}
 use Rattle.pactl.specs.TableBytesLaws.{linesFrom-next, linesFrom-end}
 use Rattle.pactl.specs.TableBytes.{lineAt, linesFrom}
+use Rattle.clocks.specs.stored.BoundedLaws.{and-true}
 
 -- One line more
 
@@ -32,10 +33,6 @@ withBit-under v i true j h = bit-under-top v i j h
 withBit-under v i false j h = refl
 
 -- Good lines name earlier lines only
-
-pub and-true : (a b : Bool) → (a && b) ≡ true → (a ≡ true) × (b ≡ true)
-and-true true b h = (refl, h)
-and-true false b h = absurd (false≢true h)
 
 -- What a good line that is no proposition has in a and b are earlier lines, an unused b too.
 pub good-earlier : (k i : ℕ) (l : Line) → goodLine k i l ≡ true → eqb (l .kind) 0 ≡ false → (l .a < i) × (l .b < i)

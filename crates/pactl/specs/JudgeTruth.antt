@@ -14,12 +14,12 @@ use Rattle.clocks.specs.declared.Event.{Event}
 use Rattle.codec.specs.Bit.{bit}
 use Rattle.clocks.specs.History.{labelOf}
 use Rattle.clocks.specs.Event.{Cut}
-use Rattle.clocks.specs.stored.BoundedLaws.{and-i, and-l, and-r, or-l, or-r, or-e, same-test}
+use Rattle.clocks.specs.stored.BoundedLaws.{and-i, and-l, and-r, or-l, or-r, or-e, same-test, and-true}
 use Rattle.pactl.specs.declared.Line.{Line}
 use Rattle.pactl.specs.Judge.{judge, propositionJudged, notJudged, andJudged, eyJudged, esJudged, asJudged, judgeLine}
 use Rattle.pactl.specs.TruthLaws.{Ruled, CutOf, Leads, ey-clause, es-clause, as-clause}
 use Rattle.pactl.specs.Truth.{Model, Property, eyHolds, esHolds, lineTruth, propositionHolds, notHolds, andHolds, asHolds, lineHolds, never}
-use Rattle.pactl.specs.JudgeLaws.{and-true, judge-bit, good-earlier}
+use Rattle.pactl.specs.JudgeLaws.{judge-bit, good-earlier}
 use Rattle.pactl.specs.Table.{goodLine, goodFrom, goodTable}
 use Rattle.pactl.specs.LineTruthLaws.{Made, line-made}
 use Rattle.pactl.specs.Line.{line}

@@ -1,5 +1,10 @@
 // What a call is turned back for by a record, a window or the state of a watch (01, Turned back: 6, 31, 32, 34).
 
+use clocks::Event;
+use numbers::limit::FRONTIERS;
+use numbers::limit::LINES;
+use numbers::limit::PENDING;
+use numbers::limit::PROCESSES;
 use records::fields::kept_count;
 use records::fields::line_total;
 use records::fields::pending_count;
@@ -7,7 +12,6 @@ use records::fields::pending_event;
 use records::fields::pending_place;
 use records::fields::process_count;
 use records::fields::table_place;
-use clocks::Event;
 ghost use Prim.Native.Nat.{_+_, _*_, _≤_, _<_};
 ghost use mathlib.Core.Path.{_≡_};
 ghost use mathlib.Core.Bool.{_&&_};
@@ -24,7 +28,7 @@ pub fn bad_record_length(w: usize, n: usize) -> bool
     requires { ⌜ Width w ⌝ }
     ensures { λ r. ⌜ r ≡ badRecordLength w n ⌝ }
 {
-    n != pending_place(w, 32)
+    n != pending_place(w, PENDING)
 }
 
 // 6: a window that has not 1 to 1,024 whole frontiers.
@@ -36,7 +40,7 @@ pub fn bad_window_length(w: usize, n: usize) -> bool
     if n < size {
         return true;
     }
-    if 1024 * size < n {
+    if FRONTIERS * size < n {
         return true;
     }
     n % size != 0
@@ -57,7 +61,7 @@ pub fn bad_processes(k: u64) -> bool
     if k == 0 {
         return true;
     }
-    8 < k
+    PROCESSES < k
 }
 
 // 34, of the record's numbers.
@@ -67,19 +71,19 @@ fn bad_numbers(k: u32, pending: usize, lines: u32, kept: usize, room: usize) -> 
     if bad_processes(k as u64) {
         return true;
     }
-    if 32 < pending {
+    if PENDING < pending {
         return true;
     }
     if lines == 0 {
         return true;
     }
-    if 64 < lines {
+    if LINES < lines {
         return true;
     }
     if kept == 0 {
         return true;
     }
-    if 1024 < kept {
+    if FRONTIERS < kept {
         return true;
     }
     room < kept

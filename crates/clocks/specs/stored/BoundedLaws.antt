@@ -5,7 +5,7 @@ use Prim.Native.Nat.{ℕ, zero, suc, _<_}
 use native.Mathlib.Omega.{arith}
 use native.Mathlib.Decide.{decLt}
 use mathlib.Core.Path.{_≡_, refl}
-use mathlib.Core.Bool.{Bool, true, false, _&&_, _||_, true≢false}
+use mathlib.Core.Bool.{Bool, true, false, _&&_, _||_, true≢false, false≢true}
 use mathlib.Core.List.{List, [], _∷_, List·Memᴰ, List·Memᴰ·head, List·Memᴰ·tail, List·Memᴰ·cases-cons, List·Memᴰ·not-nil}
 use mathlib.Core.Logic.{_⊎_, inl, inr}
 use lib.Dec.{T}
@@ -94,7 +94,11 @@ any-of-e {A} t (y ∷ ys) h = go (or-e (t y) (anyOf t ys) h) (any-of-e t ys)
     go (inl x) r = (y, List·Memᴰ·head refl, x)
     go (inr x) r = let w = r x in (w .0, List·Memᴰ·tail (w .1), w .2)
 
--- ---- neither
+-- ---- both, and neither
+pub and-true : (a b : Bool) → (a && b) ≡ true → (a ≡ true) × (b ≡ true)
+and-true true b h = (refl, h)
+and-true false b h = absurd (false≢true h)
+
 pub or-false-e : (a b : Bool) → (a || b) ≡ false → (a ≡ false) × (b ≡ false)
 or-false-e true b h = absurd (true≢false h)
 or-false-e false b h = (refl, h)

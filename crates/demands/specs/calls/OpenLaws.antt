@@ -10,13 +10,12 @@ use lib.ListN.{length, getD}
 use borrow.Author.Tests.{ltb-true, leb-true, eqb-true, ltb-false, eqb-false}
 use Rattle.pactl.specs.declared.Line.{Line}
 use Rattle.rules.specs.Line.{linesAt, lineCount}
-use Rattle.pactl.specs.JudgeLaws.{and-true}
 use Rattle.pactl.specs.Table.{tableBytes, goodLine, goodFrom, goodTable}
 use Rattle.rules.specs.Formula.{Formula}
 use Rattle.rules.specs.Reader.{Reading, readRule, refused}
 use Rattle.clocks.specs.cuts.EventLaws.{true-T}
 use Rattle.clocks.specs.Counts.{at}
-use Rattle.clocks.specs.stored.BoundedLaws.{or-e, or-false-e}
+use Rattle.clocks.specs.stored.BoundedLaws.{or-e, or-false-e, and-true}
 use Rattle.clocks.specs.Refusal.{badStart}
 use Rattle.frontiers.specs.WindowLaws.{length-windowBytes}
 use Rattle.window_laws.specs.StartTheorem.{start-represents}

@@ -7,7 +7,7 @@ use lib.ListN.{getD, replicate, getD-replicate}
 use Rattle.clocks.specs.declared.Event.{Event}
 use Rattle.codec.specs.Bit.{bit}
 use Rattle.clocks.specs.Event.{apply, involved}
-use Rattle.clocks.specs.Counts.{at}
+use Rattle.clocks.specs.Counts.{at, listOf}
 use Rattle.clocks.specs.stored.CountsLaws.{listOf-same}
 use Rattle.frontiers.specs.declared.Frontier.{Frontier}
 use Rattle.window.specs.Step.{Setting, advanced}

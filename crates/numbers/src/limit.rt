@@ -1,0 +1,14 @@
+// Limits (01, Clocks and cuts; The rule; The window). Lengths in bytes go by the width of a count: see frontiers Bytes, records Record.
+
+// Processes of a watch.
+pub const PROCESSES: u64 = 8;
+// Frontiers of a window.
+pub const FRONTIERS: usize = 1024;
+// Lines of a table.
+pub const LINES: u32 = 64;
+// Pending events of a record.
+pub const PENDING: usize = 32;
+// A record with counts of two bytes.
+pub const RECORD_BYTES: usize = 1368;
+// The longest window with counts of two bytes.
+pub const WINDOW_BYTES: usize = 40960;
