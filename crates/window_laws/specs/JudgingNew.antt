@@ -13,7 +13,7 @@ use lib.Count.{trailingZeros}
 use borrow.Author.Tests.{eq-eqb, ne-eqb}
 use Rattle.clocks.specs.declared.Event.{Event}
 use Rattle.pactl.specs.TruthLaws.{Ruled, Leads}
-use Rattle.pactl.specs.Truth.{Model, lineTruth, before}
+use Rattle.pactl.specs.Truth.{Model, lineTruth}
 use Rattle.clocks.specs.History.{maskOf, Consistent, Follows, Causal, ofEvent, taken, event, labelOf}
 use Rattle.clocks.specs.Event.{Cut, involved, Ready, apply, minus, less}
 use Rattle.clocks.specs.validity.ClockRule.{history-causal, consistent-silent}
@@ -43,7 +43,8 @@ use Rattle.window_laws.specs.FoundLaid.{found-e, found-i}
 use Rattle.window_laws.specs.OrderCuts.{before-pointwise}
 use Rattle.window_laws.specs.StoredCuts.{listOf-injective, first-process}
 use Rattle.window_laws.specs.GatheredBits.{Gathers, gathers-same, gathers-added}
-use Rattle.lines.specs.Grammar.{some}
+use mathlib.Core.Option.{some}
+use Rattle.lookup.specs.Order.{before}
 
 module _ (W : World) (valid : List Event → Event → Type 0) (ts : List Event) (e : Event) (P : Proper W valid ts) (tk : Takeable (W .processes) valid ts e)
     (opens : (p : ℕ) → involved e p ≡ true → T (openIn W p)) (S₀ : Cut) (c₀ : Consistent ts S₀) (r₀ : Ready e S₀) where

@@ -13,7 +13,7 @@ use Rattle.clocks.specs.declared.Event.{Event}
 use Rattle.clocks.specs.Counts.{at}
 use Rattle.clocks.specs.Refusal.{badMask, badClock, badLabels, Faultless}
 use Rattle.pactl.specs.declared.Line.{Line}
-use Rattle.clocks.specs.Event.{Cut, involved}
+use Rattle.clocks.specs.Event.{Cut, involved, count}
 use Rattle.clocks.specs.History.{taken}
 use Rattle.clocks.specs.Key.{keyOf, lowest}
 use Rattle.clocks.specs.stored.BoundedTurns.{any-false-e}

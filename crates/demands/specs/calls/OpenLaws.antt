@@ -12,7 +12,7 @@ use Rattle.pactl.specs.declared.Line.{Line}
 use Rattle.rules.specs.Line.{linesAt, lineCount}
 use Rattle.pactl.specs.Table.{tableBytes, goodLine, goodFrom, goodTable}
 use Rattle.rules.specs.Formula.{Formula}
-use Rattle.rules.specs.Reader.{Reading, readRule, refused}
+use Rattle.rules.specs.Reader.{Reading, readRule, refused, formed}
 use Rattle.clocks.specs.cuts.EventLaws.{true-T}
 use Rattle.clocks.specs.Counts.{at}
 use Rattle.clocks.specs.stored.BoundedLaws.{or-e, or-false-e, and-true}
