@@ -44,7 +44,7 @@ install: all
 	install -d $(DESTDIR)$(PREFIX)/bin $(DESTDIR)$(PREFIX)/share/man/man1
 	install -m 755 $(PROGRAM) $(DESTDIR)$(PREFIX)/bin/$(PROGRAM_NAME)
 	sed -e "s|^\.Dt WATCH |.Dt $$(echo '$(PROGRAM_NAME)' | tr a-z A-Z) |" -e 's|^\.Nm watch$$|.Nm $(PROGRAM_NAME)|' \
-	    -e 's|^$$ watch$$|$$ $(PROGRAM_NAME)|' $(MANUAL) > target/$(PROGRAM_NAME).1
+	    -e 's|^[$$] watch$$|$$ $(PROGRAM_NAME)|' $(MANUAL) > target/$(PROGRAM_NAME).1
 	install -m 644 target/$(PROGRAM_NAME).1 $(DESTDIR)$(PREFIX)/share/man/man1/$(PROGRAM_NAME).1
 	@[ $(PROGRAM_NAME) != watch ] || \
 	    echo "note: as 'watch' it hides the system's watch(1); PROGRAM_NAME=.. gives it another name" >&2
