@@ -1,18 +1,21 @@
 /* The vault watcher's four calls: open a watch, offer it events, take them, find a frontier.
  *
- * A watch is two buffers of the caller's: a record of WATCH_RECORD_BYTES and a window of 40 to 40,960 bytes, a multiple of 40 (one frontier
- * has 40). Take borrows a third, the scratch, as long as the window. The library has no heap, no global state and no files: what it knows
- * of a watch stands in these bytes, so a watch may be copied, stored and moved, and different watches may be used from different threads.
+ * A watch is two buffers of the caller's: a record of WATCH_RECORD_BYTES and a window of 40 to 40,960 bytes, a
+ * multiple of 40 (one frontier has 40). Take borrows a third, the scratch, as long as the window. The library has no
+ * heap, no global state and no files: what it knows of a watch stands in these bytes, so a watch may be copied, stored
+ * and moved, and different watches may be used from different threads.
  *
  * What a caller has to keep, of every call:
  *   - each pointer is valid for the length given with it; where the length is 0 it may be anything, also NULL;
  *   - no two lent buffers of one call overlap;
  *   - nobody else reads or writes them until the call returns. The library keeps no pointer after that.
- * No alignment is asked. Nothing else is required: any number and any bytes are fine, and what cannot be used is refused by a number.
- * Every call ends, writes nothing outside the buffers it was lent, and needs little stack (WATCH_STACK_BYTES). x86-64 only.
+ * No alignment is asked. Nothing else is required: any number and any bytes are fine, and what cannot be used is
+ * refused by a number. Every call ends, writes nothing outside the buffers it was lent, and needs little stack
+ * (WATCH_STACK_BYTES). x86-64 only.
  *
- * Processes are numbered from 0, at most eight. A word of labels has process p's byte at bits 8p to 8p + 7, of which bit b says whether
- * proposition b holds there. A clock is two words: counts of processes 0 to 3 and of 4 to 7, 16 bits each, the lower process lower. */
+ * Processes are numbered from 0, at most eight. A word of labels has process p's byte at bits 8p to 8p + 7, of which
+ * bit b says whether proposition b holds there. A clock is two words: counts of processes 0 to 3 and of 4 to 7, 16
+ * bits each, the lower process lower. */
 #ifndef WATCH_H
 #define WATCH_H
 
@@ -22,6 +25,9 @@
 #ifdef __cplusplus
 extern "C" {
 #endif
+
+#define WATCH_VERSION "0.2.0"    /* of this header and of the library that it was installed with */
+#define WATCH_VERSION_NUMBER 200 /* the same as a number: 10000 major + 100 minor + patch */
 
 #define WATCH_PROCESSES 8        /* at most so many processes */
 #define WATCH_LINES 64           /* a rule has at most so many lines */
@@ -52,37 +58,44 @@ enum {
     WATCH_NO_ROOM = 36      /* take: events are ready but none fits; lend a longer window */
 };
 
-/* A reply is one word: number, flag, value and place. The number is 0 if the call was accepted, else the refusal; a refusal has flag 0,
- * value 0 and the place of the fault in the rule's text (0 where there is none). */
+/* A reply is one word: number, flag, value and place. The number is 0 if the call was accepted, else the refusal; a
+ * refusal has flag 0, value 0 and the place of the fault in the rule's text (0 where there is none). */
 static inline unsigned watch_number(uint64_t reply) { return (unsigned)(reply & 255); }
 static inline unsigned watch_flag(uint64_t reply) { return (unsigned)(reply >> 8 & 255); }
 static inline unsigned watch_value(uint64_t reply) { return (unsigned)(reply >> 16 & 65535); }
 static inline uint32_t watch_place(uint64_t reply) { return (uint32_t)(reply >> 32); }
 
-/* Opens a watch of k processes with a rule and each process's labels at the start. Writes every byte of record and window.
+/* Opens a watch of k processes with a rule and each process's labels at the start.
+ * Writes every byte of record and window.
  * Accepted: flag is the rule's truth at the start, value 1 (one frontier).
- * Refused, in this order: 6 record or window, 5, 9, then the first fault of the text, 1 to 4, with its place. Writes nothing then.
- * A rule: (at p b) (not F) (and F F) (or F F) (true) (false) (ey F) (ay F) (ep F) (ap F) (eh F) (ah F) (es F F) (as F F). */
+ * Refused, in this order: 6 record or window, 5, 9, then the first fault of the text, 1 to 4, with its place.
+ * Writes nothing then.
+ * A rule: (at p b) (not F) (and F F) (or F F) (true) (false)
+ *         (ey F) (ay F) (ep F) (ap F) (eh F) (ah F) (es F F) (as F F). */
 uint64_t watch_open(const uint8_t *rule, size_t rule_len, uint64_t k, uint64_t start_labels,
                     uint8_t *record, size_t record_len, uint8_t *window, size_t window_len);
 
-/* Offers an event: bit p of the mask says that process p took part, its clock counts each process's events in its history, itself
- * included, its labels hold afterwards. In any order: an event that comes early is pending until take can take it.
+/* Offers an event: bit p of the mask says that process p took part, its clock counts each process's events in its
+ * history, itself included, its labels hold afterwards. In any order: an event that comes early is pending until take
+ * can take it.
  * Accepted: value is the number of pending events, this one among them. Writes the record only.
  * Refused, in this order: 6 record, 34, 7, 8, 9, 31, 32, 33. Writes nothing then. */
 uint64_t watch_offer(uint64_t mask, uint64_t clock_low, uint64_t clock_high, uint64_t labels,
                      uint8_t *record, size_t record_len);
 
-/* Takes one pending event that is ready, the one of the lowest process first, of those whose frontiers fit into the window.
- * Accepted: flag is the rule's truth at the largest cut, value the number of frontiers kept (never 0); the counts that the verdict is
- * for are the record's (watch_taken). The whole reply is 0 if nothing is ready: record and window are as they were.
- * Refused: 6 any buffer, or 34: nothing is written. 35: the event left, window and counts are as they were. 36: nothing changed.
- * The window may be longer than at the call before, if the new bytes are 0. The scratch may hold anything and is all 0 afterwards, unless
- * the refusal was 6 or 34. */
+/* Takes one pending event that is ready, the one of the lowest process first, of those whose frontiers fit the window.
+ * Accepted: flag is the rule's truth at the largest cut, value the number of frontiers kept (never 0); the counts
+ * that the verdict is for are the record's (watch_taken). The whole reply is 0 if nothing is ready: record and window
+ * are as they were.
+ * Refused: 6 any buffer, or 34: nothing is written. 35: the event left, window and counts are as they were.
+ * 36: nothing changed.
+ * The window may be longer than at the call before, if the new bytes are 0. The scratch may hold anything and is all
+ * 0 afterwards, unless the refusal was 6 or 34. */
 uint64_t watch_take(uint8_t *record, size_t record_len, uint8_t *window, size_t window_len,
                     uint8_t *scratch, size_t scratch_len);
 
-/* Finds a kept frontier at which a line of the rule holds. Lines count from 0, the last is the rule (watch_lines - 1). Writes nothing.
+/* Finds a kept frontier at which a line of the rule holds. Lines count from 0, the last is the rule
+ * (watch_lines - 1). Writes nothing.
  * Accepted: flag 1 and the frontier's place in the window as value, or flag 0 if there is none.
  * Refused, in this order: 6 record or window, 34, 11. */
 uint64_t watch_find(uint64_t line, const uint8_t *record, size_t record_len,
@@ -90,7 +103,8 @@ uint64_t watch_find(uint64_t line, const uint8_t *record, size_t record_len,
 
 static inline unsigned watch_bytes2(const uint8_t *at) { return at[0] | (unsigned)at[1] << 8; }
 
-/* Of a record that open wrote: lines of the rule, pending events, frontiers kept, and how many events of process p (0 to 7) were taken. */
+/* Of a record that open wrote: lines of the rule, pending events, frontiers kept, and how many events of process p
+ * (0 to 7) were taken. */
 static inline unsigned watch_lines(const uint8_t *record) { return record[1]; }
 static inline unsigned watch_pending(const uint8_t *record) { return record[2]; }
 static inline unsigned watch_kept(const uint8_t *record) { return watch_bytes2(record + 4); }
