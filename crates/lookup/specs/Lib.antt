@@ -7,3 +7,5 @@ pub mod Seek
 pub mod OrderLaws
 pub mod SeekLaws
 pub mod KeyLaws
+-- What the functions' contracts cite
+pub mod OrderCode

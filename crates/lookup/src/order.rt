@@ -2,19 +2,29 @@
 
 ghost use mathlib.Core.Path.{_≡_};
 ghost use Rattle.lookup.specs.Order.{before, same};
+ghost use Rattle.lookup.specs.OrderCode.{FirstDifference};
+
+// The first process at which counts differ; 8 for none.
+fn first_difference(a: [u32; 8], b: [u32; 8]) -> usize
+    ensures { λ r. ⌜ FirstDifference a b r ⌝ }
+{
+    let mut p = 0;
+    while p < 8 {
+        if a[p] != b[p] {
+            return p;
+        }
+        p = p + 1;
+    }
+    p
+}
 
 // Whether counts stand before others.
 pub fn counts_before(a: [u32; 8], b: [u32; 8]) -> bool
     ensures { λ r. ⌜ r ≡ before a b ⌝ }
 {
-    let mut p = 0;
-    while p < 8 {
-        let x = a[p];
-        let y = b[p];
-        if x != y {
-            return x < y;
-        }
-        p = p + 1;
+    let p = first_difference(a, b);
+    if p < 8 {
+        return a[p] < b[p];
     }
     false
 }
@@ -23,12 +33,8 @@ pub fn counts_before(a: [u32; 8], b: [u32; 8]) -> bool
 pub fn counts_same(a: [u32; 8], b: [u32; 8]) -> bool
     ensures { λ r. ⌜ r ≡ same a b ⌝ }
 {
-    let mut p = 0;
-    while p < 8 {
-        if a[p] != b[p] {
-            return false;
-        }
-        p = p + 1;
+    if first_difference(a, b) < 8 {
+        return false;
     }
     true
 }

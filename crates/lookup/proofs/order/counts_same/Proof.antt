@@ -1,72 +1,25 @@
--- Below p the counts are equal, so that the comparison is that of what follows.
-use Prim.Native.Nat.{_≤_, _-_}
+-- The counts are the same where there is no difference.
 use native.Mathlib.Omega.{arith}
-use mathlib.Core.Path.{_≡_}
-use lib.ListN.{length, drop}
+use mathlib.Core.Path.{sym, _∙_}
 use borrow.Author.Needs.{needs}
-use Rattle.lookup.specs.OrderLaws.{same-drop-equal, same-drop-other, same-drop-end}
-use Rattle.lookup.specs.Order.{same}
+use Rattle.lookup.specs.OrderLaws.{same-drop-other, same-drop-end}
 use Rattle.lookup.proofs.order.counts_same.Statement.{statement}
 use Rattle.lookup.proofs.order.counts_same.Tie as tie
 
-abbrev Inv-loop : tie.InvT-loop
-Inv-loop a b p₀ p = (p ≤ 8) × (length a ≡ 8) × (length b ≡ 8) × (same a b ≡ same (drop p a) (drop p b))
+first-difference-requires : tie.Need-first-difference-requires
+first-difference-requires c κs = search needs
 
-abbrev μ-loop : tie.MeasureT-loop
-μ-loop a b p₀ p = 8 - p
-
-loop-holds : tie.Need-loop-holds Inv-loop μ-loop
-loop-holds c = search needs
-
-mul-if1 : tie.Need-mul-if1 Inv-loop μ-loop
-mul-if1 c = search needs
-
-array-read-if1 : tie.Need-array-read-if1 Inv-loop μ-loop
-array-read-if1 c = search needs
-
-mul-if1-2 : tie.Need-mul-if1-2 Inv-loop μ-loop
-mul-if1-2 c = search needs
-
-array-read-if1-2 : tie.Need-array-read-if1-2 Inv-loop μ-loop
-array-read-if1-2 c = search needs
-
-returns : tie.Need-returns Inv-loop μ-loop
+returns : tie.Need-returns
 returns c =
-    let a = c .before .before .before .args in
-    let p = c .before .before .loop .p in
-    cc (same-drop-other (a .t1) (a .t2) p (search needs) (search needs) (c .if1 .taken))
+    let a = c .before .before .args in
+    let d = c .before .first-difference in
+    sym (d .ensures .same-there ∙ same-drop-other (a .a) (a .b) (d .result) (search needs) (search needs) (d .ensures .differs (c .if1 .taken)))
 
-add-p : tie.Need-add-p Inv-loop μ-loop
-add-p c = search needs
-
-loop-less : tie.Need-loop-less Inv-loop μ-loop
-loop-less c = search needs
-
-loop-again : tie.Need-loop-again Inv-loop μ-loop
-loop-again c =
-    let a = c .before .before .before .args in
-    let p = c .before .before .loop .p in
-    (search needs, search needs, search needs, cc (same-drop-equal (a .t1) (a .t2) p (search needs) (search needs) (c .if1 .left)))
-
-returns-2 : tie.Need-returns-2 Inv-loop μ-loop
+returns-2 : tie.Need-returns-2
 returns-2 c =
     let a = c .before .before .args in
-    let all : c .before .loop .p ≡ 8 = omega arith in
-    cc (same-drop-end (a .t1) (a .t2) 8 (search needs) (search needs))
+    let d = c .before .first-difference in
+    sym (d .ensures .same-there ∙ same-drop-end (a .a) (a .b) (d .result) (search needs) (search needs))
 
 pub counts-same-spec : {M : Type 1} → statement M
-counts-same-spec =
-    tie.close
-    (tie.spec
-    Inv-loop
-    μ-loop
-    loop-holds
-    mul-if1
-    array-read-if1
-    mul-if1-2
-    array-read-if1-2
-    returns
-    add-p
-    loop-less
-    loop-again
-    returns-2)
+counts-same-spec = tie.close (tie.spec first-difference-requires returns returns-2)
