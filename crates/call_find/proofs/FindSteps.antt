@@ -48,4 +48,3 @@ find-further-four w line window kept i l h =
 
     further : (j k : ℕ) → j < kept → j + 1 ≡ k → bit (v j) line ≡ false → replyFrom w line window kept j ≡ replyFrom w line window kept k
     further j k b q e = find-further w line window kept j b e ∙ ap (replyFrom w line window kept) q
-

@@ -11,7 +11,6 @@ use Rattle.answers.specs.Answer.{replyWord}
 abbrev pub replyFrom : ℕ → ℕ → List ℕ → ℕ → ℕ → ℕ
 replyFrom w line window kept i = replyWord (findFrom line i (drop i (frontiers w window kept)))
 
-
 -- The bits that any of four frontiers has in its values, from number i on.
 abbrev pub fourValues : ℕ → List ℕ → ℕ → ℕ
 fourValues w window i =

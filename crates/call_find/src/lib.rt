@@ -93,21 +93,21 @@ pub fn find_first(w: usize, line: u32, window: &[u8], kept: usize) -> u64
 }
 
 // Finds the first kept frontier at which a line holds: the reply.
-pub fn find(w: usize, line: u64, s: &[u8], window: &[u8]) -> u64
+pub fn find(w: usize, line: u64, record: &[u8], window: &[u8]) -> u64
     requires { ⌜ Width w ⌝ }
-    ensures { λ r. ⌜ r ≡ replyWord (findCall w line (now (s .entry)) (now (window .entry))) ⌝ }
+    ensures { λ r. ⌜ r ≡ replyWord (findCall w line (now («record» .entry)) (now (window .entry))) ⌝ }
 {
-    if bad_record_length(w, s.len()) {
+    if bad_record_length(w, record.len()) {
         return LENGTH;
     }
     if bad_window_length(w, window.len()) {
         return LENGTH;
     }
-    if bad_state(s, w, room_of(w, window.len())) {
+    if bad_state(record, w, room_of(w, window.len())) {
         return STATE;
     }
-    if line_total(s) as u64 <= line {
+    if line_total(record) as u64 <= line {
         return NO_SUCH_LINE;
     }
-    find_first(w, line as u32, window, kept_count(s) as usize)
+    find_first(w, line as u32, window, kept_count(record) as usize)
 }

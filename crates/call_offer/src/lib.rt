@@ -40,16 +40,16 @@ fn offered_event(mask: u64, clock: [u32; 8], labels: [u8; 8]) -> Event
 }
 
 // The place of an event among the pending ones: behind those whose key is before its own.
-pub fn place_among(s: &[u8], w: usize, e: Event) -> usize
+pub fn place_among(record: &[u8], w: usize, e: Event) -> usize
     requires { ⌜ Width w ⌝ }
-    requires { ⌜ length (now s) ≡ recordLength w ⌝ }
-    requires { ⌜ pendingCount (now s) ≤ 32 ⌝ }
-    ensures { λ r. ⌜ (r ≡ placeAmong e (pendingEvents w (now (s .entry)))) × (r ≤ pendingCount (now (s .entry))) ⌝ }
+    requires { ⌜ length (now «record») ≡ recordLength w ⌝ }
+    requires { ⌜ pendingCount (now «record») ≤ 32 ⌝ }
+    ensures { λ r. ⌜ (r ≡ placeAmong e (pendingEvents w (now («record» .entry)))) × (r ≤ pendingCount (now («record» .entry))) ⌝ }
 {
-    let n = pending_count(s);
+    let n = pending_count(record);
     let mut i = 0;
     while i < n {
-        let f = pending_event(s, w, i);
+        let f = pending_event(record, w, i);
         if !clocks::order::key_before(clocks::order::key(f), clocks::order::key(e)) {
             return i;
         }
@@ -72,43 +72,43 @@ fn pending_fault(conflict: bool, full: bool) -> u64
 }
 
 // The number that an offer is turned back with, in their order; 0 for none.
-pub fn offer_fault(w: usize, mask: u64, clock: [u32; 8], labels: [u8; 8], s: &[u8]) -> u64
+pub fn offer_fault(w: usize, mask: u64, clock: [u32; 8], labels: [u8; 8], record: &[u8]) -> u64
     requires { ⌜ Width w ⌝ }
-    ensures { λ r. ⌜ r ≡ offerFault w mask clock labels (now (s .entry)) ⌝ }
+    ensures { λ r. ⌜ r ≡ offerFault w mask clock labels (now («record» .entry)) ⌝ }
 {
-    if bad_record_length(w, s.len()) {
+    if bad_record_length(w, record.len()) {
         return LENGTH;
     }
-    if bad_state(s, w, FRONTIERS) {
+    if bad_state(record, w, FRONTIERS) {
         return STATE;
     }
-    let fault = clocks::refusal::event_fault(process_count(s), mask, clock, labels);
+    let fault = clocks::refusal::event_fault(process_count(record), mask, clock, labels);
     if fault != 0 {
         return fault;
     }
     let e = offered_event(mask, clock, labels);
-    if already_taken(e, taken_counts(s, w)) {
+    if already_taken(e, taken_counts(record, w)) {
         return TAKEN;
     }
-    let conflict = conflicting(s, w, e);
-    let full = PENDING <= pending_count(s);
+    let conflict = conflicting(record, w, e);
+    let full = PENDING <= pending_count(record);
     pending_fault(conflict, full)
 }
 
 // Offers an event: the reply, and the record's bytes after it.
-pub fn offer(w: usize, mask: u64, clock: [u32; 8], labels: [u8; 8], s: &mut [u8]) -> u64
+pub fn offer(w: usize, mask: u64, clock: [u32; 8], labels: [u8; 8], record: &mut [u8]) -> u64
     requires { ⌜ Width w ⌝ }
     requires { ⌜ ((p : ℕ) → at clock p < 256 ^ w) ⌝ }
-    ensures reply { λ r. ⌜ r ≡ replyWord (offerCall w mask clock labels (now (s .entry)) .answer) ⌝ }
-    ensures bytes { λ r. ⌜ now (s .exit) ≡ offerCall w mask clock labels (now (s .entry)) .bytes ⌝ }
+    ensures reply { λ r. ⌜ r ≡ replyWord (offerCall w mask clock labels (now («record» .entry)) .answer) ⌝ }
+    ensures bytes { λ r. ⌜ now («record» .exit) ≡ offerCall w mask clock labels (now («record» .entry)) .bytes ⌝ }
 {
-    let fault = offer_fault(w, mask, clock, labels, s);
+    let fault = offer_fault(w, mask, clock, labels, record);
     if fault != 0 {
         return fault;
     }
     let e = offered_event(mask, clock, labels);
-    let n = pending_count(s);
-    let i = place_among(s, w, e);
-    insert_event(s, w, i, e);
+    let n = pending_count(record);
+    let i = place_among(record, w, e);
+    insert_event(record, w, i, e);
     65536 * ((n + 1) as u64)
 }

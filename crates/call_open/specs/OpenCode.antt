@@ -13,7 +13,6 @@ unfoldable pub openFault : ℕ → ℕ → List ℕ → ℕ → ℕ → ℕ
 openFault w k labels recordBytes windowBytes =
     cond (badRecordLength w recordBytes || badWindowLength w windowBytes) 6 (cond (badProcesses k) 5 (cond (badStart k labels) 9 0))
 
-
 -- The cut of zeros, with its labels and values.
 abbrev pub zerosJudged : List ℕ → ℕ → List Frontier
 zerosJudged labels values = record { counts = replicate 8 0; labels = labels; masks = replicate 8 0; values = values } ∷ []

@@ -25,21 +25,21 @@ ghost use Rattle.answers.specs.Answer.{replyWord};
 ghost use Rattle.call_open.specs.OpenCode.{zerosJudged, openFault};
 
 // Writes the record of a new watch: the number of processes, the table's first lines, one frontier kept.
-pub fn write_record(s: &mut [u8], w: usize, k: u32, table: &[u8], lines: u32)
+pub fn write_record(record: &mut [u8], w: usize, k: u32, table: &[u8], lines: u32)
     requires { ⌜ Width w ⌝ }
-    requires { ⌜ length (now s) ≡ recordLength w ⌝ }
+    requires { ⌜ length (now «record») ≡ recordLength w ⌝ }
     requires { ⌜ k ≤ 8 ⌝ }
     requires { ⌜ lines ≤ 64 ⌝ }
     requires { ⌜ 3 * lines ≤ length (now table) ⌝ }
-    ensures { λ r. ⌜ now (s .exit) ≡ firstRecord w k (linesOf (now (table .entry)) lines) ⌝ }
+    ensures { λ r. ⌜ now («record» .exit) ≡ firstRecord w k (linesOf (now (table .entry)) lines) ⌝ }
 {
-    let all = s.len();
+    let all = record.len();
     let place = table_place(w);
-    clear(s, 0, all);
-    s[0] = k as u8;
-    s[1] = lines as u8;
-    codec::write_u32(s, 4, 1);
-    copy_in(s, place, table, 3 * (lines as usize));
+    clear(record, 0, all);
+    record[0] = k as u8;
+    record[1] = lines as u8;
+    codec::write_u32(record, 4, 1);
+    copy_in(record, place, table, 3 * (lines as usize));
 }
 
 // Writes the window of a new watch: the cut of zeros, with its labels and values.
@@ -71,21 +71,21 @@ pub fn open_table(
     labels: [u8; 8],
     table: &[u8],
     lines: u32,
-    s: &mut [u8],
+    record: &mut [u8],
     window: &mut [u8],
 ) -> u64
     requires { ⌜ Width w ⌝ }
-    requires { ⌜ length (now s) ≡ recordLength w ⌝ }
+    requires { ⌜ length (now «record») ≡ recordLength w ⌝ }
     requires { ⌜ frontierLength w ≤ length (now window) ⌝ }
     requires { ⌜ k ≤ 8 ⌝ }
     requires { ⌜ (1 ≤ lines) × (lines ≤ 64) ⌝ }
     requires { ⌜ 3 * lines ≤ length (now table) ⌝ }
     ensures reply { λ r. ⌜ r ≡ replyWord (openTable w (linesOf (now (table .entry)) lines) k labels (length (now (window .entry))) .answer) ⌝ }
-    ensures bytes { λ r. ⌜ now (s .exit) ≡ openTable w (linesOf (now (table .entry)) lines) k labels (length (now (window .entry))) .bytes ⌝ }
+    ensures bytes { λ r. ⌜ now («record» .exit) ≡ openTable w (linesOf (now (table .entry)) lines) k labels (length (now (window .entry))) .bytes ⌝ }
     ensures window { λ r. ⌜ now (window .exit) ≡ openTable w (linesOf (now (table .entry)) lines) k labels (length (now (window .entry))) .window ⌝ }
 {
     let values = pactl::judging::judge(table, lines, labels, 0, 0, false);
-    write_record(s, w, k, table, lines);
+    write_record(record, w, k, table, lines);
     write_window(window, w, labels, values);
     state_word(codec::has_bit(values, lines - 1), 1)
 }
@@ -111,13 +111,20 @@ pub fn open_fault(w: usize, k: u64, labels: [u8; 8], n: usize, m: usize) -> u64
 }
 
 // Opens a watch with a rule's text: the reply, and the bytes of record and window after it.
-pub fn open(w: usize, rule: &[u8], k: u64, labels: [u8; 8], s: &mut [u8], window: &mut [u8]) -> u64
+pub fn open(
+    w: usize,
+    rule: &[u8],
+    k: u64,
+    labels: [u8; 8],
+    record: &mut [u8],
+    window: &mut [u8],
+) -> u64
     requires { ⌜ Width w ⌝ }
-    ensures reply { λ r. ⌜ r ≡ replyWord (openCall w (now (rule .entry)) k labels (now (s .entry)) (now (window .entry)) .answer) ⌝ }
-    ensures bytes { λ r. ⌜ now (s .exit) ≡ openCall w (now (rule .entry)) k labels (now (s .entry)) (now (window .entry)) .bytes ⌝ }
-    ensures window { λ r. ⌜ now (window .exit) ≡ openCall w (now (rule .entry)) k labels (now (s .entry)) (now (window .entry)) .window ⌝ }
+    ensures reply { λ r. ⌜ r ≡ replyWord (openCall w (now (rule .entry)) k labels (now («record» .entry)) (now (window .entry)) .answer) ⌝ }
+    ensures bytes { λ r. ⌜ now («record» .exit) ≡ openCall w (now (rule .entry)) k labels (now («record» .entry)) (now (window .entry)) .bytes ⌝ }
+    ensures window { λ r. ⌜ now (window .exit) ≡ openCall w (now (rule .entry)) k labels (now («record» .entry)) (now (window .entry)) .window ⌝ }
 {
-    let fault = open_fault(w, k, labels, s.len(), window.len());
+    let fault = open_fault(w, k, labels, record.len(), window.len());
     if fault != 0 {
         return fault;
     }
@@ -125,6 +132,14 @@ pub fn open(w: usize, rule: &[u8], k: u64, labels: [u8; 8], s: &mut [u8], window
     let read = rules::reading::read_rule(rule, k as u32, &mut table);
     match read {
         RuleRead::Refused { number, place } => turned_word(number, place),
-        RuleRead::Accepted { lines } => open_table(w, k as u32, labels, &table, lines, s, window),
+        RuleRead::Accepted { lines } => open_table(
+            w,
+            k as u32,
+            labels,
+            &table,
+            lines,
+            record,
+            window,
+        ),
     }
 }

@@ -18,7 +18,6 @@ use Rattle.refusals.specs.Refusals.{badRecordLength, badWindowLength, roomOf, b
 unfoldable pub takeFault : ℕ → List ℕ → ℕ → ℕ → ℕ
 takeFault w s n m = cond (badRecordLength w (length s) || (badWindowLength w n || not (eqb m n))) 6 (cond (badState w (roomOf w n) s) 34 0)
 
-
 -- A decision as the code has it: with an event to take comes how many frontiers are kept then.
 unfoldable pub choiceFor : ℕ → List ℕ → List Frontier → Decision → Choice
 choiceFor w s fs (undecided seen) = Undecided seen

@@ -6,11 +6,10 @@ ghost use Prim.Native.Nat.{_+_, max};
 ghost use mathlib.Core.Path.{_≡_};
 ghost use lib.Dec.{eqb};
 ghost use Rattle.codec.specs.Bit.{bit};
-ghost use Rattle.clocks.specs.Event.{one};
+ghost use Rattle.clocks.specs.Event.{one, upper};
 ghost use Rattle.clocks.specs.Valid.{joinTo};
 ghost use Rattle.clocks.specs.ValidTest.{validBy};
 ghost use Rattle.clocks.specs.Counts.{at, listOf, rows};
-ghost use Rattle.clocks.specs.cuts.Lattice.{upper};
 
 // The larger of two counts.
 fn larger_count(a: u32, b: u32) -> u32

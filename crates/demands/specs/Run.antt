@@ -8,7 +8,6 @@ use lib.ListN.{length, replicate}
 use Rattle.clocks.specs.declared.Event.{Event}
 use Rattle.frontiers.specs.Bytes.{frontiers}
 use Rattle.clocks.specs.Counts.{at}
-use Rattle.clocks.specs.cuts.Lattice.{zeros}
 use Rattle.call_find.specs.Find.{findCall}
 use Rattle.call_take.specs.Take.{Decision, tried, takeCall, undecided, false-clock, chosen}
 use Rattle.records.specs.Record.{keptCount, pendingAt, pendingEvents}
@@ -18,6 +17,7 @@ use Rattle.answers.specs.Answer.{Answer, turnedBack, state, nothingReady, held,
 use Rattle.call_offer.specs.Offer.{placeAmong, offeredEvent, offerCall}
 use Rattle.demands.specs.Ledger.{Ledger}
 use Rattle.demands.specs.Status.{insertAt, removeAt}
+use Rattle.clocks.specs.Event.{zeros}
 
 -- A call: an offer of an event by its mask, clock and labels; a take, lent the window with so many zeros appended, and a scratch of any
 -- length and content; a find of a line.

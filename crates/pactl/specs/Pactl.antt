@@ -14,7 +14,6 @@ pub data Pactl : Type 0 where
   -- A(φ S ψ)
   allSince : Pactl → Pactl → Pactl
 
-
 -- φ ∨ ψ = ¬(¬φ ∧ ¬ψ) (source 000, section 2: additional operators; so are the next seven).
 unfoldable pub disjunction : Pactl → Pactl → Pactl
 disjunction x y = negation (conjunction (negation x) (negation y))

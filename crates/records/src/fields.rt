@@ -8,65 +8,65 @@ ghost use Rattle.frontiers.specs.Width.{Width};
 ghost use Rattle.records.specs.Record.{tablePlace, eventLength, pendingPlace, recordLength, processCount, lineTotal, pendingCount, keptCount, takenCounts, lastClocks, pendingAt};
 
 // A byte of the record.
-fn byte(s: &[u8], at: usize) -> u32
-    requires { ⌜ at < length (now s) ⌝ }
-    ensures { λ r. ⌜ (r ≡ getD (now (s .entry)) at 0) × (r < 256) ⌝ }
+fn byte(record: &[u8], at: usize) -> u32
+    requires { ⌜ at < length (now «record») ⌝ }
+    ensures { λ r. ⌜ (r ≡ getD (now («record» .entry)) at 0) × (r < 256) ⌝ }
 {
-    codec::wide(s[at]) as u32
+    codec::wide(record[at]) as u32
 }
 
 // The number of processes.
-pub fn process_count(s: &[u8]) -> u32
-    requires { ⌜ 8 ≤ length (now s) ⌝ }
-    ensures { λ r. ⌜ (r ≡ processCount (now (s .entry))) × (r < 256) ⌝ }
+pub fn process_count(record: &[u8]) -> u32
+    requires { ⌜ 8 ≤ length (now «record») ⌝ }
+    ensures { λ r. ⌜ (r ≡ processCount (now («record» .entry))) × (r < 256) ⌝ }
 {
-    byte(s, 0)
+    byte(record, 0)
 }
 
 // The number of the table's lines.
-pub fn line_total(s: &[u8]) -> u32
-    requires { ⌜ 8 ≤ length (now s) ⌝ }
-    ensures { λ r. ⌜ (r ≡ lineTotal (now (s .entry))) × (r < 256) ⌝ }
+pub fn line_total(record: &[u8]) -> u32
+    requires { ⌜ 8 ≤ length (now «record») ⌝ }
+    ensures { λ r. ⌜ (r ≡ lineTotal (now («record» .entry))) × (r < 256) ⌝ }
 {
-    byte(s, 1)
+    byte(record, 1)
 }
 
 // The number of pending events.
-pub fn pending_count(s: &[u8]) -> usize
-    requires { ⌜ 8 ≤ length (now s) ⌝ }
-    ensures { λ r. ⌜ (r ≡ pendingCount (now (s .entry))) × (r < 256) ⌝ }
+pub fn pending_count(record: &[u8]) -> usize
+    requires { ⌜ 8 ≤ length (now «record») ⌝ }
+    ensures { λ r. ⌜ (r ≡ pendingCount (now («record» .entry))) × (r < 256) ⌝ }
 {
-    byte(s, 2) as usize
+    byte(record, 2) as usize
 }
 
 // The number of kept frontiers.
-pub fn kept_count(s: &[u8]) -> u32
-    requires { ⌜ 8 ≤ length (now s) ⌝ }
-    ensures { λ r. ⌜ r ≡ keptCount (now (s .entry)) ⌝ }
+pub fn kept_count(record: &[u8]) -> u32
+    requires { ⌜ 8 ≤ length (now «record») ⌝ }
+    ensures { λ r. ⌜ r ≡ keptCount (now («record» .entry)) ⌝ }
 {
-    codec::read_u32(s, 4)
+    codec::read_u32(record, 4)
 }
 
 // The taken counts.
-pub fn taken_counts(s: &[u8], w: usize) -> [u32; 8]
+pub fn taken_counts(record: &[u8], w: usize) -> [u32; 8]
     requires { ⌜ Width w ⌝ }
-    requires { ⌜ 8 + 8 * w ≤ length (now s) ⌝ }
-    ensures { λ r. ⌜ r ≡ takenCounts w (now (s .entry)) ⌝ }
+    requires { ⌜ 8 + 8 * w ≤ length (now «record») ⌝ }
+    ensures { λ r. ⌜ r ≡ takenCounts w (now («record» .entry)) ⌝ }
 {
-    frontiers::counts::read_counts(s, 8, w)
+    frontiers::counts::read_counts(record, 8, w)
 }
 
 // The clock of each process's last event.
-pub fn last_clocks(s: &[u8], w: usize) -> [[u32; 8]; 8]
+pub fn last_clocks(record: &[u8], w: usize) -> [[u32; 8]; 8]
     requires { ⌜ Width w ⌝ }
-    requires { ⌜ 8 + 72 * w ≤ length (now s) ⌝ }
-    ensures { λ r. ⌜ r ≡ lastClocks w (now (s .entry)) ⌝ }
+    requires { ⌜ 8 + 72 * w ≤ length (now «record») ⌝ }
+    ensures { λ r. ⌜ r ≡ lastClocks w (now («record» .entry)) ⌝ }
 {
     let mut clocks = [[0u32; 8]; 8];
     let mut place = 8 + 8 * w;
     let mut p = 0;
     while p < 8 {
-        clocks[p] = frontiers::counts::read_counts(s, place, w);
+        clocks[p] = frontiers::counts::read_counts(record, place, w);
         place = place + 8 * w;
         p = p + 1;
     }
@@ -99,16 +99,16 @@ pub fn pending_place(w: usize, i: usize) -> usize
 }
 
 // Pending event number i.
-pub fn pending_event(s: &[u8], w: usize, i: usize) -> Event
+pub fn pending_event(record: &[u8], w: usize, i: usize) -> Event
     requires { ⌜ Width w ⌝ }
-    requires { ⌜ length (now s) ≡ recordLength w ⌝ }
+    requires { ⌜ length (now «record») ≡ recordLength w ⌝ }
     requires { ⌜ i < 32 ⌝ }
-    ensures { λ r. ⌜ r ≡ pendingAt w (now (s .entry)) i ⌝ }
+    ensures { λ r. ⌜ r ≡ pendingAt w (now («record» .entry)) i ⌝ }
 {
     let place = pending_place(w, i);
-    let mask = s[place];
-    let clock = frontiers::counts::read_counts(s, place + 8, w);
-    let labels = frontiers::stored::read_eight(s, place + 8 + 8 * w);
+    let mask = record[place];
+    let clock = frontiers::counts::read_counts(record, place + 8, w);
+    let labels = frontiers::stored::read_eight(record, place + 8 + 8 * w);
     Event {
         mask,
         clock,

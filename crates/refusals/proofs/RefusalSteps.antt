@@ -32,7 +32,6 @@ module _ (w : ℕ) (s : List ℕ) (e : Event) (i : ℕ) where
   unfolding conflicting anyOf pendingEvents
   conflict-none l = rw (rest-end (pendingCount s) (pendingAt w s) i l)
 
-
 -- ---- 34
 
 -- The table that is lent is the record's from its place on.

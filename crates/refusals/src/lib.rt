@@ -90,18 +90,24 @@ fn bad_numbers(k: u32, pending: usize, lines: u32, kept: usize, room: usize) -> 
 }
 
 // 34: the state of a watch that no calls left, where a window has so much room.
-pub fn bad_state(s: &[u8], w: usize, room: usize) -> bool
+pub fn bad_state(record: &[u8], w: usize, room: usize) -> bool
     requires { ⌜ Width w ⌝ }
-    requires { ⌜ length (now s) ≡ recordLength w ⌝ }
-    ensures { λ r. ⌜ r ≡ badState w room (now (s .entry)) ⌝ }
+    requires { ⌜ length (now «record») ≡ recordLength w ⌝ }
+    ensures { λ r. ⌜ r ≡ badState w room (now («record» .entry)) ⌝ }
 {
-    let k = process_count(s);
-    let lines = line_total(s);
-    if bad_numbers(k, pending_count(s), lines, kept_count(s) as usize, room) {
+    let k = process_count(record);
+    let lines = line_total(record);
+    if bad_numbers(
+        k,
+        pending_count(record),
+        lines,
+        kept_count(record) as usize,
+        room,
+    ) {
         return true;
     }
     let place = table_place(w);
-    !pactl::table::good_table(k, &s[place..], lines)
+    !pactl::table::good_table(k, &record[place..], lines)
 }
 
 // What 31 asks of one process: it takes part, and its count is taken.
@@ -162,16 +168,16 @@ pub fn conflicts(e: Event, f: Event) -> bool
 }
 
 // 32: a pending event has the same count at a common process.
-pub fn conflicting(s: &[u8], w: usize, e: Event) -> bool
+pub fn conflicting(record: &[u8], w: usize, e: Event) -> bool
     requires { ⌜ Width w ⌝ }
-    requires { ⌜ length (now s) ≡ recordLength w ⌝ }
-    requires { ⌜ pendingCount (now s) ≤ 32 ⌝ }
-    ensures { λ r. ⌜ r ≡ conditions.conflicting e (pendingEvents w (now (s .entry))) ⌝ }
+    requires { ⌜ length (now «record») ≡ recordLength w ⌝ }
+    requires { ⌜ pendingCount (now «record») ≤ 32 ⌝ }
+    ensures { λ r. ⌜ r ≡ conditions.conflicting e (pendingEvents w (now («record» .entry))) ⌝ }
 {
-    let n = pending_count(s);
+    let n = pending_count(record);
     let mut i = 0;
     while i < n {
-        if conflicts(e, pending_event(s, w, i)) {
+        if conflicts(e, pending_event(record, w, i)) {
             return true;
         }
         i += 1;

@@ -17,44 +17,44 @@ pub extern "C" fn watch_open(
     rule: &[u8],
     k: u64,
     labels: u64,
-    state: &mut [u8],
+    record: &mut [u8],
     window: &mut [u8],
 ) -> u64
-    ensures reply { λ r. ⌜ r ≡ replyWord (openCall 2 (now (rule .entry)) k (unpackLabels labels) (now (state .entry)) (now (window .entry)) .answer) ⌝ }
-    ensures bytes { λ r. ⌜ now (state .exit) ≡ openCall 2 (now (rule .entry)) k (unpackLabels labels) (now (state .entry)) (now (window .entry)) .bytes ⌝ }
-    ensures window { λ r. ⌜ now (window .exit) ≡ openCall 2 (now (rule .entry)) k (unpackLabels labels) (now (state .entry)) (now (window .entry)) .window ⌝ }
+    ensures reply { λ r. ⌜ r ≡ replyWord (openCall 2 (now (rule .entry)) k (unpackLabels labels) (now («record» .entry)) (now (window .entry)) .answer) ⌝ }
+    ensures bytes { λ r. ⌜ now («record» .exit) ≡ openCall 2 (now (rule .entry)) k (unpackLabels labels) (now («record» .entry)) (now (window .entry)) .bytes ⌝ }
+    ensures window { λ r. ⌜ now (window .exit) ≡ openCall 2 (now (rule .entry)) k (unpackLabels labels) (now («record» .entry)) (now (window .entry)) .window ⌝ }
 {
     let bytes = crate::words::unpack_labels(labels);
-    call_open::open(2, rule, k, bytes, state, window)
+    call_open::open(2, rule, k, bytes, record, window)
 }
 
 // Offers an event. Its clock is in two words, process p's count at bits 16p of the first or 16(p - 4) of the second; its labels are the
 // bytes of a word.
 #[no_mangle]
-pub extern "C" fn watch_offer(mask: u64, low: u64, high: u64, labels: u64, state: &mut [u8]) -> u64
-    ensures reply { λ r. ⌜ r ≡ replyWord (offerCall 2 mask (unpackCounts low high) (unpackLabels labels) (now (state .entry)) .answer) ⌝ }
-    ensures bytes { λ r. ⌜ now (state .exit) ≡ offerCall 2 mask (unpackCounts low high) (unpackLabels labels) (now (state .entry)) .bytes ⌝ }
+pub extern "C" fn watch_offer(mask: u64, low: u64, high: u64, labels: u64, record: &mut [u8]) -> u64
+    ensures reply { λ r. ⌜ r ≡ replyWord (offerCall 2 mask (unpackCounts low high) (unpackLabels labels) (now («record» .entry)) .answer) ⌝ }
+    ensures bytes { λ r. ⌜ now («record» .exit) ≡ offerCall 2 mask (unpackCounts low high) (unpackLabels labels) (now («record» .entry)) .bytes ⌝ }
 {
     let clock = crate::words::unpack_counts(low, high);
     let bytes = crate::words::unpack_labels(labels);
-    call_offer::offer(2, mask, clock, bytes, state)
+    call_offer::offer(2, mask, clock, bytes, record)
 }
 
 // Takes the first pending event that is decided on.
 #[no_mangle]
-pub extern "C" fn watch_take(state: &mut [u8], window: &mut [u8], scratch: &mut [u8]) -> u64
-    ensures reply { λ r. ⌜ r ≡ replyWord (takeCall 2 (now (state .entry)) (now (window .entry)) (now (scratch .entry)) .answer) ⌝ }
-    ensures bytes { λ r. ⌜ now (state .exit) ≡ takeCall 2 (now (state .entry)) (now (window .entry)) (now (scratch .entry)) .bytes ⌝ }
-    ensures window { λ r. ⌜ now (window .exit) ≡ takeCall 2 (now (state .entry)) (now (window .entry)) (now (scratch .entry)) .window ⌝ }
-    ensures scratch { λ r. ⌜ now (scratch .exit) ≡ takeCall 2 (now (state .entry)) (now (window .entry)) (now (scratch .entry)) .scratch ⌝ }
+pub extern "C" fn watch_take(record: &mut [u8], window: &mut [u8], scratch: &mut [u8]) -> u64
+    ensures reply { λ r. ⌜ r ≡ replyWord (takeCall 2 (now («record» .entry)) (now (window .entry)) (now (scratch .entry)) .answer) ⌝ }
+    ensures bytes { λ r. ⌜ now («record» .exit) ≡ takeCall 2 (now («record» .entry)) (now (window .entry)) (now (scratch .entry)) .bytes ⌝ }
+    ensures window { λ r. ⌜ now (window .exit) ≡ takeCall 2 (now («record» .entry)) (now (window .entry)) (now (scratch .entry)) .window ⌝ }
+    ensures scratch { λ r. ⌜ now (scratch .exit) ≡ takeCall 2 (now («record» .entry)) (now (window .entry)) (now (scratch .entry)) .scratch ⌝ }
 {
-    call_take::take(2, state, window, scratch)
+    call_take::take(2, record, window, scratch)
 }
 
 // Finds the place of the first kept frontier at which a line holds.
 #[no_mangle]
-pub extern "C" fn watch_find(line: u64, state: &[u8], window: &[u8]) -> u64
-    ensures { λ r. ⌜ r ≡ replyWord (findCall 2 line (now (state .entry)) (now (window .entry))) ⌝ }
+pub extern "C" fn watch_find(line: u64, record: &[u8], window: &[u8]) -> u64
+    ensures { λ r. ⌜ r ≡ replyWord (findCall 2 line (now («record» .entry)) (now (window .entry))) ⌝ }
 {
-    call_find::find(2, line, state, window)
+    call_find::find(2, line, record, window)
 }

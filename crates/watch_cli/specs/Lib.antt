@@ -2,4 +2,5 @@
 
 -- What a reader has to believe
 pub mod Answers
+
 -- What is proved of it

@@ -63,4 +63,3 @@ keptAfter-more k closed table lines e reached w bytes i =
     let a : length (filtered (stays s) (fs ++ (f ∷ []))) ≡ length (filtered (stays s) fs) + one (stays s f) = length-filtered-more (stays s) fs f in
     let b : length (filtered (enabledAt s) (fs ++ (f ∷ []))) ≡ length (filtered (enabledAt s) fs) + one (enabledAt s f) = length-filtered-more (enabledAt s) fs f in
     rw (add-one, frontiers-more w bytes i, a, b) (omega arith)
-

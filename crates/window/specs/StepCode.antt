@@ -45,4 +45,3 @@ pub record Fitting (w : ℕ) (e : Event) : Type 0 where
   pub mask-fits : e .mask < 256
   pub clock-fits : (p : ℕ) → at (e .clock) p < 256 ^ w
   pub labels-fit : Bytes (e .labels)
-

@@ -19,16 +19,16 @@ same-length c = search needs
 returns : tie.Need-returns
 returns c =
     let a = c .before .before .before .before .args in
-    offer-turned (a .w) (a .mask) (a .clock) (a .labels) (now (a .s)) (c .before .offer-fault .result) (c .before .offer-fault .ensures) (c .if1 .taken)
+    offer-turned (a .w) (a .mask) (a .clock) (a .labels) (now (a .«record»)) (c .before .offer-fault .result) (c .before .offer-fault .ensures) (c .if1 .taken)
 
 offered-event-requires : tie.Need-offered-event-requires
 offered-event-requires c κs = search needs
 
 -- What is known of an accepted offer's record.
-within : (c : tie.Else1) → (length (now (c .before .before .before .before .args .s)) ≡ recordLength (c .before .before .before .before .args .w)) × (pendingCount (now (c .before .before .before .before .args .s)) < 32)
+within : (c : tie.Else1) → (length (now (c .before .before .before .before .args .«record»)) ≡ recordLength (c .before .before .before .before .args .w)) × (pendingCount (now (c .before .before .before .before .args .«record»)) < 32)
 within c =
     let a = c .before .before .before .before .args in
-    offer-passed (a .w) (a .mask) (a .clock) (a .labels) (now (a .s)) (sym (c .before .offer-fault .ensures) ∙ c .if1 .left)
+    offer-passed (a .w) (a .mask) (a .clock) (a .labels) (now (a .«record»)) (sym (c .before .offer-fault .ensures) ∙ c .if1 .left)
 
 pending-count-requires : tie.Need-pending-count-requires
 pending-count-requires c κs = omega (arith, within (c .before .before) .0)
@@ -52,7 +52,7 @@ same-length-2 c = search needs
 returns-2 : tie.Need-returns-2
 returns-2 c =
     let a = c .before .before .before .before .before .before .before .before .before .before .before .before .before .args in
-    let both = offer-accepted (a .w) (a .mask) (a .clock) (a .labels) (now (a .s)) (sym (c .before .before .before .before .before .before .before .before .before .before .offer-fault .ensures) ∙ c .before .before .before .before .before .before .before .before .before .if1 .left) in
+    let both = offer-accepted (a .w) (a .mask) (a .clock) (a .labels) (now (a .«record»)) (sym (c .before .before .before .before .before .before .before .before .before .before .offer-fault .ensures) ∙ c .before .before .before .before .before .before .before .before .before .if1 .left) in
     (cc (both .0), cc (both .1))
 
 pub offer-spec : {M : Type 1} → statement M

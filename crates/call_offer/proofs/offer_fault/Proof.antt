@@ -24,29 +24,29 @@ bad-record-length-requires : tie.Need-bad-record-length-requires
 bad-record-length-requires c κs = search needs
 
 -- The tests that let the offer pass.
-length-passed : (c : tie.Else1) → badRecordLength (c .before .before .before .args .w) (length (now (c .before .before .before .args .s))) ≡ false
+length-passed : (c : tie.Else1) → badRecordLength (c .before .before .before .args .w) (length (now (c .before .before .before .args .«record»))) ≡ false
 length-passed c = sym (c .before .bad-record-length .ensures) ∙ c .if1 .left
 
-state-passed : (c : tie.Else2) → badState (c .before .before .before .before .before .args .w) 1024 (now (c .before .before .before .before .before .args .s)) ≡ false
+state-passed : (c : tie.Else2) → badState (c .before .before .before .before .before .args .w) 1024 (now (c .before .before .before .before .before .args .«record»)) ≡ false
 state-passed c = sym (c .before .bad-state .ensures) ∙ c .if2 .left
 
 -- The number of 7, 8 and 9 is that of the record's processes.
-event-read : (c : tie.After-event-fault) → eventFault (processCount (now (c .before .before .before .before .before .before .before .args .s))) (c .before .before .before .before .before .before .before .args .mask) (c .before .before .before .before .before .before .before .args .clock) (c .before .before .before .before .before .before .before .args .labels) ≡ c .event-fault .result
+event-read : (c : tie.After-event-fault) → eventFault (processCount (now (c .before .before .before .before .before .before .before .args .«record»))) (c .before .before .before .before .before .before .before .args .mask) (c .before .before .before .before .before .before .before .args .clock) (c .before .before .before .before .before .before .before .args .labels) ≡ c .event-fault .result
 event-read c = cc
 
-event-passed : (c : tie.Else3) → eqb (eventFault (processCount (now (c .before .before .before .before .before .before .before .before .args .s))) (c .before .before .before .before .before .before .before .before .args .mask) (c .before .before .before .before .before .before .before .before .args .clock) (c .before .before .before .before .before .before .before .before .args .labels)) 0 ≡ true
+event-passed : (c : tie.Else3) → eqb (eventFault (processCount (now (c .before .before .before .before .before .before .before .before .args .«record»))) (c .before .before .before .before .before .before .before .before .args .mask) (c .before .before .before .before .before .before .before .before .args .clock) (c .before .before .before .before .before .before .before .before .args .labels)) 0 ≡ true
 event-passed c = eq-eqb _ 0 (event-read (c .before) ∙ c .if3 .left)
 
-taken-read : (c : tie.After-already-taken) → alreadyTaken (offeredEvent (c .before .before .before .before .before .before .before .before .before .before .before .args .mask) (c .before .before .before .before .before .before .before .before .before .before .before .args .clock) (c .before .before .before .before .before .before .before .before .before .before .before .args .labels)) (at (takenCounts (c .before .before .before .before .before .before .before .before .before .before .before .args .w) (now (c .before .before .before .before .before .before .before .before .before .before .before .args .s)))) ≡ c .already-taken .result
+taken-read : (c : tie.After-already-taken) → alreadyTaken (offeredEvent (c .before .before .before .before .before .before .before .before .before .before .before .args .mask) (c .before .before .before .before .before .before .before .before .before .before .before .args .clock) (c .before .before .before .before .before .before .before .before .before .before .before .args .labels)) (at (takenCounts (c .before .before .before .before .before .before .before .before .before .before .before .args .w) (now (c .before .before .before .before .before .before .before .before .before .before .before .args .«record»)))) ≡ c .already-taken .result
 taken-read c =
     let a = c .before .before .before .before .before .before .before .before .before .before .before .args in
     let e = c .before .before .offered-event .result in
-    sym (c .already-taken .ensures ∙ ap (λ (l : List ℕ). alreadyTaken e (at l)) (c .before .taken-counts .ensures) ∙ ap (λ (f : Event). alreadyTaken f (at (takenCounts (a .w) (now (a .s))))) (c .before .before .offered-event .ensures))
+    sym (c .already-taken .ensures ∙ ap (λ (l : List ℕ). alreadyTaken e (at l)) (c .before .taken-counts .ensures) ∙ ap (λ (f : Event). alreadyTaken f (at (takenCounts (a .w) (now (a .«record»))))) (c .before .before .offered-event .ensures))
 
-taken-passed : (c : tie.Else4) → alreadyTaken (offeredEvent (c .before .before .before .before .before .before .before .before .before .before .before .before .args .mask) (c .before .before .before .before .before .before .before .before .before .before .before .before .args .clock) (c .before .before .before .before .before .before .before .before .before .before .before .before .args .labels)) (at (takenCounts (c .before .before .before .before .before .before .before .before .before .before .before .before .args .w) (now (c .before .before .before .before .before .before .before .before .before .before .before .before .args .s)))) ≡ false
+taken-passed : (c : tie.Else4) → alreadyTaken (offeredEvent (c .before .before .before .before .before .before .before .before .before .before .before .before .args .mask) (c .before .before .before .before .before .before .before .before .before .before .before .before .args .clock) (c .before .before .before .before .before .before .before .before .before .before .before .before .args .labels)) (at (takenCounts (c .before .before .before .before .before .before .before .before .before .before .before .before .args .w) (now (c .before .before .before .before .before .before .before .before .before .before .before .before .args .«record»)))) ≡ false
 taken-passed c = taken-read (c .before) ∙ c .if4 .left
 
-conflict-read : (c : tie.After-conflicting) → conflicting (offeredEvent (c .before .before .before .before .before .before .before .before .before .before .before .before .before .args .mask) (c .before .before .before .before .before .before .before .before .before .before .before .before .before .args .clock) (c .before .before .before .before .before .before .before .before .before .before .before .before .before .args .labels)) (pendingEvents (c .before .before .before .before .before .before .before .before .before .before .before .before .before .args .w) (now (c .before .before .before .before .before .before .before .before .before .before .before .before .before .args .s))) ≡ c .conflicting .result
+conflict-read : (c : tie.After-conflicting) → conflicting (offeredEvent (c .before .before .before .before .before .before .before .before .before .before .before .before .before .args .mask) (c .before .before .before .before .before .before .before .before .before .before .before .before .before .args .clock) (c .before .before .before .before .before .before .before .before .before .before .before .before .before .args .labels)) (pendingEvents (c .before .before .before .before .before .before .before .before .before .before .before .before .before .args .w) (now (c .before .before .before .before .before .before .before .before .before .before .before .before .before .args .«record»))) ≡ c .conflicting .result
 conflict-read c = cc
 
 returns : tie.Need-returns
@@ -54,17 +54,17 @@ unfolding offerFault
 returns c = rw (sym (c .before .bad-record-length .ensures) ∙ c .if1 .taken)
 
 bad-state-requires : tie.Need-bad-state-requires
-bad-state-requires c κs = (search needs, right-length (c .before .before .before .args .w) (length (now (c .before .before .before .args .s))) (length-passed c))
+bad-state-requires c κs = (search needs, right-length (c .before .before .before .args .w) (length (now (c .before .before .before .args .«record»))) (length-passed c))
 
 returns-2 : tie.Need-returns-2
 unfolding offerFault
 returns-2 c = rw (length-passed (c .before .before), sym (c .before .bad-state .ensures) ∙ c .if2 .taken)
 
 process-count-requires : tie.Need-process-count-requires
-process-count-requires c κs = omega (arith, right-length (c .before .before .before .before .before .args .w) (length (now (c .before .before .before .before .before .args .s))) (length-passed (c .before .before)))
+process-count-requires c κs = omega (arith, right-length (c .before .before .before .before .before .args .w) (length (now (c .before .before .before .before .before .args .«record»))) (length-passed (c .before .before)))
 
 event-fault-requires : tie.Need-event-fault-requires
-event-fault-requires c κs = omega (arith, state-within (c .before .before .before .before .before .before .args .w) 1024 (now (c .before .before .before .before .before .before .args .s)) (state-passed (c .before)) .0)
+event-fault-requires c κs = omega (arith, state-within (c .before .before .before .before .before .before .args .w) 1024 (now (c .before .before .before .before .before .before .args .«record»)) (state-passed (c .before)) .0)
 
 returns-3 : tie.Need-returns-3
 unfolding offerFault
@@ -76,7 +76,7 @@ offered-event-requires : tie.Need-offered-event-requires
 offered-event-requires c κs = search needs
 
 taken-counts-requires : tie.Need-taken-counts-requires
-taken-counts-requires c κs = (search needs, omega (arith, right-length (c .before .before .before .before .before .before .before .before .before .args .w) (length (now (c .before .before .before .before .before .before .before .before .before .args .s))) (length-passed (c .before .before .before .before .before .before))))
+taken-counts-requires c κs = (search needs, omega (arith, right-length (c .before .before .before .before .before .before .before .before .before .args .w) (length (now (c .before .before .before .before .before .before .before .before .before .args .«record»))) (length-passed (c .before .before .before .before .before .before))))
 
 already-taken-requires : tie.Need-already-taken-requires
 already-taken-requires c κs = search needs
@@ -86,13 +86,13 @@ unfolding offerFault
 returns-4 c = rw (length-passed (c .before .before .before .before .before .before .before .before .before), state-passed (c .before .before .before .before .before .before .before), event-passed (c .before .before .before .before), taken-read (c .before), c .if4 .taken)
 
 conflicting-requires : tie.Need-conflicting-requires
-conflicting-requires c κs = (search needs, (right-length (c .before .before .before .before .before .before .before .before .before .before .before .before .args .w) (length (now (c .before .before .before .before .before .before .before .before .before .before .before .before .args .s))) (length-passed (c .before .before .before .before .before .before .before .before .before)), state-within (c .before .before .before .before .before .before .before .before .before .before .before .before .args .w) 1024 (now (c .before .before .before .before .before .before .before .before .before .before .before .before .args .s)) (state-passed (c .before .before .before .before .before .before .before)) .1))
+conflicting-requires c κs = (search needs, (right-length (c .before .before .before .before .before .before .before .before .before .before .before .before .args .w) (length (now (c .before .before .before .before .before .before .before .before .before .before .before .before .args .«record»))) (length-passed (c .before .before .before .before .before .before .before .before .before)), state-within (c .before .before .before .before .before .before .before .before .before .before .before .before .args .w) 1024 (now (c .before .before .before .before .before .before .before .before .before .before .before .before .args .«record»)) (state-passed (c .before .before .before .before .before .before .before)) .1))
 
 pending-count-requires : tie.Need-pending-count-requires
 pending-count-requires c κs =
     let passed = c .before .before .before .before .before .before .before .before .before .before in
     let a = passed .before .before .before .args in
-    omega (arith, right-length (a .w) (length (now (a .s))) (length-passed passed))
+    omega (arith, right-length (a .w) (length (now (a .«record»))) (length-passed passed))
 
 pending-fault-requires : tie.Need-pending-fault-requires
 pending-fault-requires c κs = search needs

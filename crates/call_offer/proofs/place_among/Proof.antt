@@ -38,14 +38,14 @@ key-before-requires : tie.Need-key-before-requires Inv-loop μ-loop
 key-before-requires c κs = search needs
 
 -- The call's answer is the test at i.
-here : (c : tie.After-key-before Inv-loop μ-loop) → keyBefore (keyOf (pendingAt (c .before .before .before .before .before .before .before .before .args .w) (now (c .before .before .before .before .before .before .before .before .args .s)) (c .before .before .before .before .before .loop .i))) (keyOf (c .before .before .before .before .before .before .before .before .args .e)) ≡ c .key-before .result
+here : (c : tie.After-key-before Inv-loop μ-loop) → keyBefore (keyOf (pendingAt (c .before .before .before .before .before .before .before .before .args .w) (now (c .before .before .before .before .before .before .before .before .args .«record»)) (c .before .before .before .before .before .loop .i))) (keyOf (c .before .before .before .before .before .before .before .before .args .e)) ≡ c .key-before .result
 here c = cc
 
 returns : tie.Need-returns Inv-loop μ-loop
 returns c =
     let a = c .before .before .before .before .before .before .before .before .before .args in
     let l = c .before .before .before .before .before .before .loop in
-    let place = place-here (a .w) (now (a .s)) (a .e) (l .i) (omega arith) (here (c .before) ∙ not-true _ (c .if1 .taken)) in
+    let place = place-here (a .w) (now (a .«record»)) (a .e) (l .i) (omega arith) (here (c .before) ∙ not-true _ (c .if1 .taken)) in
     (sym (l .inv .2 ∙ place), omega arith)
 
 add-i : tie.Need-add-i Inv-loop μ-loop
@@ -58,14 +58,14 @@ loop-again : tie.Need-loop-again Inv-loop μ-loop
 loop-again c =
     let a = c .before .before .before .before .before .before .before .before .before .args in
     let l = c .before .before .before .before .before .before .loop in
-    let place = place-further (a .w) (now (a .s)) (a .e) (l .i) (omega arith) (here (c .before) ∙ not-false _ (c .if1 .left)) in
+    let place = place-further (a .w) (now (a .«record»)) (a .e) (l .i) (omega arith) (here (c .before) ∙ not-false _ (c .if1 .left)) in
     (search needs, search needs, l .inv .2 ∙ place)
 
 returns-2 : tie.Need-returns-2 Inv-loop μ-loop
 returns-2 c =
     let a = c .before .before .before .before .args in
     let l = c .before .loop in
-    (sym (l .inv .2 ∙ place-last (a .w) (now (a .s)) (a .e) (l .i) (omega arith)), omega arith)
+    (sym (l .inv .2 ∙ place-last (a .w) (now (a .«record»)) (a .e) (l .i) (omega arith)), omega arith)
 
 pub place-among-spec : {M : Type 1} → statement M
 place-among-spec =

@@ -19,15 +19,15 @@ open-fault-requires c κs = search needs
 
 returns : tie.Need-returns
 returns c =
-    let t = open-turned (c .before .before .before .before .before .args .w) (now (c .before .before .before .before .before .args .rule)) (c .before .before .before .before .before .args .k) (c .before .before .before .before .before .args .labels) (now (c .before .before .before .before .before .args .s)) (now (c .before .before .before .before .before .args .window)) (c .before .open-fault .result) (c .before .open-fault .ensures) (c .if1 .taken) in
+    let t = open-turned (c .before .before .before .before .before .args .w) (now (c .before .before .before .before .before .args .rule)) (c .before .before .before .before .before .args .k) (c .before .before .before .before .before .args .labels) (now (c .before .before .before .before .before .args .«record»)) (now (c .before .before .before .before .before .args .window)) (c .before .open-fault .result) (c .before .open-fault .ensures) (c .if1 .taken) in
     (t .0, (t .1, t .2))
 
 -- Nothing turns the call back before its text.
-none : (c : tie.Else1) → openFault (c .before .before .before .before .before .args .w) (c .before .before .before .before .before .args .k) (c .before .before .before .before .before .args .labels) (length (now (c .before .before .before .before .before .args .s))) (length (now (c .before .before .before .before .before .args .window))) ≡ 0
+none : (c : tie.Else1) → openFault (c .before .before .before .before .before .args .w) (c .before .before .before .before .before .args .k) (c .before .before .before .before .before .args .labels) (length (now (c .before .before .before .before .before .args .«record»))) (length (now (c .before .before .before .before .before .args .window))) ≡ 0
 none c = sym (c .before .open-fault .ensures) ∙ c .if1 .left
 
-within : (c : tie.Else1) → (length (now (c .before .before .before .before .before .args .s)) ≡ recordLength (c .before .before .before .before .before .args .w)) × (frontierLength (c .before .before .before .before .before .args .w) ≤ length (now (c .before .before .before .before .before .args .window))) × (c .before .before .before .before .before .args .k ≤ 8)
-within c = open-passed (c .before .before .before .before .before .args .w) (now (c .before .before .before .before .before .args .rule)) (c .before .before .before .before .before .args .k) (c .before .before .before .before .before .args .labels) (now (c .before .before .before .before .before .args .s)) (now (c .before .before .before .before .before .args .window)) (none c)
+within : (c : tie.Else1) → (length (now (c .before .before .before .before .before .args .«record»)) ≡ recordLength (c .before .before .before .before .before .args .w)) × (frontierLength (c .before .before .before .before .before .args .w) ≤ length (now (c .before .before .before .before .before .args .window))) × (c .before .before .before .before .before .args .k ≤ 8)
+within c = open-passed (c .before .before .before .before .before .args .w) (now (c .before .before .before .before .before .args .rule)) (c .before .before .before .before .before .args .k) (c .before .before .before .before .before .args .labels) (now (c .before .before .before .before .before .args .«record»)) (now (c .before .before .before .before .before .args .window)) (none c)
 
 cast-read-rule : tie.Need-cast-read-rule
 cast-read-rule c = omega (arith, within c .2)
@@ -43,7 +43,7 @@ enum-known-read c = search needs
 
 turned-word-requires : tie.Need-turned-word-requires
 turned-word-requires c κs =
-    open-refused (c .before .before .before .before .before .before .before .before .before .before .before .args .w) (now (c .before .before .before .before .before .before .before .before .before .before .before .args .rule)) (c .before .before .before .before .before .before .before .before .before .before .before .args .k) (c .before .before .before .before .before .before .before .before .before .before .before .args .labels) (now (c .before .before .before .before .before .before .before .before .before .before .before .args .s)) (now (c .before .before .before .before .before .before .before .before .before .before .before .args .window)) (none (c .before .before .before .before .before .before)) _ refl _ _ (sym (c .before .read .given .1) ∙ c .before .before .before .before .read-rule .ensures .0) .0
+    open-refused (c .before .before .before .before .before .before .before .before .before .before .before .args .w) (now (c .before .before .before .before .before .before .before .before .before .before .before .args .rule)) (c .before .before .before .before .before .before .before .before .before .before .before .args .k) (c .before .before .before .before .before .before .before .before .before .before .before .args .labels) (now (c .before .before .before .before .before .before .before .before .before .before .before .args .«record»)) (now (c .before .before .before .before .before .before .before .before .before .before .before .args .window)) (none (c .before .before .before .before .before .before)) _ refl _ _ (sym (c .before .read .given .1) ∙ c .before .before .before .before .read-rule .ensures .0) .0
 
 enum-known-read-2 : tie.Need-enum-known-read-2
 enum-known-read-2 c = search needs
@@ -56,12 +56,12 @@ slice-aggregate-open-table c = search needs
 
 open-table-requires : tie.Need-open-table-requires
 open-table-requires c κs =
-    let t = open-accepted (c .before .before .before .before .before .before .before .before .before .before .before .before .before .before .args .w) (now (c .before .before .before .before .before .before .before .before .before .before .before .before .before .before .args .rule)) (c .before .before .before .before .before .before .before .before .before .before .before .before .before .before .args .k) (c .before .before .before .before .before .before .before .before .before .before .before .before .before .before .args .labels) (now (c .before .before .before .before .before .before .before .before .before .before .before .before .before .before .args .s)) (now (c .before .before .before .before .before .before .before .before .before .before .before .before .before .before .args .window)) (none (c .before .before .before .before .before .before .before .before .before)) _ refl _ _ (sym (c .before .before .before .before .read2 .given .1) ∙ c .before .before .before .before .before .before .before .read-rule .ensures .0) (c .before .before .before .before .before .before .before .read-rule .ensures .1) in
+    let t = open-accepted (c .before .before .before .before .before .before .before .before .before .before .before .before .before .before .args .w) (now (c .before .before .before .before .before .before .before .before .before .before .before .before .before .before .args .rule)) (c .before .before .before .before .before .before .before .before .before .before .before .before .before .before .args .k) (c .before .before .before .before .before .before .before .before .before .before .before .before .before .before .args .labels) (now (c .before .before .before .before .before .before .before .before .before .before .before .before .before .before .args .«record»)) (now (c .before .before .before .before .before .before .before .before .before .before .before .before .before .before .args .window)) (none (c .before .before .before .before .before .before .before .before .before)) _ refl _ _ (sym (c .before .before .before .before .read2 .given .1) ∙ c .before .before .before .before .before .before .before .read-rule .ensures .0) (c .before .before .before .before .before .before .before .read-rule .ensures .1) in
     (search needs, (within (c .before .before .before .before .before .before .before .before .before) .0, (within (c .before .before .before .before .before .before .before .before .before) .1, (within (c .before .before .before .before .before .before .before .before .before) .2, ((t .0, t .1), omega (arith, t .1, t .2))))))
 
 returns-2 : tie.Need-returns-2
 returns-2 c =
-    let t = open-refused (c .before .before .before .before .before .before .before .before .before .before .before .before .args .w) (now (c .before .before .before .before .before .before .before .before .before .before .before .before .args .rule)) (c .before .before .before .before .before .before .before .before .before .before .before .before .args .k) (c .before .before .before .before .before .before .before .before .before .before .before .before .args .labels) (now (c .before .before .before .before .before .before .before .before .before .before .before .before .args .s)) (now (c .before .before .before .before .before .before .before .before .before .before .before .before .args .window)) (none (c .before .before .before .before .before .before .before)) _ refl _ _ (sym (c .before .before .read .given .1) ∙ c .before .before .before .before .before .read-rule .ensures .0) in
+    let t = open-refused (c .before .before .before .before .before .before .before .before .before .before .before .before .args .w) (now (c .before .before .before .before .before .before .before .before .before .before .before .before .args .rule)) (c .before .before .before .before .before .before .before .before .before .before .before .before .args .k) (c .before .before .before .before .before .before .before .before .before .before .before .before .args .labels) (now (c .before .before .before .before .before .before .before .before .before .before .before .before .args .«record»)) (now (c .before .before .before .before .before .before .before .before .before .before .before .before .args .window)) (none (c .before .before .before .before .before .before .before)) _ refl _ _ (sym (c .before .before .read .given .1) ∙ c .before .before .before .before .before .read-rule .ensures .0) in
     (c .turned-word .ensures ∙ t .1, (t .2, t .3))
 
 same-length : tie.Need-same-length
@@ -72,7 +72,7 @@ same-length-2 c = search needs
 
 returns-3 : tie.Need-returns-3
 returns-3 c =
-    let t = open-accepted (c .before .before .before .before .before .before .before .before .before .before .before .before .before .before .before .before .before .before .before .args .w) (now (c .before .before .before .before .before .before .before .before .before .before .before .before .before .before .before .before .before .before .before .args .rule)) (c .before .before .before .before .before .before .before .before .before .before .before .before .before .before .before .before .before .before .before .args .k) (c .before .before .before .before .before .before .before .before .before .before .before .before .before .before .before .before .before .before .before .args .labels) (now (c .before .before .before .before .before .before .before .before .before .before .before .before .before .before .before .before .before .before .before .args .s)) (now (c .before .before .before .before .before .before .before .before .before .before .before .before .before .before .before .before .before .before .before .args .window)) (none (c .before .before .before .before .before .before .before .before .before .before .before .before .before .before)) _ refl _ _ (sym (c .before .before .before .before .before .before .before .before .before .read2 .given .1) ∙ c .before .before .before .before .before .before .before .before .before .before .before .before .read-rule .ensures .0) (c .before .before .before .before .before .before .before .before .before .before .before .before .read-rule .ensures .1) in
+    let t = open-accepted (c .before .before .before .before .before .before .before .before .before .before .before .before .before .before .before .before .before .before .before .args .w) (now (c .before .before .before .before .before .before .before .before .before .before .before .before .before .before .before .before .before .before .before .args .rule)) (c .before .before .before .before .before .before .before .before .before .before .before .before .before .before .before .before .before .before .before .args .k) (c .before .before .before .before .before .before .before .before .before .before .before .before .before .before .before .before .before .before .before .args .labels) (now (c .before .before .before .before .before .before .before .before .before .before .before .before .before .before .before .before .before .before .before .args .«record»)) (now (c .before .before .before .before .before .before .before .before .before .before .before .before .before .before .before .before .before .before .before .args .window)) (none (c .before .before .before .before .before .before .before .before .before .before .before .before .before .before)) _ refl _ _ (sym (c .before .before .before .before .before .before .before .before .before .read2 .given .1) ∙ c .before .before .before .before .before .before .before .before .before .before .before .before .read-rule .ensures .0) (c .before .before .before .before .before .before .before .before .before .before .before .before .read-rule .ensures .1) in
     (c .before .before .before .before .open-table .ensures .0 ∙ ap (λ (o : Opened). replyWord (o .answer)) (t .3), (c .before .before .before .before .open-table .ensures .1 .0 ∙ ap (λ (o : Opened). o .bytes) (t .3), c .before .before .before .before .open-table .ensures .1 .1 ∙ ap (λ (o : Opened). o .window) (t .3)))
 
 pub open-spec : {M : Type 1} → statement M

@@ -16,21 +16,21 @@ table-place-requires c κs = search needs
 clear-requires : tie.Need-clear-requires
 clear-requires c κs = search needs
 
-cast-s : tie.Need-cast-s
-cast-s c = search needs
+cast-record : tie.Need-cast-record
+cast-record c = search needs
 
-slice-write-s : tie.Need-slice-write-s
-slice-write-s c = search needs
+slice-write-record : tie.Need-slice-write-record
+slice-write-record c = search needs
 
-cast-s-2 : tie.Need-cast-s-2
-cast-s-2 c = search needs
+cast-record-2 : tie.Need-cast-record-2
+cast-record-2 c = search needs
 
 -- Two stores leave the length.
 kept-length : (s : List ℕ) (k lines : ℕ) → length (set (set s 0 k) 1 lines) ≡ length s
 kept-length s k lines = simp length-set
 
-slice-write-s-2 : tie.Need-slice-write-s-2
-slice-write-s-2 c = simp length-set (omega arith)
+slice-write-record-2 : tie.Need-slice-write-record-2
+slice-write-record-2 c = simp length-set (omega arith)
 
 write-u32-requires : tie.Need-write-u32-requires
 write-u32-requires c κs = let a = c .before .before .before .before .before .before .before .before .args in omega (arith, kept-length (c .before .before .before .clear .last .0) (a .k) (a .lines))
@@ -47,7 +47,7 @@ same-length c = let a = c .before .before .before .before .before .before .befor
 returns : tie.Need-returns
 returns c =
     let a = c .before .before .before .before .before .before .before .before .before .before .before .before .before .before .before .args in
-    cc (stored-record (a .w) (a .k) (a .lines) (now (a .s)) (now (a .table)) (search needs) (search needs) (search needs))
+    cc (stored-record (a .w) (a .k) (a .lines) (now (a .«record»)) (now (a .table)) (search needs) (search needs) (search needs))
 
 pub write-record-spec : {M : Type 1} → statement M
 write-record-spec =
@@ -55,10 +55,10 @@ write-record-spec =
     (tie.spec
     table-place-requires
     clear-requires
-    cast-s
-    slice-write-s
-    cast-s-2
-    slice-write-s-2
+    cast-record
+    slice-write-record
+    cast-record-2
+    slice-write-record-2
     write-u32-requires
     mul-copy-in
     copy-in-requires

@@ -8,7 +8,7 @@ use mathlib.Core.List.{List, [], _∷_}
 use mathlib.Core.Logic.{_⊎_, inl, inr}
 use mathlib.Core.Option.{Option, none, some}
 use Rattle.clocks.specs.declared.Event.{Event}
-use Rattle.clocks.specs.Event.{Cut, involved, count, Ready, apply, less, lowered}
+use Rattle.clocks.specs.Event.{Cut, involved, count, Ready, apply, less, lowered, zeros, upper, lower}
 use Rattle.clocks.specs.cuts.EventLaws.{ready-i, ready-next, lowered-next, less-next, less-other, apply-less, lowered-count}
 use Rattle.clocks.specs.History.{taken, event, clockOf, Consistent, Follows, Causal}
 use Rattle.clocks.specs.cuts.HistoryLaws.{After, new, old, after, event-zero, event-next, taken-cases}
@@ -16,8 +16,6 @@ use Rattle.clocks.specs.cuts.CausalLaws.{clock-some, clock-none, clock-w
 use Rattle.clocks.specs.cuts.Step.{clock-old, consistent-old, consistent-new}
 
 -- ---- zeros
-abbrev pub zeros : Cut
-zeros p = 0
 
 pub clock-zero : (ts : List Event) (p q : ℕ) → clockOf ts p 0 q ≡ 0
 clock-zero ts p q = clock-none ts p 0 (event-zero ts p) q
@@ -73,11 +71,6 @@ clock-grows (e ∷ ts) c p m n h k q = go (taken-cases e ts p n k) (taken-cases 
         (omega (arith, r m (taken ts p) i (omega arith), last, lowered-count e q))
 
 -- ---- maximum and minimum, count by count
-abbrev pub upper : Cut → Cut → Cut
-upper S R p = max (S p) (R p)
-
-abbrev pub lower : Cut → Cut → Cut
-lower S R p = min (S p) (R p)
 
 pub upper-consistent : (ts : List Event) (S R : Cut) → Consistent ts S → Consistent ts R → Consistent ts (upper S R)
 upper-consistent ts S R s r = record { within = λ p. omega (arith, s .within p, r .within p); closed = λ p q. go p q (decLe (S p) (R p)) }

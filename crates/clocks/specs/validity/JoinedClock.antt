@@ -9,9 +9,9 @@ use mathlib.Core.List.{List, [], _∷_}
 use mathlib.Core.Logic.{_⊎_, inl, inr}
 use Rattle.clocks.specs.declared.Event.{Event}
 use Rattle.clocks.specs.History.{taken, lastClock, Consistent, Agree, Causal}
-use Rattle.clocks.specs.Event.{involved, Ready, less, lowered}
+use Rattle.clocks.specs.Event.{involved, Ready, less, lowered, upper}
 use Rattle.clocks.specs.cuts.EventLaws.{either, lowered-next}
-use Rattle.clocks.specs.cuts.Lattice.{zeros-consistent, clock-consistent, upper, upper-consistent}
+use Rattle.clocks.specs.cuts.Lattice.{zeros-consistent, clock-consistent, upper-consistent}
 use Rattle.clocks.specs.validity.JoinLaws.{join-same}
 use Rattle.clocks.specs.Valid.{joinTo, Joined, History, ClockRule}
 use Rattle.clocks.specs.cuts.CausalLaws.{clock-same}

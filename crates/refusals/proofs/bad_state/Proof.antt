@@ -30,13 +30,13 @@ bad-numbers-requires : tie.Need-bad-numbers-requires
 bad-numbers-requires c κs = search needs
 
 -- The numbers that were read are the record's.
-numbers : (c : tie.After-bad-numbers) → badNumbers (processCount (now (c .before .before .before .before .before .before .args .s))) (pendingCount (now (c .before .before .before .before .before .before .args .s))) (lineTotal (now (c .before .before .before .before .before .before .args .s))) (keptCount (now (c .before .before .before .before .before .before .args .s))) (c .before .before .before .before .before .before .args .room) ≡ c .bad-numbers .result
+numbers : (c : tie.After-bad-numbers) → badNumbers (processCount (now (c .before .before .before .before .before .before .args .«record»))) (pendingCount (now (c .before .before .before .before .before .before .args .«record»))) (lineTotal (now (c .before .before .before .before .before .before .args .«record»))) (keptCount (now (c .before .before .before .before .before .before .args .«record»))) (c .before .before .before .before .before .before .args .room) ≡ c .bad-numbers .result
 numbers c = cc
 
 returns : tie.Need-returns
 returns c =
     let a = c .before .before .before .before .before .before .before .args in
-    rw (state-parts (a .w) (a .room) (now (a .s)), numbers (c .before), c .if1 .taken)
+    rw (state-parts (a .w) (a .room) (now (a .«record»)), numbers (c .before), c .if1 .taken)
 
 table-place-requires : tie.Need-table-place-requires
 table-place-requires c κs = search needs
@@ -52,15 +52,15 @@ part-good-table-end c = search needs
 
 good-table-requires : tie.Need-good-table-requires
 good-table-requires c κs =
-    let s = now (c .before .before .before .before .before .before .before .before .before .args .s) in
+    let s = now (c .before .before .before .before .before .before .before .before .before .args .«record») in
     let few = numbers-within (processCount s) (pendingCount s) (lineTotal s) (keptCount s) (c .before .before .before .before .before .before .before .before .before .args .room) (numbers (c .before .before .before) ∙ c .before .before .if1 .left) in
     (omega (arith, few .2), simp (length-take, length-drop) (omega (arith, few .2)))
 
 returns-2 : tie.Need-returns-2
 returns-2 c =
     let a = c .before .before .before .before .before .before .before .before .before .before .args in
-    rw (state-parts (a .w) (a .room) (now (a .s)), numbers (c .before .before .before .before), c .before .before .before .if1 .left)
-    (cc (lent-table (a .w) (now (a .s))))
+    rw (state-parts (a .w) (a .room) (now (a .«record»)), numbers (c .before .before .before .before), c .before .before .before .if1 .left)
+    (cc (lent-table (a .w) (now (a .«record»))))
 
 pub bad-state-spec : {M : Type 1} → statement M
 bad-state-spec =

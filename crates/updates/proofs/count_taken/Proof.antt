@@ -17,7 +17,7 @@ taken-counts-requires : tie.Need-taken-counts-requires
 taken-counts-requires c κs = search needs
 
 -- The counts that were read are the taken ones, and those that are stored are theirs with the event.
-stored : (c : tie.After-apply) → c .apply .result ≡ listOf 8 (apply (c .before .before .before .before .args .e) (at (takenCounts (c .before .before .before .before .args .w) (now (c .before .before .before .before .args .s)))))
+stored : (c : tie.After-apply) → c .apply .result ≡ listOf 8 (apply (c .before .before .before .before .args .e) (at (takenCounts (c .before .before .before .before .args .w) (now (c .before .before .before .before .args .«record»)))))
 stored c = let a = c .before .before .before .before .args in c .apply .ensures ∙ ap (λ (l : List ℕ). listOf 8 (apply (a .e) (at l))) (c .before .taken-counts .ensures)
 
 apply-requires : tie.Need-apply-requires
@@ -32,7 +32,7 @@ write-u32-requires c κs = search needs
 write-counts-at-requires : tie.Need-write-counts-at-requires
 write-counts-at-requires c κs =
     let a = c .before .before .before .before .before .before .before .before .before .args in
-    (search needs, (search needs, λ p. rw (stored (c .before .before .before .before .before)) (applied-fits (a .w) (now (a .s)) (a .e) (λ i. c .before .before .before .before .before .before .before .before .slice-known .given i .fits) (c .before .before .before .before .before .before .before .before .before .pre .1 .1 .1) (c .before .before .before .before .before .before .before .before .before .pre .1 .1 .0) p)))
+    (search needs, (search needs, λ p. rw (stored (c .before .before .before .before .before)) (applied-fits (a .w) (now (a .«record»)) (a .e) (λ i. c .before .before .before .before .before .before .before .before .slice-known .given i .fits) (c .before .before .before .before .before .before .before .before .before .pre .1 .1 .1) (c .before .before .before .before .before .before .before .before .before .pre .1 .1 .0) p)))
 
 set-clocks-requires : tie.Need-set-clocks-requires
 set-clocks-requires c κs = (search needs, (search needs, c .before .before .before .before .before .before .before .before .before .before .before .before .before .pre .1 .1 .0))

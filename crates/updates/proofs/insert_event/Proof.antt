@@ -34,14 +34,14 @@ move-up-requires c κs =
 write-event-requires : tie.Need-write-event-requires
 write-event-requires c κs = let a = c .before .before .before .before .before .before .before .before .before .before .before .args in (search needs, (omega (arith, event-within (a .w) (a .i) (search needs)), c .before .before .before .before .before .before .before .before .before .before .before .pre .1 .1 .1 .1))
 
-add-s : tie.Need-add-s
-add-s c = search needs
+add-record : tie.Need-add-record
+add-record c = search needs
 
-cast-s : tie.Need-cast-s
-cast-s c = search needs
+cast-record : tie.Need-cast-record
+cast-record c = search needs
 
-slice-write-s : tie.Need-slice-write-s
-slice-write-s c = search needs
+slice-write-record : tie.Need-slice-write-record
+slice-write-record c = search needs
 
 same-length : tie.Need-same-length
 same-length c = simp length-set (omega arith)
@@ -50,7 +50,7 @@ returns : tie.Need-returns
 returns c =
     let a = c .before .before .before .before .before .before .before .before .before .before .before .before .before .before .args in
     let long : length (eventBytes (a .w) (a .e)) ≡ eventLength (a .w) = length-eventBytes (a .w) (a .e) (search needs) (search needs) in
-    cc (stored-inserted (a .w) (a .i) (now (a .s)) (a .e) long)
+    cc (stored-inserted (a .w) (a .i) (now (a .«record»)) (a .e) long)
 
 pub insert-event-spec : {M : Type 1} → statement M
 insert-event-spec =
@@ -63,8 +63,8 @@ insert-event-spec =
     event-length-requires
     move-up-requires
     write-event-requires
-    add-s
-    cast-s
-    slice-write-s
+    add-record
+    cast-record
+    slice-write-record
     same-length
     returns)

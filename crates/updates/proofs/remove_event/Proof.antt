@@ -39,14 +39,14 @@ clear-requires c κs =
     let a = c .before .before .before .before .before .before .before .before .before .before .before .args in
     omega (arith, event-within (a .w) (c .before .before .before .before .before .before .before .before .pending-count .result - 1) (search needs))
 
-sub-s : tie.Need-sub-s
-sub-s c = search needs
+sub-record : tie.Need-sub-record
+sub-record c = search needs
 
-cast-s : tie.Need-cast-s
-cast-s c = search needs
+cast-record : tie.Need-cast-record
+cast-record c = search needs
 
-slice-write-s : tie.Need-slice-write-s
-slice-write-s c = search needs
+slice-write-record : tie.Need-slice-write-record
+slice-write-record c = search needs
 
 same-length : tie.Need-same-length
 same-length c = simp length-set (omega arith)
@@ -55,7 +55,7 @@ returns : tie.Need-returns
 returns c =
     let a = c .before .before .before .before .before .before .before .before .before .before .before .before .before .before .args in
     let n = c .before .before .before .before .before .before .before .before .before .before .before .pending-count .result in
-    cc (stored-removed (a .w) (a .i) n (now (a .s)) (sym (c .before .before .before .before .before .before .before .before .before .before .before .pending-count .ensures .0)) (search needs) (search needs) (search needs))
+    cc (stored-removed (a .w) (a .i) n (now (a .«record»)) (sym (c .before .before .before .before .before .before .before .before .before .before .before .pending-count .ensures .0)) (search needs) (search needs) (search needs))
 
 pub remove-event-spec : {M : Type 1} → statement M
 remove-event-spec =
@@ -69,8 +69,8 @@ remove-event-spec =
     sub-move-down
     move-down-requires
     clear-requires
-    sub-s
-    cast-s
-    slice-write-s
+    sub-record
+    cast-record
+    slice-write-record
     same-length
     returns)

@@ -28,7 +28,7 @@ add-place : tie.Need-add-place Inv-loop μ-loop
 add-place c = search needs
 
 loop-holds : tie.Need-loop-holds Inv-loop μ-loop
-loop-holds c = let a = c .before .before .before .args in (search needs, search needs, search needs, clocks-none (a .w) (now (a .s)) (bare (a .e .mask) (a .e .clock)))
+loop-holds c = let a = c .before .before .before .args in (search needs, search needs, search needs, clocks-none (a .w) (now (a .«record»)) (bare (a .e .mask) (a .e .clock)))
 
 has-bit-requires : tie.Need-has-bit-requires Inv-loop μ-loop
 has-bit-requires c κs = search needs
@@ -56,8 +56,8 @@ loop-again : tie.Need-loop-again Inv-loop μ-loop
 loop-again c =
     let a = c .before .before .before .before .before .before .before .args in
     let l = c .before .before .before .loop in
-    let next = clocks-next (a .w) (l .p) (now (a .s)) (a .e .mask) (a .e .clock) in
-    let skip = clocks-skip (a .w) (l .p) (now (a .s)) (a .e .mask) (a .e .clock) in (
+    let next = clocks-next (a .w) (l .p) (now (a .«record»)) (a .e .mask) (a .e .clock) in
+    let skip = clocks-skip (a .w) (l .p) (now (a .«record»)) (a .e .mask) (a .e .clock) in (
       search needs,
       omega (arith, clock-next (a .w) (l .p)),
       ⊎-elim (λ v. omega (arith, ap length (v .5))) (λ v. omega (arith, ap length (v .1))) (c .if1 .came),
@@ -71,7 +71,7 @@ returns : tie.Need-returns Inv-loop μ-loop
 returns c =
     let a = c .before .before .before .before .before .args in
     let all : c .before .loop .p ≡ 8 = omega arith in
-    c .before .loop .inv .3 ∙ ap (λ (n : ℕ). clocksSet (a .w) n (now (a .s)) (bare (a .e .mask) (a .e .clock))) all ∙ clocksSet-bare (a .w) 8 (now (a .s)) (a .e)
+    c .before .loop .inv .3 ∙ ap (λ (n : ℕ). clocksSet (a .w) n (now (a .«record»)) (bare (a .e .mask) (a .e .clock))) all ∙ clocksSet-bare (a .w) 8 (now (a .«record»)) (a .e)
 
 pub set-clocks-spec : {M : Type 1} → statement M
 set-clocks-spec =

@@ -24,7 +24,7 @@ same-length c = search needs
 returns : tie.Need-returns
 returns c =
     let a = c .before .before .before .before .before .args in
-    cc (lent-tail (now (a .s)) (a .place) (countBytes (a .w) (a .counts)))
+    cc (lent-tail (now (a .«record»)) (a .place) (countBytes (a .w) (a .counts)))
 
 pub write-counts-at-spec : {M : Type 1} → statement M
 write-counts-at-spec =

@@ -28,8 +28,8 @@ same-length c = search needs
 returns : tie.Need-returns
 returns c =
     let a = c .before .before .before .before .before .before .before .args in
-    let same : offerCall 2 (a .mask) (c .before .before .before .before .before .unpack-counts .result) (c .before .before .before .before .unpack-labels .result) (now (a .state)) ≡ offerCall 2 (a .mask) (unpackCounts (a .low) (a .high)) (unpackLabels (a .labels)) (now (a .state)) =
-    ap₂ (λ (clock labels : List ℕ). offerCall 2 (a .mask) clock labels (now (a .state))) (c .before .before .before .before .before .unpack-counts .ensures) (c .before .before .before .before .unpack-labels .ensures) in
+    let same : offerCall 2 (a .mask) (c .before .before .before .before .before .unpack-counts .result) (c .before .before .before .before .unpack-labels .result) (now (a .«record»)) ≡ offerCall 2 (a .mask) (unpackCounts (a .low) (a .high)) (unpackLabels (a .labels)) (now (a .«record»)) =
+    ap₂ (λ (clock labels : List ℕ). offerCall 2 (a .mask) clock labels (now (a .«record»))) (c .before .before .before .before .before .unpack-counts .ensures) (c .before .before .before .before .unpack-labels .ensures) in
     (c .before .before .offer .ensures .0 ∙ ap (λ (o : Offered). replyWord (o .answer)) same, c .before .before .offer .ensures .1 ∙ ap (λ (o : Offered). o .bytes) same)
 
 pub watch-offer-spec : {M : Type 1} → statement M

@@ -25,8 +25,8 @@ same-length-2 c = search needs
 returns : tie.Need-returns
 returns c =
     let a = c .before .before .before .before .before .before .before .before .before .before .before .args in
-    let same : openCall 2 (now (a .rule)) (a .k) (c .before .before .before .before .before .before .before .unpack-labels .result) (now (a .state)) (now (a .window)) ≡ openCall 2 (now (a .rule)) (a .k) (unpackLabels (a .labels)) (now (a .state)) (now (a .window)) =
-    ap (λ (labels : List ℕ). openCall 2 (now (a .rule)) (a .k) labels (now (a .state)) (now (a .window))) (c .before .before .before .before .before .before .before .unpack-labels .ensures) in
+    let same : openCall 2 (now (a .rule)) (a .k) (c .before .before .before .before .before .before .before .unpack-labels .result) (now (a .«record»)) (now (a .window)) ≡ openCall 2 (now (a .rule)) (a .k) (unpackLabels (a .labels)) (now (a .«record»)) (now (a .window)) =
+    ap (λ (labels : List ℕ). openCall 2 (now (a .rule)) (a .k) labels (now (a .«record»)) (now (a .window))) (c .before .before .before .before .before .before .before .unpack-labels .ensures) in
     let o = c .before .before .before .before .open .ensures in
     (o .0 ∙ ap (λ (r : Opened). replyWord (r .answer)) same, (o .1 .0 ∙ ap (λ (r : Opened). r .bytes) same, o .1 .1 ∙ ap (λ (r : Opened). r .window) same))
 

@@ -9,9 +9,9 @@ use Rattle.codec.specs.Bit.{bit}
 use Rattle.clocks.specs.Counts.{listOf, rows, at}
 use Rattle.clocks.specs.Valid.{joinTo}
 use Rattle.clocks.proofs.join.JoinSteps.{join-next, join-skip}
-use Rattle.clocks.specs.cuts.Lattice.{upper}
 use Rattle.clocks.proofs.join.join.Statement.{statement}
 use Rattle.clocks.proofs.join.join.Tie as tie
+use Rattle.clocks.specs.Event.{upper}
 
 abbrev Inv-loop : tie.InvT-loop
 Inv-loop mask last word out₀ p₀ out p = (p ≤ 8) × (out ≡ listOf 8 (joinTo p (bit mask) (rows last)))

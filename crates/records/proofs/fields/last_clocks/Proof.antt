@@ -56,19 +56,19 @@ loop-again : tie.Need-loop-again Inv-loop μ-loop
 loop-again c =
     let a = c .before .before .before .before .args in
     let l = c .before .before .loop in
-    let read : c .read-counts .result ≡ clockAt (a .w) (now (a .s)) (l .p) =
-    c .read-counts .ensures ∙ ap (λ (x : ℕ). listOf 8 (λ q. number (now (a .s)) (x + q * a .w) (a .w))) (l .inv .1) in (
+    let read : c .read-counts .result ≡ clockAt (a .w) (now (a .«record»)) (l .p) =
+    c .read-counts .ensures ∙ ap (λ (x : ℕ). listOf 8 (λ q. number (now (a .«record»)) (x + q * a .w) (a .w))) (l .inv .1) in (
       search needs,
       omega (arith, clock-next (a .w) (l .p)),
       search needs,
-      fill-next (clockAt (a .w) (now (a .s))) [] (l .clocks) (l .p) (c .read-counts .result) (search needs) read (l .inv .3),
+      fill-next (clockAt (a .w) (now (a .«record»))) [] (l .clocks) (l .p) (c .read-counts .result) (search needs) read (l .inv .3),
     )
 
 returns : tie.Need-returns Inv-loop μ-loop
 unfolding lastClocks
 returns c =
     let a = c .before .before .before .args in
-    filled 8 (clockAt (a .w) (now (a .s))) [] (c .before .loop .clocks) (search needs) (λ q l. c .before .loop .inv .3 q (omega arith))
+    filled 8 (clockAt (a .w) (now (a .«record»))) [] (c .before .loop .clocks) (search needs) (λ q l. c .before .loop .inv .3 q (omega arith))
 
 pub last-clocks-spec : {M : Type 1} → statement M
 last-clocks-spec =

@@ -14,7 +14,7 @@ pending-place-requires : tie.Need-pending-place-requires
 pending-place-requires c κs = search needs
 
 -- The event ends within the bytes.
-within : (c : tie.After-pending-place) → c .pending-place .result + eventLength (c .before .before .args .w) ≤ length (c .before .before .args .s .now)
+within : (c : tie.After-pending-place) → c .pending-place .result + eventLength (c .before .before .args .w) ≤ length (c .before .before .args .«record» .now)
 within c = let a = c .before .before .args in omega (arith, event-within (a .w) (a .i) (search needs))
 
 shared-slice-read-mask : tie.Need-shared-slice-read-mask
@@ -41,7 +41,7 @@ read-eight-requires c κs = omega (arith, within (c .before .before))
 returns : tie.Need-returns
 returns c =
     let a = c .before .before .before .before .before .args in
-    event-parts (a .w) (a .i) (now (a .s)) (c .before .before .before .pending-place .result) _ _ _ (c .before .before .before .pending-place .ensures .0) refl (c .before .read-counts .ensures) (c .read-eight .ensures)
+    event-parts (a .w) (a .i) (now (a .«record»)) (c .before .before .before .pending-place .result) _ _ _ (c .before .before .before .pending-place .ensures .0) refl (c .before .read-counts .ensures) (c .read-eight .ensures)
 
 pub pending-event-spec : {M : Type 1} → statement M
 pending-event-spec =
