@@ -20,7 +20,8 @@ use refusals::bad_window_length;
 use refusals::room_of;
 use updates::count_taken;
 use updates::remove_event;
-ghost use Prim.Native.Nat.{ℕ, _*_, _-_, _^_, _≤_, _<_};
+use window_step::Stepping;
+ghost use Prim.Native.Nat.{ℕ, _-_, _^_, _≤_, _<_};
 ghost use mathlib.Core.Path.{_≡_};
 ghost use mathlib.Core.Bool.{false, cond, _&&_};
 ghost use lib.Dec.{T, ltb, leb};
@@ -29,9 +30,10 @@ ghost use lib.ListN.{length, getD, replicate};
 ghost use Rattle.codec.specs.Bit.{bit};
 ghost use Rattle.clocks.specs.Counts.{at};
 ghost use Rattle.frontiers.specs.Width.{Width};
-ghost use Rattle.frontiers.specs.Bytes.{frontierLength, frontiers, replaced};
+ghost use Rattle.frontiers.specs.Bytes.{frontiers, replaced};
 ghost use Rattle.window.specs.Step.{keptAfter, stepped};
 ghost use Rattle.window.specs.StepCode.{Fitting};
+ghost use Rattle.window.specs.Room.{RoomFor};
 ghost use Rattle.window.specs.Marks.{Marked};
 ghost use Rattle.records.specs.Record.{recordLength, processCount, lineTotal, pendingCount, keptCount, pendingAt, pendingEvents, removed, counted, readyIn};
 ghost use Rattle.answers.specs.Answer.{turnedBack, nothingReady, replyWord};
@@ -51,7 +53,7 @@ pub fn kept_with(s: &[u8], w: usize, window: &[u8], marks: &mut [u8], n: usize, 
     requires { ⌜ Width w ⌝ }
     requires { ⌜ length (now s) ≡ recordLength w ⌝ }
     requires { ⌜ processCount (now s) ≤ 8 ⌝ }
-    requires { ⌜ (n ≤ 1024) × (n * frontierLength w ≤ length (now window)) ⌝ }
+    requires { ⌜ RoomFor w n (now window) ⌝ }
     requires { ⌜ T (readyIn w (now s) e) ⌝ }
     requires { ⌜ n ≤ length (now marks) ⌝ }
     ensures { λ r. ⌜ r ≡ keptAfter (settingIn w (now (s .entry)) e) (frontiers w (now (window .entry)) n) ⌝ }
@@ -85,7 +87,7 @@ pub fn decide(
     requires { ⌜ length (now s) ≡ recordLength w ⌝ }
     requires { ⌜ processCount (now s) ≤ 8 ⌝ }
     requires { ⌜ pendingCount (now s) ≤ 32 ⌝ }
-    requires { ⌜ (n ≤ 1024) × (n * frontierLength w ≤ length (now window)) ⌝ }
+    requires { ⌜ RoomFor w n (now window) ⌝ }
     requires { ⌜ n ≤ length (now marks) ⌝ }
     ensures { λ r. ⌜ r ≡ choiceFor w (now (s .entry)) (frontiers w (now (window .entry)) n) (tried w (now (s .entry)) allowed (frontiers w (now (window .entry)) n) 0 false (pendingEvents w (now (s .entry)))) ⌝ }
     ensures { λ r. ⌜ MarkedFor w (now (s .entry)) (now (window .entry)) n (now (marks .exit)) r ⌝ }
@@ -128,8 +130,8 @@ fn step_window(
     requires { ⌜ Width w ⌝ }
     requires { ⌜ length (now s) ≡ recordLength w ⌝ }
     requires { ⌜ (processCount (now s) ≤ 8) × (lineTotal (now s) ≤ 64) ⌝ }
-    requires { ⌜ (n ≤ 1024) × (n * frontierLength w ≤ length (now window)) ⌝ }
-    requires { ⌜ (kept ≤ 1024) × (kept * frontierLength w ≤ length (now window)) ⌝ }
+    requires { ⌜ RoomFor w n (now window) ⌝ }
+    requires { ⌜ RoomFor w kept (now window) ⌝ }
     requires { ⌜ length (now scratch) ≡ length (now window) ⌝ }
     requires { ⌜ Fitting w e ⌝ }
     requires { ⌜ T (readyIn w (now s) e) ⌝ }
@@ -144,26 +146,23 @@ fn step_window(
     let lines = line_total(s);
     let reached = clocks::step::apply(e, taken_counts(s, w));
     let place = table_place(w);
-    window_step::step::step(
-        window,
-        marks,
-        scratch,
+    let fixed = Stepping {
         w,
         n,
         kept,
         k,
-        0,
-        e,
+        closed: 0,
+        event: e,
         reached,
-        &s[place..],
         lines,
-    );
+    };
+    window_step::step::step(window, marks, scratch, &s[place..], fixed);
 }
 
 // The rule's truth at the last of so many frontiers: the table's last line.
 fn verdict(window: &[u8], w: usize, kept: usize, lines: u32) -> bool
     requires { ⌜ Width w ⌝ }
-    requires { ⌜ (1 ≤ kept) × (kept ≤ 1024) × (kept * frontierLength w ≤ length (now window)) ⌝ }
+    requires { ⌜ (1 ≤ kept) × RoomFor w kept (now window) ⌝ }
     requires { ⌜ (1 ≤ lines) × (lines ≤ 64) ⌝ }
     ensures { λ r. ⌜ r ≡ bit (getD (map (λ f. f .values) (frontiers w (now (window .entry)) kept)) (kept - 1) 0) (lines - 1) ⌝ }
 {
@@ -197,8 +196,8 @@ fn take_event(
     requires { ⌜ Width w ⌝ }
     requires { ⌜ length (now s) ≡ recordLength w ⌝ }
     requires { ⌜ (processCount (now s) ≤ 8) × (1 ≤ lineTotal (now s)) × (lineTotal (now s) ≤ 64) ⌝ }
-    requires { ⌜ (n ≤ 1024) × (n * frontierLength w ≤ length (now window)) ⌝ }
-    requires { ⌜ (1 ≤ kept) × (kept ≤ 1024) × (kept * frontierLength w ≤ length (now window)) ⌝ }
+    requires { ⌜ RoomFor w n (now window) ⌝ }
+    requires { ⌜ (1 ≤ kept) × RoomFor w kept (now window) ⌝ }
     requires { ⌜ length (now scratch) ≡ length (now window) ⌝ }
     requires { ⌜ (i < pendingCount (now s)) × (pendingCount (now s) ≤ 32) ⌝ }
     requires { ⌜ T (readyIn w (now s) (pendingAt w (now s) i)) ⌝ }
@@ -236,8 +235,8 @@ pub fn take_within(
     requires { ⌜ length (now s) ≡ recordLength w ⌝ }
     requires { ⌜ (processCount (now s) ≤ 8) × (1 ≤ lineTotal (now s)) × (lineTotal (now s) ≤ 64) ⌝ }
     requires { ⌜ pendingCount (now s) ≤ 32 ⌝ }
-    requires { ⌜ (keptCount (now s) ≤ 1024) × (keptCount (now s) * frontierLength w ≤ length (now window)) ⌝ }
-    requires { ⌜ (allowed ≤ 1024) × (allowed * frontierLength w ≤ length (now window)) ⌝ }
+    requires { ⌜ RoomFor w (keptCount (now s)) (now window) ⌝ }
+    requires { ⌜ RoomFor w allowed (now window) ⌝ }
     requires { ⌜ length (now scratch) ≡ length (now window) ⌝ }
     ensures reply { λ r. ⌜ r ≡ replyWord (takeWithin w allowed (now (s .entry)) (now (window .entry)) .answer) ⌝ }
     ensures bytes { λ r. ⌜ now (s .exit) ≡ takeWithin w allowed (now (s .entry)) (now (window .entry)) .bytes ⌝ }

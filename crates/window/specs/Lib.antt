@@ -7,5 +7,6 @@ pub mod Start
 pub mod Lists
 pub mod SteppedCount
 pub mod StepCode
+pub mod Room
 pub mod Prepared
 pub mod Marks

@@ -1,15 +1,16 @@
 // How many frontiers there are after an event, and what comes of each.
 
 use clocks::Event;
-ghost use Prim.Native.Nat.{ℕ, _+_, _*_, _≤_};
+ghost use Prim.Native.Nat.{ℕ, _≤_};
 ghost use mathlib.Core.Path.{_≡_};
 ghost use mathlib.Core.List.{List};
 ghost use lib.ListN.{length};
 ghost use Rattle.clocks.specs.Event.{one};
 ghost use Rattle.frontiers.specs.Width.{Width};
-ghost use Rattle.frontiers.specs.Bytes.{frontierLength, frontiers};
+ghost use Rattle.frontiers.specs.Bytes.{frontiers};
 ghost use Rattle.window.specs.Step.{keptAfter};
 ghost use Rattle.window.specs.StepCode.{settingWith};
+ghost use Rattle.window.specs.Room.{RoomFor};
 ghost use Rattle.window.specs.Marks.{Marked};
 
 // 1 for yes, 0 for no.
@@ -31,8 +32,7 @@ pub fn count_after(
     reached: [u32; 8],
 ) -> usize
     requires { ⌜ Width w ⌝ }
-    requires { ⌜ n ≤ 1024 ⌝ }
-    requires { ⌜ n * frontierLength w ≤ length (now window) ⌝ }
+    requires { ⌜ RoomFor w n (now window) ⌝ }
     requires { ⌜ k ≤ 8 ⌝ }
     requires { ⌜ n ≤ length (now marks) ⌝ }
     ensures { λ r. ⌜ ((table : List ℕ) (lines : ℕ) → r ≡ keptAfter (settingWith k closed table lines e reached) (frontiers w (now (window .entry)) n)) ⌝ }

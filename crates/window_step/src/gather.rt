@@ -2,12 +2,12 @@
 
 use crate::Found;
 use frontiers::Frontier;
-ghost use Prim.Native.Nat.{_*_, _≤_, _<_};
+ghost use Prim.Native.Nat.{_≤_, _<_};
 ghost use mathlib.Core.Path.{_≡_};
-ghost use lib.ListN.{length};
 ghost use Rattle.frontiers.specs.Width.{Width};
-ghost use Rattle.frontiers.specs.Bytes.{frontierLength, frontiers};
+ghost use Rattle.frontiers.specs.Bytes.{frontiers};
 ghost use Rattle.window.specs.Step.{Setting, gathered};
+ghost use Rattle.window.specs.Room.{RoomFor};
 ghost use Rattle.window_step.specs.Gathering.{soughtWith, gatheredOf};
 
 // Whether process p's last event may lead to a new frontier: it is not the event itself, and p is the first of its processes.
@@ -37,8 +37,7 @@ pub fn gather(
     hints: [usize; 8],
 ) -> Found
     requires { ⌜ Width w ⌝ }
-    requires { ⌜ m ≤ 1024 ⌝ }
-    requires { ⌜ m * frontierLength w ≤ length (now scratch) ⌝ }
+    requires { ⌜ RoomFor w m (now scratch) ⌝ }
     requires { ⌜ k ≤ 8 ⌝ }
     ensures { λ r. ⌜ ((s : Setting) → s .stored ≡ 8 → s .event .mask ≡ mask → gatheredOf r ≡ gathered s (frontiers w (now (scratch .entry)) m) hints g k) ⌝ }
 {

@@ -1,5 +1,6 @@
 // The merge of the frontiers that stay and the new ones, in one pass over the window.
 
+use crate::Stepping;
 use clocks::Event;
 ghost use Prim.Native.Nat.{ℕ, _+_, _*_, _≤_, _<_};
 ghost use mathlib.Core.Path.{_≡_};
@@ -9,9 +10,11 @@ ghost use lib.ListN.{length};
 ghost use Rattle.codec.specs.Bit.{bit};
 ghost use Rattle.frontiers.specs.declared.Frontier.{Frontier};
 ghost use Rattle.frontiers.specs.Width.{Width};
-ghost use Rattle.frontiers.specs.Bytes.{frontierLength, frontierAt, frontiers};
-ghost use Rattle.window.specs.Step.{keptAfter, stepped};
-ghost use Rattle.window.specs.StepCode.{Fitting, settingWith};
+ghost use Rattle.frontiers.specs.Bytes.{frontierAt, frontiers};
+ghost use Rattle.window.specs.Step.{keptAfter};
+ghost use Rattle.window.specs.StepCode.{Fitting};
+ghost use Rattle.window.specs.Room.{RoomFor};
+ghost use Rattle.window_step.specs.Fixed.{settingOf, frontiersOf, steppedOf};
 ghost use Rattle.window_step.specs.Laying.{takes, restOf, freshAt};
 ghost use Rattle.window.specs.Marks.{Marked, Tells};
 
@@ -49,7 +52,7 @@ pub fn next_marked(marks: &[u8], n: usize, from: usize, p: u32) -> usize
 // Whether the next one to be laid down is new: i is the next that stays, j the next that the event leads on from.
 pub fn fresh_first(window: &[u8], w: usize, n: usize, i: usize, j: usize, e: Event) -> bool
     requires { ⌜ Width w ⌝ }
-    requires { ⌜ (n ≤ 1024) × (n * frontierLength w ≤ length (now window)) ⌝ }
+    requires { ⌜ RoomFor w n (now window) ⌝ }
     requires { ⌜ (j < n → takes e (frontierAt w (now window) j) ≡ true) ⌝ }
     ensures { λ r. ⌜ r ≡ freshAt e w (now (window .entry)) n i j ⌝ }
 {
@@ -65,32 +68,23 @@ pub fn fresh_first(window: &[u8], w: usize, n: usize, i: usize, j: usize, e: Eve
     lookup::order::counts_before(there, here)
 }
 
-// Lays down in the scratch all frontiers that there are after the event, by the marks; closed and reached only say what was marked.
-pub fn lay_all(
-    window: &[u8],
-    marks: &[u8],
-    scratch: &mut [u8],
-    w: usize,
-    n: usize,
-    kept: usize,
-    k: u32,
-    closed: u64,
-    e: Event,
-    reached: [u32; 8],
-    table: &[u8],
-    lines: u32,
-)
-    requires { ⌜ Width w ⌝ }
-    requires { ⌜ Fitting w e ⌝ }
-    requires { ⌜ (n ≤ 1024) × (n * frontierLength w ≤ length (now window)) ⌝ }
-    requires { ⌜ (kept ≤ 1024) × (kept * frontierLength w ≤ length (now scratch)) ⌝ }
-    requires { ⌜ (lines ≤ 64) × (3 * lines ≤ length (now table)) ⌝ }
-    requires { ⌜ k ≤ 8 ⌝ }
-    requires { ⌜ kept ≡ keptAfter (settingWith k closed (now table) lines e reached) (frontiers w (now window) n) ⌝ }
-    requires { ⌜ n ≤ length (now marks) ⌝ }
-    requires { ⌜ Marked (settingWith k closed (now table) lines e reached) w (now window) n (now marks) ⌝ }
-    ensures { λ r. ⌜ frontiers w (now (scratch .exit)) kept ≡ stepped (settingWith k closed (now (table .entry)) lines e reached) (frontiers w (now (window .entry)) n) ⌝ }
+// Lays down in the scratch all frontiers that there are after the event, by the marks.
+pub fn lay_all(window: &[u8], marks: &[u8], scratch: &mut [u8], table: &[u8], fixed: Stepping)
+    requires { ⌜ Width (fixed .w) ⌝ }
+    requires { ⌜ Fitting (fixed .w) (fixed .event) ⌝ }
+    requires { ⌜ RoomFor (fixed .w) (fixed .n) (now window) ⌝ }
+    requires { ⌜ RoomFor (fixed .w) (fixed .kept) (now scratch) ⌝ }
+    requires { ⌜ (fixed .lines ≤ 64) × (3 * fixed .lines ≤ length (now table)) ⌝ }
+    requires { ⌜ fixed .k ≤ 8 ⌝ }
+    requires { ⌜ fixed .kept ≡ keptAfter (settingOf fixed (now table)) (frontiersOf fixed (now window)) ⌝ }
+    requires { ⌜ fixed .n ≤ length (now marks) ⌝ }
+    requires { ⌜ Marked (settingOf fixed (now table)) (fixed .w) (now window) (fixed .n) (now marks) ⌝ }
+    ensures { λ r. ⌜ frontiers (fixed .w) (now (scratch .exit)) (fixed .kept) ≡ steppedOf fixed (now (table .entry)) (now (window .entry)) ⌝ }
 {
+    let w = fixed.w;
+    let n = fixed.n;
+    let kept = fixed.kept;
+    let e = fixed.event;
     let mask = e.mask;
     let full = crate::advance::full_bytes(mask);
     let mut hints = [0usize; 8];
@@ -99,19 +93,7 @@ pub fn lay_all(
     let mut m = 0;
     while m < kept {
         if fresh_first(window, w, n, i, j, e) {
-            let ended = crate::lay::lay_fresh(
-                window,
-                scratch,
-                w,
-                j,
-                m,
-                k,
-                full,
-                e,
-                table,
-                lines,
-                hints,
-            );
+            let ended = crate::lay::lay_fresh(window, scratch, table, fixed, full, j, m, hints);
             hints = ended;
             j = next_marked(marks, n, j + 1, LEADS);
             m = m + 1;

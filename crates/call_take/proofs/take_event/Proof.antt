@@ -38,10 +38,10 @@ verdict-requires : tie.Need-verdict-requires
 verdict-requires c κs =
     let asked = c .before .before .before .before .before .before .before .before .before .before .before .before .before .before .before .before .before .before .before .before .before .pre in
     let kept = asked .1 .1 .1 .1 .0 in
-    (search needs, ((kept .0, kept .1, omega (arith, kept .2)), search needs))
+    (search needs, ((kept .0, (kept .1 .0, omega (arith, kept .1 .1))), search needs))
 
 cast-state-word : tie.Need-cast-state-word
-cast-state-word c = let asked = c .before .before .before .before .before .before .before .before .before .before .before .before .before .before .before .before .before .before .before .before .before .before .pre in omega (arith, asked .1 .1 .1 .1 .0 .1)
+cast-state-word c = let asked = c .before .before .before .before .before .before .before .before .before .before .before .before .before .before .before .before .before .before .before .before .before .before .pre in omega (arith, asked .1 .1 .1 .1 .0 .1 .0)
 
 state-word-requires : tie.Need-state-word-requires
 state-word-requires c κs = search needs

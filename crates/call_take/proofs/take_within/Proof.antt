@@ -75,7 +75,7 @@ take-event-requires c κs =
     let count = c .before .before .before .before .before .before .before .before .before .before .before .before .kept-count .ensures in
     let t = choice-chosen (a .w) (now (a .s)) (a .allowed) _ _ _ (sym (c .before .before .before .before .before .choice3 .given .1) ∙ decision (c .before .before .before .before .before .before .before .before)) .1 in
     let long : length (c .before .before .before .before .before .before .before .before .decide .last .1 .1 .1 .0) ≡ 1024 = search needs in
-    (search needs, (search needs, (search needs, ((rw count (asked .1 .1 .1 .1 .0 .0), rw count (asked .1 .1 .1 .1 .0 .1)), ((t .some, omega (arith, t .few), omega (arith, mul-le-mul-right (frontierLength (a .w)) (t .few))), (search needs, ((t .pending, search needs), (t .ready, (rw count (t .many), (rw (long, count) (asked .1 .1 .1 .1 .0 .0), c .before .before .before .before .before .before .before .before .decide .ensures .1 _ _ (c .before .before .before .before .before .choice3 .given .1)))))))))))
+    (search needs, (search needs, (search needs, ((rw count (asked .1 .1 .1 .1 .0 .0), rw count (asked .1 .1 .1 .1 .0 .1)), ((t .some, (omega (arith, t .few), omega (arith, mul-le-mul-right (frontierLength (a .w)) (t .few)))), (search needs, ((t .pending, search needs), (t .ready, (rw count (t .many), (rw (long, count) (asked .1 .1 .1 .1 .0 .0), c .before .before .before .before .before .before .before .before .decide .ensures .1 _ _ (c .before .before .before .before .before .choice3 .given .1)))))))))))
 
 same-length : tie.Need-same-length
 same-length c = search needs

@@ -46,8 +46,8 @@ returns c =
     let window =
     c .before .before .before .before .before .before .clear .ensures
     ∙ ap (λ (y : List ℕ). sets y (far .result) (replicate (left .result) 0)) (c .before .before .before .before .before .before .before .before .before .before .before .copy-in .ensures)
-    ∙ copied-replaced (a .w) (now (a .window)) (now (a .scratch)) (a .n) (a .m) (far .result) (left .result) bytes (asked .1 .1 .1) (far .ensures .0) (left .ensures) in
-    (window, (search needs, ap (λ (y : List ℕ). frontiers (a .w) y (a .m)) window ∙ read-back (a .w) (now (a .window)) (now (a .scratch)) (a .n) (a .m) bytes (asked .1 .1 .1) (asked .1 .1 .0 .1)))
+    ∙ copied-replaced (a .w) (now (a .window)) (now (a .scratch)) (a .n) (a .m) (far .result) (left .result) bytes (asked .1 .1 .1 .1) (far .ensures .0) (left .ensures) in
+    (window, (search needs, ap (λ (y : List ℕ). frontiers (a .w) y (a .m)) window ∙ read-back (a .w) (now (a .window)) (now (a .scratch)) (a .n) (a .m) bytes (asked .1 .1 .1 .1) (asked .1 .1 .0 .1)))
 
 pub copy-back-spec : {M : Type 1} → statement M
 copy-back-spec =

@@ -8,15 +8,28 @@ use Rattle.window_step.proofs.step.step.Tie as tie
 use denote.Ref.{now}
 use Rattle.frontiers.specs.Bytes.{replaced}
 
+-- ---- Places in the walk: the start, and the frontiers laid down
+
+abbrev start : tie.After-lay-all-arg2 → tie.Start
+start c = let lent = c .before .before in lent .before .before .before .before
+
+abbrev laid : tie.After-copy-back-arg2 → tie.After-lay-all
+laid c = c .before .before .before .before
+
+abbrev copied : tie.After-slice-known5 → tie.After-copy-back
+copied c = c .before .before .before .before
+
+-- ---- The needs
+
 lay-all-requires : tie.Need-lay-all-requires
 lay-all-requires c κs =
-    let p = c .before .before .before .before .before .before .pre in
+    let p = start c .pre in
     (p .0, (p .1 .0, (p .1 .1 .0, (p .1 .1 .1 .0, (p .1 .1 .1 .1 .1 .0, (p .1 .1 .1 .1 .1 .1 .0, (p .1 .1 .1 .1 .1 .1 .1 .0, (p .1 .1 .1 .1 .1 .1 .1 .1 .0, p .1 .1 .1 .1 .1 .1 .1 .1 .1))))))))
 
 copy-back-requires : tie.Need-copy-back-requires
 copy-back-requires c κs =
-    let p = c .before .before .before .before .before .before .before .before .before .before .before .pre in
-    (p .0, (p .1 .1 .0, ((p .1 .1 .1 .0 .0, p .1 .1 .1 .1 .0), search needs)))
+    let p = start (laid c .before) .pre in
+    (p .0, (p .1 .1 .0, (p .1 .1 .1 .1 .0, (p .1 .1 .1 .0 .0, search needs))))
 
 same-length : tie.Need-same-length
 same-length c = search needs
@@ -26,9 +39,13 @@ same-length-2 c = search needs
 
 returns : tie.Need-returns
 returns c =
-    let a = c .before .before .before .before .before .before .before .before .before .before .before .before .before .before .before .before .args in
-    let long : length (c .before .before .before .before .before .before .before .before .before .lay-all .last .1 .1 .0) ≡ length (now (a .scratch)) = search needs in
-    (c .before .before .before .before .copy-back .ensures .0 ∙ ap (replaced (a .w) (now (a .window)) (a .n)) (c .before .before .before .before .before .before .before .before .before .lay-all .ensures), (c .before .before .before .before .copy-back .ensures .1 .0 ∙ ap (λ (n : ℕ). replicate n 0) long, c .before .before .before .before .copy-back .ensures .1 .1 ∙ c .before .before .before .before .before .before .before .before .before .lay-all .ensures))
+    let copy = copied c .copy-back .ensures in
+    let lay = laid (copied c .before) in
+    let a = start (lay .before) .args in
+    let long : length (lay .lay-all .last .1 .1 .0) ≡ length (now (a .scratch)) = search needs in (
+      copy .0 ∙ ap (replaced (a .fixed .w) (now (a .window)) (a .fixed .n)) (lay .lay-all .ensures),
+      (copy .1 .0 ∙ ap (λ (n : ℕ). replicate n 0) long, copy .1 .1 ∙ lay .lay-all .ensures),
+    )
 
 pub step-spec : {M : Type 1} → statement M
 step-spec =
