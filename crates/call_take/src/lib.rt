@@ -49,18 +49,25 @@ pub enum Choice {
 }
 
 // How many frontiers are kept once a ready event is taken; the marks say what comes of each.
-pub fn kept_with(s: &[u8], w: usize, window: &[u8], marks: &mut [u8], n: usize, e: Event) -> usize
+pub fn kept_with(
+    record: &[u8],
+    w: usize,
+    window: &[u8],
+    marks: &mut [u8],
+    n: usize,
+    e: Event,
+) -> usize
     requires { ⌜ Width w ⌝ }
-    requires { ⌜ length (now s) ≡ recordLength w ⌝ }
-    requires { ⌜ processCount (now s) ≤ 8 ⌝ }
+    requires { ⌜ length (now «record») ≡ recordLength w ⌝ }
+    requires { ⌜ processCount (now «record») ≤ 8 ⌝ }
     requires { ⌜ RoomFor w n (now window) ⌝ }
-    requires { ⌜ T (readyIn w (now s) e) ⌝ }
+    requires { ⌜ T (readyIn w (now «record») e) ⌝ }
     requires { ⌜ n ≤ length (now marks) ⌝ }
-    ensures { λ r. ⌜ r ≡ keptAfter (settingIn w (now (s .entry)) e) (frontiers w (now (window .entry)) n) ⌝ }
-    ensures { λ r. ⌜ Marked (settingIn w (now (s .entry)) e) w (now (window .entry)) n (now (marks .exit)) ⌝ }
+    ensures { λ r. ⌜ r ≡ keptAfter (settingIn w (now («record» .entry)) e) (frontiers w (now (window .entry)) n) ⌝ }
+    ensures { λ r. ⌜ Marked (settingIn w (now («record» .entry)) e) w (now (window .entry)) n (now (marks .exit)) ⌝ }
 {
-    let k = process_count(s);
-    let reached = clocks::step::apply(e, taken_counts(s, w));
+    let k = process_count(record);
+    let reached = clocks::step::apply(e, taken_counts(record, w));
     window::kept::count_after(window, marks, w, n, k, 0, e, reached)
 }
 
@@ -76,7 +83,7 @@ fn fitting(kept: usize, allowed: usize) -> bool
 
 // The first pending event that has a false clock, or that fits, with its marks; or none, and whether one was ready.
 pub fn decide(
-    s: &[u8],
+    record: &[u8],
     w: usize,
     window: &[u8],
     marks: &mut [u8],
@@ -84,27 +91,27 @@ pub fn decide(
     allowed: usize,
 ) -> Choice
     requires { ⌜ Width w ⌝ }
-    requires { ⌜ length (now s) ≡ recordLength w ⌝ }
-    requires { ⌜ processCount (now s) ≤ 8 ⌝ }
-    requires { ⌜ pendingCount (now s) ≤ 32 ⌝ }
+    requires { ⌜ length (now «record») ≡ recordLength w ⌝ }
+    requires { ⌜ processCount (now «record») ≤ 8 ⌝ }
+    requires { ⌜ pendingCount (now «record») ≤ 32 ⌝ }
     requires { ⌜ RoomFor w n (now window) ⌝ }
     requires { ⌜ n ≤ length (now marks) ⌝ }
-    ensures { λ r. ⌜ r ≡ choiceFor w (now (s .entry)) (frontiers w (now (window .entry)) n) (tried w (now (s .entry)) allowed (frontiers w (now (window .entry)) n) 0 false (pendingEvents w (now (s .entry)))) ⌝ }
-    ensures { λ r. ⌜ MarkedFor w (now (s .entry)) (now (window .entry)) n (now (marks .exit)) r ⌝ }
+    ensures { λ r. ⌜ r ≡ choiceFor w (now («record» .entry)) (frontiers w (now (window .entry)) n) (tried w (now («record» .entry)) allowed (frontiers w (now (window .entry)) n) 0 false (pendingEvents w (now («record» .entry)))) ⌝ }
+    ensures { λ r. ⌜ MarkedFor w (now («record» .entry)) (now (window .entry)) n (now (marks .exit)) r ⌝ }
 {
-    let taken = taken_counts(s, w);
-    let last = last_clocks(s, w);
-    let pending = pending_count(s);
+    let taken = taken_counts(record, w);
+    let last = last_clocks(record, w);
+    let pending = pending_count(record);
     let mut choice = Choice::Undecided { seen: false };
     let mut i = 0;
     'events: while i < pending {
-        let e = pending_event(s, w, i);
+        let e = pending_event(record, w, i);
         if clocks::step::ready(e, taken) {
             if !clocks::join::valid(e, last) {
                 choice = Choice::Falsified { place: i };
                 break 'events;
             }
-            let kept = kept_with(s, w, window, marks, n, e);
+            let kept = kept_with(record, w, window, marks, n, e);
             if fitting(kept, allowed) {
                 choice = Choice::Chosen { place: i, kept };
                 break 'events;
@@ -118,7 +125,7 @@ pub fn decide(
 
 // The window's step for a ready event, by the record's table and counts.
 fn step_window(
-    s: &[u8],
+    record: &[u8],
     w: usize,
     window: &mut [u8],
     marks: &[u8],
@@ -128,23 +135,23 @@ fn step_window(
     e: Event,
 )
     requires { ⌜ Width w ⌝ }
-    requires { ⌜ length (now s) ≡ recordLength w ⌝ }
-    requires { ⌜ (processCount (now s) ≤ 8) × (lineTotal (now s) ≤ 64) ⌝ }
+    requires { ⌜ length (now «record») ≡ recordLength w ⌝ }
+    requires { ⌜ (processCount (now «record») ≤ 8) × (lineTotal (now «record») ≤ 64) ⌝ }
     requires { ⌜ RoomFor w n (now window) ⌝ }
     requires { ⌜ RoomFor w kept (now window) ⌝ }
     requires { ⌜ length (now scratch) ≡ length (now window) ⌝ }
     requires { ⌜ Fitting w e ⌝ }
-    requires { ⌜ T (readyIn w (now s) e) ⌝ }
-    requires { ⌜ kept ≡ keptAfter (settingIn w (now s) e) (frontiers w (now window) n) ⌝ }
+    requires { ⌜ T (readyIn w (now «record») e) ⌝ }
+    requires { ⌜ kept ≡ keptAfter (settingIn w (now «record») e) (frontiers w (now window) n) ⌝ }
     requires { ⌜ n ≤ length (now marks) ⌝ }
-    requires { ⌜ Marked (settingIn w (now s) e) w (now window) n (now marks) ⌝ }
-    ensures window { λ r. ⌜ now (window .exit) ≡ replaced w (now (window .entry)) n (stepped (settingIn w (now (s .entry)) e) (frontiers w (now (window .entry)) n)) ⌝ }
+    requires { ⌜ Marked (settingIn w (now «record») e) w (now window) n (now marks) ⌝ }
+    ensures window { λ r. ⌜ now (window .exit) ≡ replaced w (now (window .entry)) n (stepped (settingIn w (now («record» .entry)) e) (frontiers w (now (window .entry)) n)) ⌝ }
     ensures scratch { λ r. ⌜ now (scratch .exit) ≡ replicate (length (now (scratch .entry))) 0 ⌝ }
-    ensures frontiers { λ r. ⌜ frontiers w (now (window .exit)) kept ≡ stepped (settingIn w (now (s .entry)) e) (frontiers w (now (window .entry)) n) ⌝ }
+    ensures frontiers { λ r. ⌜ frontiers w (now (window .exit)) kept ≡ stepped (settingIn w (now («record» .entry)) e) (frontiers w (now (window .entry)) n) ⌝ }
 {
-    let k = process_count(s);
-    let lines = line_total(s);
-    let reached = clocks::step::apply(e, taken_counts(s, w));
+    let k = process_count(record);
+    let lines = line_total(record);
+    let reached = clocks::step::apply(e, taken_counts(record, w));
     let place = table_place(w);
     let fixed = Stepping {
         w,
@@ -156,7 +163,7 @@ fn step_window(
         reached,
         lines,
     };
-    window_step::step::step(window, marks, scratch, &s[place..], fixed);
+    window_step::step::step(window, marks, scratch, &record[place..], fixed);
 }
 
 // The rule's truth at the last of so many frontiers: the table's last line.
@@ -170,21 +177,21 @@ fn verdict(window: &[u8], w: usize, kept: usize, lines: u32) -> bool
 }
 
 // Pending event number i leaves and is counted as taken.
-fn count_event(s: &mut [u8], w: usize, i: usize, e: Event, kept: u32)
+fn count_event(record: &mut [u8], w: usize, i: usize, e: Event, kept: u32)
     requires { ⌜ Width w ⌝ }
-    requires { ⌜ length (now s) ≡ recordLength w ⌝ }
-    requires { ⌜ (i < pendingCount (now s)) × (pendingCount (now s) ≤ 32) ⌝ }
+    requires { ⌜ length (now «record») ≡ recordLength w ⌝ }
+    requires { ⌜ (i < pendingCount (now «record»)) × (pendingCount (now «record») ≤ 32) ⌝ }
     requires { ⌜ ((p : ℕ) → at (e .clock) p < 256 ^ w) ⌝ }
-    requires { ⌜ T (readyIn w (now s) e) ⌝ }
-    ensures { λ r. ⌜ now (s .exit) ≡ counted w (removed w (now (s .entry)) i) e kept ⌝ }
+    requires { ⌜ T (readyIn w (now «record») e) ⌝ }
+    ensures { λ r. ⌜ now («record» .exit) ≡ counted w (removed w (now («record» .entry)) i) e kept ⌝ }
 {
-    remove_event(s, w, i);
-    count_taken(s, w, e, kept);
+    remove_event(record, w, i);
+    count_taken(record, w, e, kept);
 }
 
 // Takes pending event number i, with which so many frontiers are kept: the reply, and the bytes of the three buffers after it.
 fn take_event(
-    s: &mut [u8],
+    record: &mut [u8],
     w: usize,
     window: &mut [u8],
     marks: &[u8],
@@ -194,25 +201,25 @@ fn take_event(
     kept: usize,
 ) -> u64
     requires { ⌜ Width w ⌝ }
-    requires { ⌜ length (now s) ≡ recordLength w ⌝ }
-    requires { ⌜ (processCount (now s) ≤ 8) × (1 ≤ lineTotal (now s)) × (lineTotal (now s) ≤ 64) ⌝ }
+    requires { ⌜ length (now «record») ≡ recordLength w ⌝ }
+    requires { ⌜ (processCount (now «record») ≤ 8) × (1 ≤ lineTotal (now «record»)) × (lineTotal (now «record») ≤ 64) ⌝ }
     requires { ⌜ RoomFor w n (now window) ⌝ }
     requires { ⌜ (1 ≤ kept) × RoomFor w kept (now window) ⌝ }
     requires { ⌜ length (now scratch) ≡ length (now window) ⌝ }
-    requires { ⌜ (i < pendingCount (now s)) × (pendingCount (now s) ≤ 32) ⌝ }
-    requires { ⌜ T (readyIn w (now s) (pendingAt w (now s) i)) ⌝ }
-    requires { ⌜ kept ≡ keptAfter (settingIn w (now s) (pendingAt w (now s) i)) (frontiers w (now window) n) ⌝ }
+    requires { ⌜ (i < pendingCount (now «record»)) × (pendingCount (now «record») ≤ 32) ⌝ }
+    requires { ⌜ T (readyIn w (now «record») (pendingAt w (now «record») i)) ⌝ }
+    requires { ⌜ kept ≡ keptAfter (settingIn w (now «record») (pendingAt w (now «record») i)) (frontiers w (now window) n) ⌝ }
     requires { ⌜ n ≤ length (now marks) ⌝ }
-    requires { ⌜ Marked (settingIn w (now s) (pendingAt w (now s) i)) w (now window) n (now marks) ⌝ }
-    ensures reply { λ r. ⌜ r ≡ replyWord (decided w (now (s .entry)) (now (window .entry)) (frontiers w (now (window .entry)) n) (chosen i) .answer) ⌝ }
-    ensures bytes { λ r. ⌜ now (s .exit) ≡ decided w (now (s .entry)) (now (window .entry)) (frontiers w (now (window .entry)) n) (chosen i) .bytes ⌝ }
-    ensures window { λ r. ⌜ now (window .exit) ≡ decided w (now (s .entry)) (now (window .entry)) (frontiers w (now (window .entry)) n) (chosen i) .window ⌝ }
+    requires { ⌜ Marked (settingIn w (now «record») (pendingAt w (now «record») i)) w (now window) n (now marks) ⌝ }
+    ensures reply { λ r. ⌜ r ≡ replyWord (decided w (now («record» .entry)) (now (window .entry)) (frontiers w (now (window .entry)) n) (chosen i) .answer) ⌝ }
+    ensures bytes { λ r. ⌜ now («record» .exit) ≡ decided w (now («record» .entry)) (now (window .entry)) (frontiers w (now (window .entry)) n) (chosen i) .bytes ⌝ }
+    ensures window { λ r. ⌜ now (window .exit) ≡ decided w (now («record» .entry)) (now (window .entry)) (frontiers w (now (window .entry)) n) (chosen i) .window ⌝ }
     ensures scratch { λ r. ⌜ now (scratch .exit) ≡ replicate (length (now (window .entry))) 0 ⌝ }
 {
-    let e = pending_event(s, w, i);
-    let lines = line_total(s);
-    step_window(s, w, window, marks, scratch, n, kept, e);
-    count_event(s, w, i, e, kept as u32);
+    let e = pending_event(record, w, i);
+    let lines = line_total(record);
+    step_window(record, w, window, marks, scratch, n, kept, e);
+    count_event(record, w, i, e, kept as u32);
     state_word(verdict(window, w, kept, lines), kept as u32)
 }
 
@@ -227,45 +234,54 @@ fn undecided_word(seen: bool) -> u64
 pub fn take_within(
     w: usize,
     allowed: usize,
-    s: &mut [u8],
+    record: &mut [u8],
     window: &mut [u8],
     scratch: &mut [u8],
 ) -> u64
     requires { ⌜ Width w ⌝ }
-    requires { ⌜ length (now s) ≡ recordLength w ⌝ }
-    requires { ⌜ (processCount (now s) ≤ 8) × (1 ≤ lineTotal (now s)) × (lineTotal (now s) ≤ 64) ⌝ }
-    requires { ⌜ pendingCount (now s) ≤ 32 ⌝ }
-    requires { ⌜ RoomFor w (keptCount (now s)) (now window) ⌝ }
+    requires { ⌜ length (now «record») ≡ recordLength w ⌝ }
+    requires { ⌜ (processCount (now «record») ≤ 8) × (1 ≤ lineTotal (now «record»)) × (lineTotal (now «record») ≤ 64) ⌝ }
+    requires { ⌜ pendingCount (now «record») ≤ 32 ⌝ }
+    requires { ⌜ RoomFor w (keptCount (now «record»)) (now window) ⌝ }
     requires { ⌜ RoomFor w allowed (now window) ⌝ }
     requires { ⌜ length (now scratch) ≡ length (now window) ⌝ }
-    ensures reply { λ r. ⌜ r ≡ replyWord (takeWithin w allowed (now (s .entry)) (now (window .entry)) .answer) ⌝ }
-    ensures bytes { λ r. ⌜ now (s .exit) ≡ takeWithin w allowed (now (s .entry)) (now (window .entry)) .bytes ⌝ }
-    ensures window { λ r. ⌜ now (window .exit) ≡ takeWithin w allowed (now (s .entry)) (now (window .entry)) .window ⌝ }
-    ensures scratch { λ r. ⌜ now (scratch .exit) ≡ takeWithin w allowed (now (s .entry)) (now (window .entry)) .scratch ⌝ }
+    ensures reply { λ r. ⌜ r ≡ replyWord (takeWithin w allowed (now («record» .entry)) (now (window .entry)) .answer) ⌝ }
+    ensures bytes { λ r. ⌜ now («record» .exit) ≡ takeWithin w allowed (now («record» .entry)) (now (window .entry)) .bytes ⌝ }
+    ensures window { λ r. ⌜ now (window .exit) ≡ takeWithin w allowed (now («record» .entry)) (now (window .entry)) .window ⌝ }
+    ensures scratch { λ r. ⌜ now (scratch .exit) ≡ takeWithin w allowed (now («record» .entry)) (now (window .entry)) .scratch ⌝ }
 {
-    let n = kept_count(s) as usize;
+    let n = kept_count(record) as usize;
     let mut marks = [0u8; 1024];
-    let choice = decide(s, w, window, &mut marks, n, allowed);
+    let choice = decide(record, w, window, &mut marks, n, allowed);
     match choice {
         Choice::Undecided { seen } => {
             frontiers::moving::clear_all(scratch);
             undecided_word(seen)
         }
         Choice::Falsified { place } => {
-            remove_event(s, w, place);
+            remove_event(record, w, place);
             frontiers::moving::clear_all(scratch);
             FALSE_CLOCK
         }
-        Choice::Chosen { place, kept } => take_event(s, w, window, &marks, scratch, n, place, kept),
+        Choice::Chosen { place, kept } => take_event(
+            record,
+            w,
+            window,
+            &marks,
+            scratch,
+            n,
+            place,
+            kept,
+        ),
     }
 }
 
 // The number that a take is turned back with; 0 for none.
-pub fn take_fault(w: usize, s: &[u8], n: usize, m: usize) -> u64
+pub fn take_fault(w: usize, record: &[u8], n: usize, m: usize) -> u64
     requires { ⌜ Width w ⌝ }
-    ensures { λ r. ⌜ r ≡ takeFault w (now (s .entry)) n m ⌝ }
+    ensures { λ r. ⌜ r ≡ takeFault w (now («record» .entry)) n m ⌝ }
 {
-    if bad_record_length(w, s.len()) {
+    if bad_record_length(w, record.len()) {
         return LENGTH;
     }
     if bad_window_length(w, n) {
@@ -274,23 +290,23 @@ pub fn take_fault(w: usize, s: &[u8], n: usize, m: usize) -> u64
     if m != n {
         return LENGTH;
     }
-    if bad_state(s, w, room_of(w, n)) {
+    if bad_state(record, w, room_of(w, n)) {
         return STATE;
     }
     0
 }
 
 // Takes the first event that is decided on: the reply, and the bytes of the three buffers after it.
-pub fn take(w: usize, s: &mut [u8], window: &mut [u8], scratch: &mut [u8]) -> u64
+pub fn take(w: usize, record: &mut [u8], window: &mut [u8], scratch: &mut [u8]) -> u64
     requires { ⌜ Width w ⌝ }
-    ensures reply { λ r. ⌜ r ≡ replyWord (takeCall w (now (s .entry)) (now (window .entry)) (now (scratch .entry)) .answer) ⌝ }
-    ensures bytes { λ r. ⌜ now (s .exit) ≡ takeCall w (now (s .entry)) (now (window .entry)) (now (scratch .entry)) .bytes ⌝ }
-    ensures window { λ r. ⌜ now (window .exit) ≡ takeCall w (now (s .entry)) (now (window .entry)) (now (scratch .entry)) .window ⌝ }
-    ensures scratch { λ r. ⌜ now (scratch .exit) ≡ takeCall w (now (s .entry)) (now (window .entry)) (now (scratch .entry)) .scratch ⌝ }
+    ensures reply { λ r. ⌜ r ≡ replyWord (takeCall w (now («record» .entry)) (now (window .entry)) (now (scratch .entry)) .answer) ⌝ }
+    ensures bytes { λ r. ⌜ now («record» .exit) ≡ takeCall w (now («record» .entry)) (now (window .entry)) (now (scratch .entry)) .bytes ⌝ }
+    ensures window { λ r. ⌜ now (window .exit) ≡ takeCall w (now («record» .entry)) (now (window .entry)) (now (scratch .entry)) .window ⌝ }
+    ensures scratch { λ r. ⌜ now (scratch .exit) ≡ takeCall w (now («record» .entry)) (now (window .entry)) (now (scratch .entry)) .scratch ⌝ }
 {
-    let fault = take_fault(w, s, window.len(), scratch.len());
+    let fault = take_fault(w, record, window.len(), scratch.len());
     if fault != 0 {
         return fault;
     }
-    take_within(w, room_of(w, window.len()), s, window, scratch)
+    take_within(w, room_of(w, window.len()), record, window, scratch)
 }

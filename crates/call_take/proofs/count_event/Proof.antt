@@ -18,7 +18,7 @@ count-taken-requires c κs =
     let a = c .before .before .before .before .before .before .args in
     let asked = c .before .before .before .before .before .before .pre in
     let ready : T (readyIn (a .w) (c .before .before .before .remove-event .last .0) (a .e)) =
-    rw (c .before .before .before .remove-event .ensures) (removed-ready (a .w) (now (a .s)) (a .i) (a .e) (asked .1 .1 .1 .1)) in
+    rw (c .before .before .before .remove-event .ensures) (removed-ready (a .w) (now (a .«record»)) (a .i) (a .e) (asked .1 .1 .1 .1)) in
     (search needs, (search needs, (asked .1 .1 .1 .0, ready)))
 
 same-length : tie.Need-same-length

@@ -55,12 +55,12 @@ valid-requires c κs = search needs
 
 -- The tests' answers are those of pending event number i.
 tested-ready : (c : tie.After-ready Inv-events μ-events) → let a = c .before .before .before .before .before .before .before .before .before .before .args in
-    readyIn (a .w) (now (a .s)) (pendingAt (a .w) (now (a .s)) (c .before .before .before .events .i)) ≡ c .ready .result
+    readyIn (a .w) (now (a .«record»)) (pendingAt (a .w) (now (a .«record»)) (c .before .before .before .events .i)) ≡ c .ready .result
 unfolding readyIn
 tested-ready c = rw (← (c .before .pending-event .ensures), ← (c .before .before .before .before .before .before .taken-counts .ensures)) (sym (c .ready .ensures))
 
 tested-valid : (c : tie.After-valid Inv-events μ-events) → let a = c .before .before .before .before .before .before .before .before .before .before .before .before .args in
-    validIn (a .w) (now (a .s)) (pendingAt (a .w) (now (a .s)) (c .before .before .before .before .before .events .i)) ≡ c .valid .result
+    validIn (a .w) (now (a .«record»)) (pendingAt (a .w) (now (a .«record»)) (c .before .before .before .before .before .events .i)) ≡ c .valid .result
 unfolding validIn
 tested-valid c = rw (← (c .before .before .before .pending-event .ensures), ← (c .before .before .before .before .before .before .before .last-clocks .ensures)) (sym (c .valid .ensures))
 
@@ -71,7 +71,7 @@ fitting-requires : tie.Need-fitting-requires Inv-events μ-events
 fitting-requires c κs = search needs
 
 tested-fits : (c : tie.After-fitting Inv-events μ-events) → let a = c .before .before .before .before .before .before .before .before .before .before .before .before .before .before .before .before .before .before .args in
-    fits (settingIn (a .w) (now (a .s)) (pendingAt (a .w) (now (a .s)) (c .before .before .before .before .before .before .before .before .before .before .before .events .i))) (a .allowed) (frontiers (a .w) (now (a .window)) (a .n)) ≡ c .fitting .result
+    fits (settingIn (a .w) (now (a .«record»)) (pendingAt (a .w) (now (a .«record»)) (c .before .before .before .before .before .before .before .before .before .before .before .events .i))) (a .allowed) (frontiers (a .w) (now (a .window)) (a .n)) ≡ c .fitting .result
 unfolding fits
 tested-fits c = rw (← (c .before .before .before .before .before .before .before .before .before .pending-event .ensures), ← (c .before .before .before .kept-with .ensures .0)) (sym (c .fitting .ensures))
 
@@ -84,12 +84,12 @@ events-less c = search needs
 -- An event that is not ready, and one that does not fit, is passed over.
 passed : (c : tie.Else1 Inv-events μ-events) → let a = c .before .before .before .before .before .before .before .before .before .before .before .args in
     let l = c .before .before .before .before .events in
-    triedFrom (a .w) (now (a .s)) (a .allowed) (frontiers (a .w) (now (a .window)) (a .n)) (l .i) (l .inv .1 .0) ≡ triedFrom (a .w) (now (a .s)) (a .allowed) (frontiers (a .w) (now (a .window)) (a .n)) (l .i + 1) (l .inv .1 .0)
+    triedFrom (a .w) (now (a .«record»)) (a .allowed) (frontiers (a .w) (now (a .window)) (a .n)) (l .i) (l .inv .1 .0) ≡ triedFrom (a .w) (now (a .«record»)) (a .allowed) (frontiers (a .w) (now (a .window)) (a .n)) (l .i + 1) (l .inv .1 .0)
 passed c = tried-pass _ _ _ _ _ _ (omega arith) (tested-ready (c .before) ∙ c .if1 .left)
 
 passed-full : (c : tie.Else3 Inv-events μ-events) → let a = c .before .before .before .before .before .before .before .before .before .before .before .before .before .before .before .before .before .before .before .args in
     let l = c .before .before .before .before .before .before .before .before .before .before .before .before .events in
-    triedFrom (a .w) (now (a .s)) (a .allowed) (frontiers (a .w) (now (a .window)) (a .n)) (l .i) (l .inv .1 .0) ≡ triedFrom (a .w) (now (a .s)) (a .allowed) (frontiers (a .w) (now (a .window)) (a .n)) (l .i + 1) true
+    triedFrom (a .w) (now (a .«record»)) (a .allowed) (frontiers (a .w) (now (a .window)) (a .n)) (l .i) (l .inv .1 .0) ≡ triedFrom (a .w) (now (a .«record»)) (a .allowed) (frontiers (a .w) (now (a .window)) (a .n)) (l .i + 1) true
 passed-full c = tried-full _ _ _ _ _ _ (omega arith)
     (tested-ready (c .before .before .before .before .before .before .before .before .before) ∙ c .before .before .before .before .before .before .before .before .if1 .taken)
     (tested-valid (c .before .before .before .before .before .before .before) ∙ not-false _ (c .before .before .before .before .before .before .if2 .left))
@@ -135,8 +135,8 @@ unfolding choiceFor
 returns-3 c =
     let l = c .before .before .before .before .before .before .before .before .before .before .before .before .events in
     let a = c .before .before .before .before .before .before .before .before .before .before .before .before .before .before .before .before .before .before .before .args in (
-      ap (Chosen (l .i)) (c .before .before .before .before .kept-with .ensures .0 ∙ ap (λ (e : Event). keptAfter (settingIn (a .w) (now (a .s)) e) (frontiers (a .w) (now (a .window)) (a .n))) (c .before .before .before .before .before .before .before .before .before .before .pending-event .ensures))
-          ∙ sym (ap (choiceFor (a .w) (now (a .s)) (frontiers (a .w) (now (a .window)) (a .n))) (l .inv .1 .2 ∙ tried-fits _ _ _ _ _ _ (omega arith)
+      ap (Chosen (l .i)) (c .before .before .before .before .kept-with .ensures .0 ∙ ap (λ (e : Event). keptAfter (settingIn (a .w) (now (a .«record»)) e) (frontiers (a .w) (now (a .window)) (a .n))) (c .before .before .before .before .before .before .before .before .before .before .pending-event .ensures))
+          ∙ sym (ap (choiceFor (a .w) (now (a .«record»)) (frontiers (a .w) (now (a .window)) (a .n))) (l .inv .1 .2 ∙ tried-fits _ _ _ _ _ _ (omega arith)
           (tested-ready (c .before .before .before .before .before .before .before .before .before) ∙ c .before .before .before .before .before .before .before .before .if1 .taken)
           (tested-valid (c .before .before .before .before .before .before .before) ∙ not-false _ (c .before .before .before .before .before .before .if2 .left))
           (tested-fits (c .before) ∙ c .if3 .taken))),

@@ -32,10 +32,10 @@ returns : tie.Need-returns
 returns c =
     let a = c .before .before .before .before .before .before .before .before .before .before .args in
     let small : a .e .mask < 256 = omega arith in
-    let counts : c .before .before .before .before .apply .result ≡ listOf 8 (apply (a .e) (at (takenCounts (a .w) (now (a .s))))) =
+    let counts : c .before .before .before .before .apply .result ≡ listOf 8 (apply (a .e) (at (takenCounts (a .w) (now (a .«record»))))) =
     c .before .before .before .before .apply .ensures ∙ ap (λ (l : List ℕ). listOf 8 (apply (a .e) (at l))) (c .before .before .before .before .before .taken-counts .ensures) in (
-      rw (setting-with (a .w) (now (a .s)) (a .e) small, ← counts, ← (c .before .before .before .before .before .before .process-count .ensures .0)) (c .before .before .count-after .ensures .0 _ _),
-      rw (setting-with (a .w) (now (a .s)) (a .e) small, ← counts, ← (c .before .before .before .before .before .before .process-count .ensures .0)) (c .before .before .count-after .ensures .1 .1 _ _),
+      rw (setting-with (a .w) (now (a .«record»)) (a .e) small, ← counts, ← (c .before .before .before .before .before .before .process-count .ensures .0)) (c .before .before .count-after .ensures .0 _ _),
+      rw (setting-with (a .w) (now (a .«record»)) (a .e) small, ← counts, ← (c .before .before .before .before .before .before .process-count .ensures .0)) (c .before .before .count-after .ensures .1 .1 _ _),
     )
 
 pub kept-with-spec : {M : Type 1} → statement M

@@ -44,12 +44,12 @@ part-step-end c = search needs
 
 -- The step's parameters make the record's setting.
 setting : (c : tie.After-table-place) → let a = c .before .before .before .before .before .before .before .before .before .args in
-    settingIn (a .w) (now (a .s)) (a .e) ≡ settingWith (c .before .before .before .before .process-count .result) 0 (take (length (now (a .s)) - c .table-place .result) (drop (c .table-place .result) (now (a .s)))) (c .before .before .before .line-total .result) (a .e) (c .before .apply .result)
+    settingIn (a .w) (now (a .«record»)) (a .e) ≡ settingWith (c .before .before .before .before .process-count .result) 0 (take (length (now (a .«record»)) - c .table-place .result) (drop (c .table-place .result) (now (a .«record»)))) (c .before .before .before .line-total .result) (a .e) (c .before .apply .result)
 setting c =
     let a = c .before .before .before .before .before .before .before .before .before .args in
-    let counts : c .before .apply .result ≡ listOf 8 (apply (a .e) (at (takenCounts (a .w) (now (a .s))))) =
+    let counts : c .before .apply .result ≡ listOf 8 (apply (a .e) (at (takenCounts (a .w) (now (a .«record»))))) =
     c .before .apply .ensures ∙ ap (λ (l : List ℕ). listOf 8 (apply (a .e) (at l))) (c .before .before .taken-counts .ensures) in
-    setting-lent (a .w) (now (a .s)) (a .e) _ _ _ _ (omega arith) (c .before .before .before .before .process-count .ensures .0) (c .table-place .ensures .0) (c .before .before .before .line-total .ensures .0) counts
+    setting-lent (a .w) (now (a .«record»)) (a .e) _ _ _ _ (omega arith) (c .before .before .before .before .process-count .ensures .0) (c .table-place .ensures .0) (c .before .before .before .line-total .ensures .0) counts
 
 step-requires : tie.Need-step-requires
 step-requires c κs =

@@ -17,18 +17,18 @@ same-length c = search needs
 returns : tie.Need-returns
 returns c =
     let a = c .before .before .before .before .before .before .args in
-    let t = take-turned (a .w) (now (a .s)) (now (a .window)) (now (a .scratch)) (c .before .take-fault .result) (c .before .take-fault .ensures) (c .if1 .taken) in
+    let t = take-turned (a .w) (now (a .«record»)) (now (a .window)) (now (a .scratch)) (c .before .take-fault .result) (c .before .take-fault .ensures) (c .if1 .taken) in
     (t .0, (t .1, (t .2, t .3)))
 
 room-of-requires : tie.Need-room-of-requires
 room-of-requires c κs = search needs
 
 -- Nothing turns the call back.
-none : (c : tie.Else1) → let a = c .before .before .before .before .before .before .args in takeFault (a .w) (now (a .s)) (length (now (a .window))) (length (now (a .scratch))) ≡ 0
+none : (c : tie.Else1) → let a = c .before .before .before .before .before .before .args in takeFault (a .w) (now (a .«record»)) (length (now (a .window))) (length (now (a .scratch))) ≡ 0
 none c = sym (c .before .take-fault .ensures) ∙ c .if1 .left
 
-fit : (c : tie.Else1) → let a = c .before .before .before .before .before .before .args in Fit (a .w) (now (a .s)) (length (now (a .window))) (length (now (a .scratch)))
-fit c = let a = c .before .before .before .before .before .before .args in take-fit (a .w) (now (a .s)) (now (a .window)) (now (a .scratch)) (none c)
+fit : (c : tie.Else1) → let a = c .before .before .before .before .before .before .args in Fit (a .w) (now (a .«record»)) (length (now (a .window))) (length (now (a .scratch)))
+fit c = let a = c .before .before .before .before .before .before .args in take-fit (a .w) (now (a .«record»)) (now (a .window)) (now (a .scratch)) (none c)
 
 take-within-requires : tie.Need-take-within-requires
 take-within-requires c κs =
@@ -48,7 +48,7 @@ same-length-4 c = search needs
 returns-2 : tie.Need-returns-2
 returns-2 c =
     let a = c .before .before .before .before .before .before .before .before .before .before .before .before .before .before .before .before .before .args in
-    let goes = take-goes (a .w) (now (a .s)) (now (a .window)) (now (a .scratch)) (none (c .before .before .before .before .before .before .before .before .before .before .before)) in
+    let goes = take-goes (a .w) (now (a .«record»)) (now (a .window)) (now (a .scratch)) (none (c .before .before .before .before .before .before .before .before .before .before .before)) in
     let e = c .before .before .before .before .before .before .take-within .ensures in
     let room = c .before .before .before .before .before .before .before .before .before .before .room-of .ensures in
     (rw (goes, ← room) (e .0), (rw (goes, ← room) (e .1 .0), (rw (goes, ← room) (e .1 .1 .0), rw (goes, ← room) (e .1 .1 .1))))

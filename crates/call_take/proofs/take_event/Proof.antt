@@ -22,7 +22,7 @@ step-window-requires c κs =
     let a = c .before .before .before .before .before .before .before .before .before .before .before .args in
     let asked = c .before .before .before .before .before .before .before .before .before .before .before .pre in
     let event = c .before .before .before .before .before .pending-event .ensures in
-    (search needs, (search needs, (search needs, (search needs, (search needs, (search needs, (rw event (pending-fits (a .w) (now (a .s)) (a .i) (λ j. c .before .before .before .before .before .before .before .before .before .before .slice-known .given j .fits)), (rw event (asked .1 .1 .1 .1 .1 .1 .1 .0), (rw event (asked .1 .1 .1 .1 .1 .1 .1 .1 .0), (asked .1 .1 .1 .1 .1 .1 .1 .1 .1 .0, rw event (asked .1 .1 .1 .1 .1 .1 .1 .1 .1 .1)))))))))))
+    (search needs, (search needs, (search needs, (search needs, (search needs, (search needs, (rw event (pending-fits (a .w) (now (a .«record»)) (a .i) (λ j. c .before .before .before .before .before .before .before .before .before .before .slice-known .given j .fits)), (rw event (asked .1 .1 .1 .1 .1 .1 .1 .0), (rw event (asked .1 .1 .1 .1 .1 .1 .1 .1 .0), (asked .1 .1 .1 .1 .1 .1 .1 .1 .1 .0, rw event (asked .1 .1 .1 .1 .1 .1 .1 .1 .1 .1)))))))))))
 
 cast-count-event : tie.Need-cast-count-event
 cast-count-event c = search needs
@@ -32,7 +32,7 @@ count-event-requires c κs =
     let a = c .before .before .before .before .before .before .before .before .before .before .before .before .before .before .before .before .before .args in
     let asked = c .before .before .before .before .before .before .before .before .before .before .before .before .before .before .before .before .before .pre in
     let event = c .before .before .before .before .before .before .before .before .before .before .before .pending-event .ensures in
-    (search needs, (search needs, (search needs, (rw event (pending-fits (a .w) (now (a .s)) (a .i) (λ j. c .before .before .before .before .before .before .before .before .before .before .before .before .before .before .before .before .slice-known .given j .fits) .clock-fits), rw event (asked .1 .1 .1 .1 .1 .1 .1 .0)))))
+    (search needs, (search needs, (search needs, (rw event (pending-fits (a .w) (now (a .«record»)) (a .i) (λ j. c .before .before .before .before .before .before .before .before .before .before .before .before .before .before .before .before .slice-known .given j .fits) .clock-fits), rw event (asked .1 .1 .1 .1 .1 .1 .1 .0)))))
 
 verdict-requires : tie.Need-verdict-requires
 verdict-requires c κs =
@@ -63,8 +63,8 @@ returns c =
     let kept = asked .1 .1 .1 .1 .1 .1 .1 .1 .0 in
     let event = c .before .before .before .before .before .before .before .before .before .before .before .before .before .before .before .before .before .pending-event .ensures in
     let step = c .before .before .before .before .before .before .before .before .before .before .before .step-window .ensures in (
-      taken-answer (a .w) (now (a .s)) (now (a .window)) (a .n) (a .i) (a .kept) kept (c .before .before .before .before .before .before .before .before .before .before .before .step-window .last .1 .1 .0) _ _ _ (rw event at (step .1 .1)) (c .before .before .before .before .before .before .before .before .before .before .before .before .before .before .before .line-total .ensures .0) (c .before .verdict .ensures) (c .state-word .ensures),
-      (taken-bytes (a .w) (now (a .s)) (now (a .window)) (a .n) (a .i) (a .kept) kept _ _ event (c .before .before .before .before .before .count-event .ensures), (rw (length-frontiers (a .w) (now (a .window)) (a .n)) (rw event at (step .0)), step .1 .0 ∙ ap (λ (m : ℕ). replicate m 0) (asked .1 .1 .1 .1 .1 .0))),
+      taken-answer (a .w) (now (a .«record»)) (now (a .window)) (a .n) (a .i) (a .kept) kept (c .before .before .before .before .before .before .before .before .before .before .before .step-window .last .1 .1 .0) _ _ _ (rw event at (step .1 .1)) (c .before .before .before .before .before .before .before .before .before .before .before .before .before .before .before .line-total .ensures .0) (c .before .verdict .ensures) (c .state-word .ensures),
+      (taken-bytes (a .w) (now (a .«record»)) (now (a .window)) (a .n) (a .i) (a .kept) kept _ _ event (c .before .before .before .before .before .count-event .ensures), (rw (length-frontiers (a .w) (now (a .window)) (a .n)) (rw event at (step .0)), step .1 .0 ∙ ap (λ (m : ℕ). replicate m 0) (asked .1 .1 .1 .1 .1 .0))),
     )
 
 pub take-event-spec : {M : Type 1} → statement M

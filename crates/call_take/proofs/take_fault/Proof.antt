@@ -16,15 +16,15 @@ bad-record-length-requires : tie.Need-bad-record-length-requires
 bad-record-length-requires c κs = search needs
 
 -- The tests that let the call pass.
-length-passed : (c : tie.Else1) → badRecordLength (c .before .before .before .args .w) (length (now (c .before .before .before .args .s))) ≡ false
+length-passed : (c : tie.Else1) → badRecordLength (c .before .before .before .args .w) (length (now (c .before .before .before .args .«record»))) ≡ false
 length-passed c = sym (c .before .bad-record-length .ensures) ∙ c .if1 .left
 
 window-passed : (c : tie.Else2) → badWindowLength (c .before .before .before .before .before .args .w) (c .before .before .before .before .before .args .n) ≡ false
 window-passed c = sym (c .before .bad-window-length .ensures) ∙ c .if2 .left
 
 -- The state is judged with the window's room.
-state-read : (c : tie.After-bad-state) → badState (c .before .before .before .before .before .before .before .before .args .w) (roomOf (c .before .before .before .before .before .before .before .before .args .w) (c .before .before .before .before .before .before .before .before .args .n)) (now (c .before .before .before .before .before .before .before .before .args .s)) ≡ c .bad-state .result
-state-read c = sym (c .bad-state .ensures ∙ ap (λ (room : ℕ). badState (c .before .before .before .before .before .before .before .before .args .w) room (now (c .before .before .before .before .before .before .before .before .args .s))) (c .before .room-of .ensures))
+state-read : (c : tie.After-bad-state) → badState (c .before .before .before .before .before .before .before .before .args .w) (roomOf (c .before .before .before .before .before .before .before .before .args .w) (c .before .before .before .before .before .before .before .before .args .n)) (now (c .before .before .before .before .before .before .before .before .args .«record»)) ≡ c .bad-state .result
+state-read c = sym (c .bad-state .ensures ∙ ap (λ (room : ℕ). badState (c .before .before .before .before .before .before .before .before .args .w) room (now (c .before .before .before .before .before .before .before .before .args .«record»))) (c .before .room-of .ensures))
 
 returns : tie.Need-returns
 unfolding takeFault
@@ -45,7 +45,7 @@ room-of-requires : tie.Need-room-of-requires
 room-of-requires c κs = search needs
 
 bad-state-requires : tie.Need-bad-state-requires
-bad-state-requires c κs = (search needs, right-length (c .before .before .before .before .before .before .before .args .w) (length (now (c .before .before .before .before .before .before .before .args .s))) (length-passed (c .before .before .before .before)))
+bad-state-requires c κs = (search needs, right-length (c .before .before .before .before .before .before .before .args .w) (length (now (c .before .before .before .before .before .before .before .args .«record»))) (length-passed (c .before .before .before .before)))
 
 returns-4 : tie.Need-returns-4
 unfolding takeFault

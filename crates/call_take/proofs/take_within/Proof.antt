@@ -38,7 +38,7 @@ decide-requires c κs =
 
 -- What is to be known of the call that decides: its frontiers are those that the record says are kept.
 decision : (c : tie.After-decide) → let a = c .before .before .before .before .before .before .before .before .before .args in
-    c .decide .result ≡ choiceFor (a .w) (now (a .s)) (kept (a .w) (now (a .s)) (now (a .window))) (tried (a .w) (now (a .s)) (a .allowed) (kept (a .w) (now (a .s)) (now (a .window))) 0 false (pendingEvents (a .w) (now (a .s))))
+    c .decide .result ≡ choiceFor (a .w) (now (a .«record»)) (kept (a .w) (now (a .«record»)) (now (a .window))) (tried (a .w) (now (a .«record»)) (a .allowed) (kept (a .w) (now (a .«record»)) (now (a .window))) 0 false (pendingEvents (a .w) (now (a .«record»))))
 decision c = rw (← (c .before .before .before .before .kept-count .ensures)) (c .decide .ensures .0)
 
 enum-known-choice : tie.Need-enum-known-choice
@@ -56,7 +56,7 @@ enum-known-choice-2 c = search needs
 remove-event-requires : tie.Need-remove-event-requires
 remove-event-requires c κs =
     let a = c .before .before .before .before .before .before .before .before .before .before .before .before .before .before .args in
-    let t = choice-falsified (a .w) (now (a .s)) (a .allowed) _ _ (sym (c .before .before .choice2 .given .1) ∙ decision (c .before .before .before .before .before)) in
+    let t = choice-falsified (a .w) (now (a .«record»)) (a .allowed) _ _ (sym (c .before .before .choice2 .given .1) ∙ decision (c .before .before .before .before .before)) in
     (search needs, (search needs, (t .1, search needs)))
 
 clear-all-requires-2 : tie.Need-clear-all-requires-2
@@ -73,7 +73,7 @@ take-event-requires c κs =
     let a = c .before .before .before .before .before .before .before .before .before .before .before .before .before .before .before .before .before .args in
     let asked = c .before .before .before .before .before .before .before .before .before .before .before .before .before .before .before .before .before .pre in
     let count = c .before .before .before .before .before .before .before .before .before .before .before .before .kept-count .ensures in
-    let t = choice-chosen (a .w) (now (a .s)) (a .allowed) _ _ _ (sym (c .before .before .before .before .before .choice3 .given .1) ∙ decision (c .before .before .before .before .before .before .before .before)) .1 in
+    let t = choice-chosen (a .w) (now (a .«record»)) (a .allowed) _ _ _ (sym (c .before .before .before .before .before .choice3 .given .1) ∙ decision (c .before .before .before .before .before .before .before .before)) .1 in
     let long : length (c .before .before .before .before .before .before .before .before .decide .last .1 .1 .1 .0) ≡ 1024 = search needs in
     (search needs, (search needs, (search needs, ((rw count (asked .1 .1 .1 .1 .0 .0), rw count (asked .1 .1 .1 .1 .0 .1)), ((t .some, (omega (arith, t .few), omega (arith, mul-le-mul-right (frontierLength (a .w)) (t .few)))), (search needs, ((t .pending, search needs), (t .ready, (rw count (t .many), (rw (long, count) (asked .1 .1 .1 .1 .0 .0), c .before .before .before .before .before .before .before .before .decide .ensures .1 _ _ (c .before .before .before .before .before .choice3 .given .1)))))))))))
 
@@ -90,7 +90,7 @@ returns : tie.Need-returns
 unfolding decided
 returns c =
     let a = c .before .before .before .before .before .before .before .before .before .before .before .before .before .before .before .before .before .before .args in
-    let whole = within-by (a .w) (a .allowed) (now (a .s)) (now (a .window)) _ (choice-undecided (a .w) (now (a .s)) (a .allowed) _ _ (sym (c .before .before .before .before .before .before .choice .given .1) ∙ decision (c .before .before .before .before .before .before .before .before .before))) in
+    let whole = within-by (a .w) (a .allowed) (now (a .«record»)) (now (a .window)) _ (choice-undecided (a .w) (now (a .«record»)) (a .allowed) _ _ (sym (c .before .before .before .before .before .before .choice .given .1) ∙ decision (c .before .before .before .before .before .before .before .before .before))) in
     (c .undecided-word .ensures ∙ ap (λ (o : Taken). replyWord (o .answer)) (sym whole), (ap (λ (o : Taken). o .bytes) (sym whole), (ap (λ (o : Taken). o .window) (sym whole), c .before .before .before .clear-all .ensures ∙ ap (λ (n : ℕ). replicate n 0) (c .before .before .before .before .before .before .before .before .before .before .before .before .before .before .before .before .before .before .pre .1 .1 .1 .1 .1 .1) ∙ ap (λ (o : Taken). o .scratch) (sym whole))))
 
 same-length-4 : tie.Need-same-length-4
@@ -106,7 +106,7 @@ returns-2 : tie.Need-returns-2
 unfolding decided replyWord
 returns-2 c =
     let a = c .before .before .before .before .before .before .before .before .before .before .before .before .before .before .before .before .before .before .before .before .before .args in
-    let whole = within-by (a .w) (a .allowed) (now (a .s)) (now (a .window)) _ (choice-falsified (a .w) (now (a .s)) (a .allowed) _ _ (sym (c .before .before .before .before .before .before .before .before .before .choice2 .given .1) ∙ decision (c .before .before .before .before .before .before .before .before .before .before .before .before)) .0) in
+    let whole = within-by (a .w) (a .allowed) (now (a .«record»)) (now (a .window)) _ (choice-falsified (a .w) (now (a .«record»)) (a .allowed) _ _ (sym (c .before .before .before .before .before .before .before .before .before .choice2 .given .1) ∙ decision (c .before .before .before .before .before .before .before .before .before .before .before .before)) .0) in
     (ap (λ (o : Taken). replyWord (o .answer)) (sym whole), (c .before .before .before .before .before .before .remove-event .ensures ∙ ap (λ (o : Taken). o .bytes) (sym whole), (ap (λ (o : Taken). o .window) (sym whole), c .before .before .clear-all2 .ensures ∙ ap (λ (n : ℕ). replicate n 0) (c .before .before .before .before .before .before .before .before .before .before .before .before .before .before .before .before .before .before .before .before .before .pre .1 .1 .1 .1 .1 .1) ∙ ap (λ (o : Taken). o .scratch) (sym whole))))
 
 same-length-7 : tie.Need-same-length-7
@@ -122,7 +122,7 @@ returns-3 : tie.Need-returns-3
 unfolding decided
 returns-3 c =
     let a = c .before .before .before .before .before .before .before .before .before .before .before .before .before .before .before .before .before .before .before .before .before .before .before .before .args in
-    let whole = within-by (a .w) (a .allowed) (now (a .s)) (now (a .window)) _ (choice-chosen (a .w) (now (a .s)) (a .allowed) _ _ _ (sym (c .before .before .before .before .before .before .before .before .before .before .before .before .choice3 .given .1) ∙ decision (c .before .before .before .before .before .before .before .before .before .before .before .before .before .before .before)) .0) in
+    let whole = within-by (a .w) (a .allowed) (now (a .«record»)) (now (a .window)) _ (choice-chosen (a .w) (now (a .«record»)) (a .allowed) _ _ _ (sym (c .before .before .before .before .before .before .before .before .before .before .before .before .choice3 .given .1) ∙ decision (c .before .before .before .before .before .before .before .before .before .before .before .before .before .before .before)) .0) in
     let e = c .before .before .before .before .before .before .take-event .ensures in
     let count = c .before .before .before .before .before .before .before .before .before .before .before .before .before .before .before .before .before .before .before .kept-count .ensures in
     (rw (whole, ← count) (e .0), (rw (whole, ← count) (e .1 .0), (rw (whole, ← count) (e .1 .1 .0), rw whole (e .1 .1 .1))))
