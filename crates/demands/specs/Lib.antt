@@ -1,9 +1,14 @@
 -- Lists of calls on a watch, and what is proved of every one of them.
 
--- What a reader has to believe: the lists, and what a record is
+-- What a reader has to believe: the lists, what a record is, what the bytes are said to mean
 pub mod Ledger
 pub mod Run
 pub mod Status
+pub mod World
+pub mod Verdict
+pub mod EveryList
+-- What is stated of every list, with no proofs: statements/X is proved in lists/X
+pub mod statements
 -- The invariant of a watch that was written by calls only
 pub mod Watching
 -- What is proved

@@ -1,7 +1,8 @@
--- Lists of calls after an accepted open (01, The calls: demand 3): each gets the record and the window as the call before left them.
+-- Lists of calls after an accepted open (01, The calls: demand 3): each gets the record and the window as the one
+-- before left them.
 use Prim.Native.Nat.{ℕ, _^_, _<_}
 use mathlib.Core.Path.{_≡_}
-use mathlib.Core.Bool.{false, not, cond, _||_}
+use mathlib.Core.Bool.{false, cond}
 use mathlib.Core.List.{List, [], _∷_, _++_}
 use lib.Dec.{eqb}
 use lib.ListN.{length, replicate}
@@ -11,7 +12,7 @@ use Rattle.clocks.specs.Counts.{at}
 use Rattle.call_find.specs.Find.{findCall}
 use Rattle.call_take.specs.Take.{Decision, tried, takeCall, undecided, false-clock, chosen}
 use Rattle.records.specs.Record.{keptCount, pendingAt, pendingEvents}
-use Rattle.refusals.specs.Refusals.{badRecordLength, badWindowLength, roomOf, badState}
+use Rattle.refusals.specs.Refusals.{roomOf}
 use Rattle.call_open.specs.Open.{Opened}
 use Rattle.answers.specs.Answer.{Answer, turnedBack, state, nothingReady, held, found, absent}
 use Rattle.call_offer.specs.Offer.{placeAmong, offeredEvent, offerCall}
@@ -19,8 +20,8 @@ use Rattle.demands.specs.Ledger.{Ledger}
 use Rattle.demands.specs.Status.{insertAt, removeAt}
 use Rattle.clocks.specs.Event.{zeros}
 
--- A call: an offer of an event by its mask, clock and labels; a take, lent the window with so many zeros appended, and a scratch of any
--- length and content; a find of a line.
+-- A call: an offer of an event by its mask, clock and labels; a take, lent the window with so many zeros appended,
+-- and a scratch of any length and content; a find of a line.
 pub data Call : Type 0 where
   offers : ℕ → List ℕ → List ℕ → Call
   takes : ℕ → List ℕ → Call
@@ -29,12 +30,13 @@ pub data Call : Type 0 where
 -- The arguments are such as the machine passes: a mask of 64 bits, eight counts of w bytes, eight label bytes.
 abbrev pub Passed : ℕ → Call → Type 0
 Passed w (offers mask clock labels) =
-    (mask < 2 ^ 64) × (length clock ≡ 8) × ((p : ℕ) → at clock p < 256 ^ w) × (length labels ≡ 8) × ((p : ℕ) → at labels p < 256)
+    (mask < 2 ^ 64) × (length clock ≡ 8) × ((p : ℕ) → at clock p < 256 ^ w)
+    × (length labels ≡ 8) × ((p : ℕ) → at labels p < 256)
 Passed w (takes zeros scratch) = Unit {0}
 Passed w (finds line) = Unit {0}
 
--- A watch between two calls: record and window, the ledger of the events that its calls accepted, and the verdicts reported so far, each
--- with the counts that it was reported for, newest first.
+-- A watch between two calls: record and window, the ledger of the events that its calls accepted, those events, and the
+-- answers so far, open's own among them, newest first.
 pub record Watch : Type 0 where
   pub bytes : List ℕ
   pub window : List ℕ
@@ -44,22 +46,36 @@ pub record Watch : Type 0 where
 
 -- ---- What a call does
 
--- The decision that a take comes to; none where it is turned back.
-unfoldable pub decisionOf : ℕ → List ℕ → List ℕ → List ℕ → Decision
-decisionOf w s window scratch =
-    cond (badRecordLength w (length s) || (badWindowLength w (length window) || not (eqb (length scratch) (length window)))) (undecided false)
-    (cond (badState w (roomOf w (length window)) s) (undecided false)
-    (let fs = frontiers w window (keptCount s) in tried w s (roomOf w (length window)) fs 0 false (pendingEvents w s)))
+-- The trial of the pending events that a take makes (call_take Take: takeWithin), and the number of the event at
+-- which it stopped.
+unfoldable pub trialOf : ℕ → List ℕ → List ℕ → Decision
+trialOf w s window = tried w s (roomOf w (length window)) (frontiers w window (keptCount s)) 0 false (pendingEvents w s)
 
--- The ledger after a take's decision.
-unfoldable pub ledgerAfter : ℕ → List ℕ → Ledger → Decision → Ledger
-ledgerAfter w s L (undecided seen) = L
-ledgerAfter w s L (false-clock i) = record { history = L .history; pending = removeAt i (L .pending); falsified = pendingAt w s i ∷ L .falsified }
-ledgerAfter w s L (chosen i) = record { history = pendingAt w s i ∷ L .history; pending = removeAt i (L .pending); falsified = L .falsified }
+unfoldable pub stoppedAt : Decision → ℕ
+stoppedAt (undecided seen) = 0
+stoppedAt (false-clock i) = i
+stoppedAt (chosen i) = i
+
+-- The ledger after a take's answer: by a state pending event i was taken, by 35 it left with a false clock.
+unfoldable pub takenLedger : ℕ → List ℕ → ℕ → Ledger → Answer → Ledger
+takenLedger w s i L (state c t k) =
+    record { history = pendingAt w s i ∷ L .history; pending = removeAt i (L .pending); falsified = L .falsified }
+takenLedger w s i L (turnedBack n j) =
+    cond (eqb n 35)
+    (record { history = L .history; pending = removeAt i (L .pending); falsified = pendingAt w s i ∷ L .falsified })
+    L
+takenLedger w s i L nothingReady = L
+takenLedger w s i L (held n) = L
+takenLedger w s i L (found j) = L
+takenLedger w s i L absent = L
 
 -- The ledger and the accepted events after an offer's answer.
 unfoldable pub offeredLedger : ℕ → List ℕ → Event → Ledger → Answer → Ledger
-offeredLedger w s e L (held n) = record { history = L .history; pending = insertAt (placeAmong e (pendingEvents w s)) e (L .pending); falsified = L .falsified }
+offeredLedger w s e L (held n) = record {
+  history = L .history;
+  pending = insertAt (placeAmong e (pendingEvents w s)) e (L .pending);
+  falsified = L .falsified;
+}
 offeredLedger w s e L (turnedBack n i) = L
 offeredLedger w s e L (state c t k) = L
 offeredLedger w s e L nothingReady = L
@@ -91,12 +107,18 @@ after w (takes zeros scratch) W =
     record {
       bytes = r .bytes;
       window = r .window;
-      ledger = ledgerAfter w (W .bytes) (W .ledger) (decisionOf w (W .bytes) lent scratch);
+      ledger = takenLedger w (W .bytes) (stoppedAt (trialOf w (W .bytes) lent)) (W .ledger) (r .answer);
       accepted = W .accepted;
       answers = r .answer ∷ W .answers;
     }
 after w (finds line) W =
-    record { bytes = W .bytes; window = W .window; ledger = W .ledger; accepted = W .accepted; answers = findCall w line (W .bytes) (W .window) ∷ W .answers }
+    record {
+      bytes = W .bytes;
+      window = W .window;
+      ledger = W .ledger;
+      accepted = W .accepted;
+      answers = findCall w line (W .bytes) (W .window) ∷ W .answers;
+    }
 
 -- The calls of a list, one after the other.
 unfoldable pub run : ℕ → List Call → Watch → Watch
@@ -105,4 +127,10 @@ run w (c ∷ cs) W = run w cs (after w c W)
 
 -- The watch that an open left.
 abbrev pub opened : Opened → Watch
-opened o = record { bytes = o .bytes; window = o .window; ledger = record { history = []; pending = []; falsified = [] }; accepted = []; answers = o .answer ∷ [] }
+opened o = record {
+  bytes = o .bytes;
+  window = o .window;
+  ledger = record { history = []; pending = []; falsified = [] };
+  accepted = [];
+  answers = o .answer ∷ [];
+}

@@ -1,4 +1,5 @@
 -- What is proved of the record's bytes.
+pub mod Sized
 pub mod InsertLaws
 pub mod PlaceLaws
 pub mod BlockLaws

@@ -1,10 +1,14 @@
 -- What carries a watch from call to call.
+pub mod ValidRule
+pub mod StoredFits
+pub mod KeptCutsLaws
+pub mod ListPlaces
 pub mod WatchingLaws
 pub mod PendingOrder
 pub mod OpenLaws
 pub mod OfferLaws
 pub mod TakeLaws
-pub mod TakeAnswers
+pub mod TakeLedger
 pub mod TakeLowers
 pub mod FindLaws
 pub mod AfterCall

@@ -1,9 +1,14 @@
 -- What is proved of whole lists of calls.
 pub mod Verdicts
 pub mod Reports
-pub mod Balance
+pub mod LedgerBalance
+pub mod AnswerCounts
 pub mod SoundRun
+pub mod Balance
 pub mod Delivery
 pub mod Examples
+pub mod TakeCases
+pub mod TakeAnswers
 pub mod WindowExact
 pub mod OrderIndependent
+pub mod Find

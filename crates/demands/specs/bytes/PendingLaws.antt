@@ -13,11 +13,12 @@ use Rattle.demands.specs.bytes.PlaceLaws.{zeros, drop-behind, sets-behin
 use Rattle.demands.specs.bytes.BlockLaws.{blocks, pendingBytes-blocks, block-apart, length-before, Even}
 use Rattle.records.specs.Record.{eventLength, pendingPlace, pendingAt, pendingEvents, eventBytes, inserted, removed}
 use Rattle.demands.specs.bytes.RecordBlocks.{frontBytes, recordBytes-blocks, even-pending, length-frontBytes, pendingBlock}
-use Rattle.demands.specs.Status.{Status, recordBytes, Sized, Storable, insertAt, removeAt, withPending}
+use Rattle.demands.specs.Status.{Status, recordBytes, insertAt, removeAt}
 use Rattle.demands.specs.bytes.RecordLaws.{pendingCount-recordBytes}
 use Rattle.demands.specs.bytes.StoredLaws.{eventFrom-bytes, length-eventBytes}
 use Rattle.demands.specs.bytes.RoomLaws.{inRoom, part-inRoom, inserted-inRoom, removed-inRoom}
 use Rattle.demands.specs.bytes.InsertLaws.{length-insertAt, length-removeAt}
+use Rattle.demands.specs.bytes.Sized.{Sized, Storable, withPending}
 
 -- An event for the places past the end.
 none : Event

@@ -20,8 +20,9 @@ use Rattle.clocks.specs.stored.CountsLaws.{length-listOf, getD-listOf, at-listO
 use Rattle.demands.specs.bytes.PlaceLaws.{zeros}
 use Rattle.demands.specs.bytes.BlockLaws.{Even, clockBytes-blocks, pendingBytes-blocks, length-blocks}
 use Rattle.records.specs.Record.{eventLength, eventBytes}
-use Rattle.demands.specs.Status.{Status, clockBytes, pendingBytes, recordBytes, Storable}
+use Rattle.demands.specs.Status.{Status, clockBytes, pendingBytes, recordBytes}
 use Rattle.demands.specs.bytes.StoredLaws.{length-counts, length-eventBytes}
+use Rattle.demands.specs.bytes.Sized.{Storable}
 
 -- The first eight bytes.
 abbrev pub headBytes : ℕ → ℕ → ℕ → ℕ → List ℕ

@@ -16,9 +16,10 @@ use Rattle.frontiers.specs.Bytes.{countBytes}
 use Rattle.demands.specs.bytes.PlaceLaws.{numbers-countBytes, zeros, Bytes-append, Bytes-zeros, Bytes-countBytes, Bytes-cons}
 use Rattle.records.specs.Record.{clocksPlace, tablePlace, recordLength, processCount, lineTotal, pendingCount, keptCount, takenCounts, lastClocks, tableLines, eventLength, eventBytes}
 use Rattle.demands.specs.bytes.RecordBlocks.{clockRows, pendingBlock, recordBytes-blocks, headOf, beforeTable, afterCounts, afterHead, kept-split, counts-split, table-split, fit-listOf, length-pendingBlock, length-frontBytes, length-beforeTable, beforeClocks, afterClocks, tableBlock, frontBytes, clocks-split, length-headOf, even-clocks, length-beforeClocks}
-use Rattle.demands.specs.Status.{Status, recordBytes, Sized, clockBytes, pendingBytes}
+use Rattle.demands.specs.Status.{Status, recordBytes, clockBytes, pendingBytes}
 use Rattle.demands.specs.bytes.BlockLaws.{blocks, clockBytes-blocks, pendingBytes-blocks, Bytes-blocks, block-apart, length-before}
 use Rattle.demands.specs.bytes.StoredLaws.{Bytes-eventBytes}
+use Rattle.demands.specs.bytes.Sized.{Sized}
 
 module _ (w : ℕ) (t : Status) where
   pub processCount-recordBytes : processCount (recordBytes w t) ≡ t .processes

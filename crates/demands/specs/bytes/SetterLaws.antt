@@ -26,10 +26,11 @@ use Rattle.demands.specs.bytes.PlaceLaws.{sets-over, sets-inside, zeros,
 use Rattle.demands.specs.bytes.BlockLaws.{clockBytes-blocks, blocks-set}
 use Rattle.records.specs.Record.{takenPlace, clocksPlace, clocksSet, counted, eventLength}
 use Rattle.demands.specs.bytes.RecordBlocks.{clockRows, headOf, beforeClocks, afterClocks, afterCounts, afterHead, kept-split, counts-split, clocks-split, length-headOf, length-eight, even-clocks, length-clocks, length-beforeClocks, headBytes}
-use Rattle.demands.specs.Status.{Status, clockBytes, recordBytes, pendingBytes, Sized, withTaken, firstStatus}
+use Rattle.demands.specs.Status.{Status, clockBytes, recordBytes, pendingBytes}
 use Rattle.demands.specs.bytes.StoredLaws.{length-counts}
 use Rattle.call_open.specs.Open.{firstRecord}
 use Rattle.demands.specs.bytes.RecordLaws.{takenCounts-recordBytes}
+use Rattle.demands.specs.bytes.Sized.{Sized, withTaken, firstStatus}
 
 -- ---- Records with the same stored fields have the same bytes
 

@@ -19,8 +19,9 @@ use Rattle.records.specs.Record.{processCount, keptCount, takenCounts, lastCloc
 use Rattle.demands.specs.bytes.RecordBlocks.{clockRows, AllStorable}
 use Rattle.demands.specs.bytes.PendingLaws.{pendingEvents-recordBytes}
 use Rattle.demands.specs.bytes.SetterLaws.{recordBytes-same}
-use Rattle.demands.specs.Status.{Status, recordBytes, Storable, Sized, insertAt, removeAt, withPending, withTaken, firstStatus}
+use Rattle.demands.specs.Status.{Status, recordBytes, insertAt, removeAt}
 use Rattle.demands.specs.bytes.RecordLaws.{processCount-recordBytes, tableLines-recordBytes, keptCount-recordBytes, takenCounts-recordBytes, lastClocks-recordBytes}
+use Rattle.demands.specs.bytes.Sized.{Storable, Sized, withPending, withTaken, firstStatus}
 
 -- Two records with the same bytes have the same stored fields.
 pub record Alike (t u : Status) : Type 0 where

@@ -12,7 +12,7 @@ use Rattle.frontiers.specs.Bytes.{countBytes}
 use Rattle.clocks.specs.Counts.{listOf}
 use Rattle.demands.specs.bytes.PlaceLaws.{numbers-countBytes, zeros, Bytes-append, Bytes-cons, Bytes-zeros, Bytes-countBytes}
 use Rattle.records.specs.Record.{eventLength, eventBytes}
-use Rattle.demands.specs.Status.{Storable}
+use Rattle.demands.specs.bytes.Sized.{Storable}
 
 -- The event whose bytes begin at a place.
 abbrev pub eventFrom : ℕ → List ℕ → ℕ → Event

@@ -2,7 +2,7 @@
 use Prim.Native.Nat.{ℕ, _+_, _*_, _≤_, _<_}
 use native.Mathlib.Omega.{arith}
 use native.Mathlib.Nat.{le-div-iff-mul-le, le-trans}
-use mathlib.Core.Path.{_≡_, sym, ap, _∙_, subst, refl}
+use mathlib.Core.Path.{_≡_, sym, ap, _∙_, subst, refl, ap₂}
 use mathlib.Core.List.{List, _++_, [], _∷_, List·Memᴰ, List·Memᴰ·head, List·Memᴰ·tail}
 use mathlib.Core.Bool.{Bool, true, false, not, _||_, _&&_}
 use mathlib.Core.Logic.{_↔_}
@@ -20,14 +20,14 @@ use Rattle.window_laws.specs.Represents.{settingOf}
 use Rattle.frontiers.specs.ListLaws.{place-member}
 use Rattle.clocks.specs.History.{taken}
 use Rattle.clocks.specs.stored.BoundedLaws.{and-r, or-false-e}
-use Rattle.clocks.specs.Valid.{Joined, WellFormed}
-use Rattle.demands.specs.Watching.{Rule, Watching, worldOf}
+use Rattle.clocks.specs.Valid.{WellFormed}
+use Rattle.demands.specs.Watching.{Rule, Watching}
 use Rattle.demands.specs.calls.WatchingLaws.{says-pending, lent-longer, never-34, says-frontiers, says-event, ready-in, valid-in, setting-in}
 use Rattle.call_offer.specs.Offer.{offeredEvent}
 use Rattle.demands.specs.Ledger.{Ledger}
-use Rattle.demands.specs.Run.{Passed, Watch, offeredLedger, after, offers, decisionOf, ledgerAfter, Call, run, takes, finds}
+use Rattle.demands.specs.Run.{Passed, Watch, offeredLedger, after, offers, Call, run, takes, finds, takenLedger, stoppedAt, trialOf}
 use Rattle.demands.specs.calls.OfferLaws.{OfferCase, offer-case, accepted-watching, turned, accepted}
-use Rattle.call_take.specs.Take.{Decision, tried, decided, takeWithin, takeCall, undecided, settingIn}
+use Rattle.call_take.specs.Take.{Decision, tried, decided, takeCall, settingIn, Taken}
 use Rattle.records.specs.Record.{readyIn, validIn, keptCount, removed}
 use Rattle.refusals.specs.Refusals.{badRecordLength, badWindowLength, roomOf, badState}
 use Rattle.answers.specs.Answer.{turnedBack}
@@ -35,6 +35,8 @@ use Rattle.call_take.specs.TrialLaws.{Outcome, outcome, none-decides, falsifies
 use Rattle.demands.specs.calls.TakeLaws.{falsified-watching, taken-watching, taken-window}
 use Rattle.demands.specs.Status.{removeAt}
 use Rattle.refusals.specs.RefusalLaws.{room-few}
+use Rattle.demands.specs.World.{worldOf, Valid}
+use Rattle.demands.specs.calls.TakeLedger.{ledgerAfter, ledger-follows, within-trial}
 
 -- ---- A watch and its ledger
 abbrev pub WatchRight : ℕ → ℕ → List Line → Cut → Watch → Type 0
@@ -45,7 +47,7 @@ abbrev pub noEvent : Event
 noEvent = record { mask = 0; clock = []; labels = [] }
 
 -- the room of a window, in frontiers and in bytes
-room-iff : (w n total : ℕ) → (n ≤ roomOf w total) ↔ (n * frontierLength w ≤ total)
+pub room-iff : (w n total : ℕ) → (n ≤ roomOf w total) ↔ (n * frontierLength w ≤ total)
 unfolding roomOf frontierLength
 room-iff w n total = le-div-iff-mul-le (omega arith)
 
@@ -79,7 +81,7 @@ module _ (w k : ℕ) (table : List Line) (start : Cut) (R : Rule w k table start
       e = offeredEvent mask clock labels
 
       go : OfferCase w mask clock labels (W .bytes) → WatchRight w k table start (after w (offers mask clock labels) W)
-      go (turned n q) = rw q X
+      go (turned n m q) = rw q X
       go (accepted h7 h8 h9 h31 h32 h33 q) =
           rw (q, says-pending w k table start R (W .ledger) (W .bytes) (W .window) X)
           (rw (says-pending w k table start R (W .ledger) (W .bytes) (W .window) X) at (accepted-watching w k table start R (W .ledger) (W .bytes) (W .window) X mask clock labels p h7 h8 h9 h31 h32 h33))
@@ -90,8 +92,12 @@ module _ (w k : ℕ) (table : List Line) (start : Cut) (R : Rule w k table start
     unfoldable pub badLengths : Bool
     badLengths = badRecordLength w (length bytes) || (badWindowLength w (length lent) || not (eqb (length scratch) (length lent)))
 
-    pub take-6 : badLengths ≡ true → (takeCall w bytes lent scratch ≡ record { answer = turnedBack 6 0; bytes = bytes; window = lent; scratch = scratch }) × (decisionOf w bytes lent scratch ≡ undecided false)
-    unfolding takeCall decisionOf badLengths
+    -- the ledger after the take
+    abbrev pub ledgerThen : Ledger
+    ledgerThen = takenLedger w bytes (stoppedAt (trialOf w bytes lent)) L (takeCall w bytes lent scratch .answer)
+
+    pub take-6 : badLengths ≡ true → (takeCall w bytes lent scratch ≡ record { answer = turnedBack 6 0; bytes = bytes; window = lent; scratch = scratch }) × (ledgerThen ≡ L)
+    unfolding takeCall takenLedger badLengths
     take-6 h = (rw h, rw h)
 
     -- else it goes through the pending events
@@ -101,11 +107,18 @@ module _ (w k : ℕ) (table : List Line) (start : Cut) (R : Rule w k table start
     read : frontiers w lent (keptCount bytes) ≡ X .kept
     read = ap (λ (s : List ℕ). frontiers w s (keptCount bytes)) (X .window-is) ∙ says-frontiers w k table start R L bytes lent X (length lent)
 
-    pub take-else : badLengths ≡ false → (takeCall w bytes lent scratch ≡ decided w bytes lent (X .kept) decision) × (decisionOf w bytes lent scratch ≡ decision)
-    unfolding takeCall decisionOf badLengths takeWithin
-    take-else h =
-        let n : badState w (roomOf w (length lent)) bytes ≡ false = never-34 w k table start R L bytes lent X (roomOf w (length lent)) (room-iff w (length (X .kept)) (length lent) .1 (X .room)) in
-        (rw (h, n, read, says-pending w k table start R L bytes lent X), rw (h, n, read, says-pending w k table start R L bytes lent X))
+    pub take-else : badLengths ≡ false → (takeCall w bytes lent scratch ≡ decided w bytes lent (X .kept) decision) × (ledgerThen ≡ ledgerAfter w bytes L decision)
+    unfolding takeCall badLengths trialOf
+    take-else h = (whole, ap₂ (λ (d : Decision) (x : Taken). takenLedger w bytes (stoppedAt d) L (x .answer)) same whole ∙ ledger-follows w bytes lent (X .kept) L decision)
+      where
+        same : trialOf w bytes lent ≡ decision
+        same = rw (read, says-pending w k table start R L bytes lent X)
+
+        n : badState w (roomOf w (length lent)) bytes ≡ false
+        n = never-34 w k table start R L bytes lent X (roomOf w (length lent)) (room-iff w (length (X .kept)) (length lent) .1 (X .room))
+
+        whole : takeCall w bytes lent scratch ≡ decided w bytes lent (X .kept) decision
+        whole = rw (h, n) (within-trial w bytes lent ∙ ap₂ (decided w bytes lent) read same)
 
     -- what the trial comes to
     pub trial : Outcome w bytes (roomOf w (length lent)) (X .kept) 0 false (L .pending) noEvent
@@ -122,10 +135,10 @@ module _ (w k : ℕ) (table : List Line) (start : Cut) (R : Rule w k table start
       pub is-ready : T (readyIn w bytes e) → Ready e (taken (L .history))
       is-ready = ready-in w k table start R L bytes lent X e formed .0
 
-      pub is-valid : T (validIn w bytes e) → Joined 8 (L .history) e
+      pub is-valid : T (validIn w bytes e) → Valid (L .history) e
       is-valid = valid-in w k table start R L bytes lent X e formed .0
 
-      is-false : validIn w bytes e ≡ false → Joined 8 (L .history) e → ⊥
+      is-false : validIn w bytes e ≡ false → Valid (L .history) e → ⊥
       is-false h t = subst T h (valid-in w k table start R L bytes lent X e formed .1 t)
 
       abbrev gs : List Frontier
@@ -187,8 +200,8 @@ module _ (w k : ℕ) (table : List Line) (start : Cut) (R : Rule w k table start
       X′ = lengthened L bytes (W .window) X zeros
 
       go : (b : Bool) → badLengths L bytes lent X′ scratch ≡ b → WatchRight w k table start (after w (takes zeros scratch) W)
-      go true h = let t = take-6 L bytes lent X′ scratch h in rw (t .0, t .1) X′
-      go false h = let t = take-else L bytes lent X′ scratch h in rw (t .0, t .1) (take-right L bytes lent X′ scratch h)
+      go true h = let t = take-6 L bytes lent X′ scratch h in rw (t .1, t .0) X′
+      go false h = let t = take-else L bytes lent X′ scratch h in rw (t .1, t .0) (take-right L bytes lent X′ scratch h)
 
   pub run-right : (W : Watch) → WatchRight w k table start W → (cs : List Call) → ((c : Call) → List·Memᴰ c cs → Passed w c) → WatchRight w k table start (run w cs W)
   unfolding run

@@ -30,18 +30,22 @@ use Rattle.records.specs.Record.{processCount, pendingCount, takenCounts, pendi
 use Rattle.refusals.specs.Refusals.{badRecordLength, badState, alreadyTaken, conflicting, conflicts}
 use Rattle.answers.specs.Answer.{turnedBack, held}
 use Rattle.call_offer.specs.Offer.{placeAmong, offeredEvent, offerCall}
-use Rattle.demands.specs.Watching.{Rule, Watching, statusOf, sized, NoClash}
-use Rattle.demands.specs.Ledger.{Ledger, Eight}
+use Rattle.demands.specs.Watching.{Rule, Watching, Eight}
+use Rattle.demands.specs.Ledger.{Ledger, NoClash}
 use Rattle.demands.specs.Run.{Passed, offers}
-use Rattle.demands.specs.Status.{Storable, insertAt}
+use Rattle.demands.specs.Status.{insertAt}
 use Rattle.demands.specs.calls.PendingOrder.{place-within, insert-ordered, clear-insert}
 use Rattle.demands.specs.calls.WatchingLaws.{says-processes, says-many, says-pending, says-taken}
 use Rattle.demands.specs.bytes.InsertLaws.{length-insertAt, member-insertAt}
 use Rattle.demands.specs.bytes.PendingLaws.{inserted-recordBytes}
+use Rattle.demands.specs.calls.StoredFits.{sized}
+use Rattle.demands.specs.World.{statusOf}
+use Rattle.demands.specs.bytes.Sized.{Storable}
 
 -- ---- An offer comes to one of two things
 pub data OfferCase (w mask : ℕ) (clock labels s : List ℕ) : Type 0 where
-  turned : (n : ℕ) → offerCall w mask clock labels s ≡ record { answer = turnedBack n 0; bytes = s } → OfferCase w mask clock labels s
+  -- ... and never by 35
+  turned : (n : ℕ) → eqb n 35 ≡ false → offerCall w mask clock labels s ≡ record { answer = turnedBack n 0; bytes = s } → OfferCase w mask clock labels s
   accepted : badMask (processCount s) mask ≡ false → badClock (processCount s) mask clock ≡ false → badLabels mask labels ≡ false
       → alreadyTaken (offeredEvent mask clock labels) (at (takenCounts w s)) ≡ false → conflicting (offeredEvent mask clock labels) (pendingEvents w s) ≡ false → leb 32 (pendingCount s) ≡ false
       → offerCall w mask clock labels s
@@ -59,35 +63,35 @@ offer-case w mask clock labels s = go6 (badRecordLength w (length s)) refl
     Out = OfferCase w mask clock labels s
 
     go6 : (b : Bool) → badRecordLength w (length s) ≡ b → Out
-    go6 true h6 = turned 6 (rw h6)
+    go6 true h6 = turned 6 refl (rw h6)
     go6 false h6 = go34 (badState w 1024 s) refl
       where
         go34 : (b : Bool) → badState w 1024 s ≡ b → Out
-        go34 true h34 = turned 34 (rw (h6, h34))
+        go34 true h34 = turned 34 refl (rw (h6, h34))
         go34 false h34 = go7 (badMask (processCount s) mask) refl
           where
             go7 : (b : Bool) → badMask (processCount s) mask ≡ b → Out
-            go7 true h7 = turned 7 (rw (h6, h34, h7))
+            go7 true h7 = turned 7 refl (rw (h6, h34, h7))
             go7 false h7 = go8 (badClock (processCount s) mask clock) refl
               where
                 go8 : (b : Bool) → badClock (processCount s) mask clock ≡ b → Out
-                go8 true h8 = turned 8 (rw (h6, h34, h7, h8))
+                go8 true h8 = turned 8 refl (rw (h6, h34, h7, h8))
                 go8 false h8 = go9 (badLabels mask labels) refl
                   where
                     go9 : (b : Bool) → badLabels mask labels ≡ b → Out
-                    go9 true h9 = turned 9 (rw (h6, h34, h7, h8, h9))
+                    go9 true h9 = turned 9 refl (rw (h6, h34, h7, h8, h9))
                     go9 false h9 = go31 (alreadyTaken e (at (takenCounts w s))) refl
                       where
                         go31 : (b : Bool) → alreadyTaken e (at (takenCounts w s)) ≡ b → Out
-                        go31 true h31 = turned 31 (rw (h6, h34, h7, h8, h9, h31))
+                        go31 true h31 = turned 31 refl (rw (h6, h34, h7, h8, h9, h31))
                         go31 false h31 = go32 (conflicting e (pendingEvents w s)) refl
                           where
                             go32 : (b : Bool) → conflicting e (pendingEvents w s) ≡ b → Out
-                            go32 true h32 = turned 32 (rw (h6, h34, h7, h8, h9, h31, h32))
+                            go32 true h32 = turned 32 refl (rw (h6, h34, h7, h8, h9, h31, h32))
                             go32 false h32 = go33 (leb 32 (pendingCount s)) refl
                               where
                                 go33 : (b : Bool) → leb 32 (pendingCount s) ≡ b → Out
-                                go33 true h33 = turned 33 (rw (h6, h34, h7, h8, h9, h31, h32, h33))
+                                go33 true h33 = turned 33 refl (rw (h6, h34, h7, h8, h9, h31, h32, h33))
                                 go33 false h33 = accepted h7 h8 h9 h31 h32 h33 (rw (h6, h34, h7, h8, h9, h31, h32, h33))
 
 -- ---- the lowest process of a well formed event

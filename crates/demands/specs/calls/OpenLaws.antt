@@ -27,17 +27,18 @@ use Rattle.rules.specs.reading.ReaderAccepts.{reader-accepts}
 use Rattle.rules.specs.lines.LineLaws.{length-linesAt, lineCount-pos, good-linesAt}
 use Rattle.clocks.specs.History.{taken, lastClock, event, clockOf}
 use Rattle.clocks.specs.Event.{Cut}
-use Rattle.clocks.specs.validity.JoinedClock.{joined-rule}
 use Rattle.clocks.specs.stored.CountsLaws.{listOf-at}
-use Rattle.clocks.specs.Valid.{Joined}
 use Rattle.refusals.specs.Refusals.{badRecordLength, badWindowLength, badProcesses}
 use Rattle.call_open.specs.Open.{openTable, openRead, openCall}
 use Rattle.answers.specs.Answer.{turnedBack}
 use Rattle.demands.specs.calls.AfterCall.{WatchRight}
-use Rattle.demands.specs.Watching.{worldOf, Rule, all-shaped}
+use Rattle.demands.specs.Watching.{Rule}
 use Rattle.demands.specs.Run.{Watch, opened}
 use Rattle.demands.specs.Status.{recordBytes}
 use Rattle.demands.specs.bytes.SetterLaws.{firstRecord-recordBytes}
+use Rattle.demands.specs.calls.StoredFits.{all-shaped}
+use Rattle.demands.specs.World.{worldOf, Valid}
+use Rattle.demands.specs.calls.ValidRule.{valid-rule}
 
 pub data OpenCase (w : ℕ) (text : List ℕ) (k : ℕ) (labels s window : List ℕ) : Type 0 where
   turned-back : (n i : ℕ) → openCall w text k labels s window ≡ record { answer = turnedBack n i; bytes = s; window = window } → OpenCase w text k labels s window
@@ -118,8 +119,8 @@ module _ (w : ℕ) (text : List ℕ) (k : ℕ) (labels window : List ℕ) (some-
   -- its window holds the one cut of zeros
   pub opened-start : Represents (worldOf k table (at labels)) [] (startFrontier 8 labels table ∷ [])
   opened-start =
-      let P : Proper (worldOf k table (at labels)) (Joined 8) [] = record { some-process = processes .0; room = processes .1; rule = joined-rule k 8; by-rule = tt; good = opened-rule .good } in
-      subst (λ (ls : List ℕ). Represents (worldOf k table (at labels)) [] (startFrontier 8 ls table ∷ [])) (listOf-at 8 labels eight) (start-represents (worldOf k table (at labels)) (Joined 8) P)
+      let P : Proper (worldOf k table (at labels)) Valid [] = record { some-process = processes .0; room = processes .1; rule = valid-rule k; by-rule = tt; good = opened-rule .good } in
+      subst (λ (ls : List ℕ). Represents (worldOf k table (at labels)) [] (startFrontier 8 ls table ∷ [])) (listOf-at 8 labels eight) (start-represents (worldOf k table (at labels)) Valid P)
 
   pub opened-right : WatchRight w k table (at labels) W
   unfolding openTable badWindowLength taken lastClock clockOf event

@@ -12,10 +12,10 @@ use Rattle.clocks.specs.stored.KeyLaws.{before-total, before-irreflexive, befor
 use Rattle.clocks.specs.Key.{keyOf, keyBefore}
 use Rattle.clocks.specs.cuts.EventLaws.{true-T}
 use Rattle.frontiers.specs.ListLaws.{place-member}
-use Rattle.demands.specs.Watching.{Ordered, NoClash, Clear}
 use Rattle.call_offer.specs.Offer.{placeAmong}
 use Rattle.demands.specs.Status.{insertAt, removeAt}
 use Rattle.demands.specs.bytes.InsertLaws.{member-take, member-drop, member-insertAt}
+use Rattle.demands.specs.Ledger.{Ordered, NoClash, Clear}
 
 -- ---- putting in
 pub place-within : (e : Event) (fs : List Event) → placeAmong e fs ≤ length fs

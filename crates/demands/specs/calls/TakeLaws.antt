@@ -16,26 +16,29 @@ use Rattle.frontiers.specs.ListLaws.{place-member}
 use Rattle.frontiers.specs.Bytes.{windowBytes, replaced, frontierLength}
 use Rattle.clocks.specs.History.{taken, clockOf, lastClock, In, Causal}
 use Rattle.clocks.specs.Event.{Cut, Ready, count, involved, apply}
-use Rattle.clocks.specs.Valid.{Joined, Takeable, History}
+use Rattle.clocks.specs.Valid.{Takeable, History}
 use Rattle.frontiers.specs.declared.Frontier.{Frontier}
 use Rattle.window_laws.specs.StepTheorem.{step-represents}
 use Rattle.frontiers.specs.Shaped.{AllShaped}
 use Rattle.window.specs.Step.{stepped}
 use Rattle.clocks.specs.validity.ClockRule.{history-causal}
 use Rattle.clocks.specs.cuts.EventLaws.{either, ready-next}
-use Rattle.clocks.specs.validity.JoinedClock.{joined-rule}
 use Rattle.clocks.specs.cuts.Step.{clock-old}
 use Rattle.clocks.specs.cuts.HistoryLaws.{taken-next, taken-other, event-next}
 use Rattle.clocks.specs.cuts.CausalLaws.{clock-some}
 use Rattle.window_laws.specs.Verdict.{some-frontier}
-use Rattle.demands.specs.Watching.{worldOf, Rule, statusOf, Watching, proper, kept-shaped, sized, all-shaped}
+use Rattle.demands.specs.Watching.{Rule, Watching}
 use Rattle.records.specs.Record.{removed, counted}
 use Rattle.demands.specs.calls.PendingOrder.{remove-ordered, clear-remove, clear-other, remove-e}
 use Rattle.demands.specs.Ledger.{Ledger}
-use Rattle.demands.specs.Status.{removeAt, Status, recordBytes, Storable, withPending, Sized}
+use Rattle.demands.specs.Status.{removeAt, Status, recordBytes}
 use Rattle.demands.specs.bytes.InsertLaws.{length-removeAt}
 use Rattle.demands.specs.bytes.PendingLaws.{removed-recordBytes}
 use Rattle.demands.specs.bytes.SetterLaws.{counted-recordBytes}
+use Rattle.demands.specs.calls.StoredFits.{proper, kept-shaped, sized, all-shaped}
+use Rattle.demands.specs.World.{worldOf, statusOf, Valid}
+use Rattle.demands.specs.bytes.Sized.{Storable, withPending, Sized}
+use Rattle.demands.specs.calls.ValidRule.{valid-rule}
 
 -- an event's clock is the last one of its processes; the others' last clocks are what they were
 last-next : (e : Event) (ts : List Event) (p : ℕ) → lastClock (e ∷ ts) p ≡ cond (involved e p) (count e) (lastClock ts p)
@@ -53,7 +56,7 @@ module _ (w k : ℕ) (table : List Line) (start : Cut) (R : Rule w k table start
   abbrev world : World
   world = worldOf k table start
 
-  P : Proper world (Joined 8) ts
+  P : Proper world Valid ts
   P = proper w k table start R L bytes window X
 
   -- no process is closed
@@ -69,7 +72,7 @@ module _ (w k : ℕ) (table : List Line) (start : Cut) (R : Rule w k table start
     m = place-member (L .pending) i d l
 
     -- ... or gone with a false clock
-    module _ (r : Ready e (taken ts)) (n : Joined 8 ts e → ⊥) where
+    module _ (r : Ready e (taken ts)) (n : Valid ts e → ⊥) where
       abbrev without : Ledger
       without = record { history = ts; pending = removeAt i (L .pending); falsified = e ∷ L .falsified }
 
@@ -100,27 +103,27 @@ module _ (w k : ℕ) (table : List Line) (start : Cut) (R : Rule w k table start
           long = length-windowBytes w total (X .kept) (kept-shaped w k table start R L bytes window X) (omega (arith, X .room))
 
     -- ---- taken
-    module _ (r : Ready e (taken ts)) (j : Joined 8 ts e) where
+    module _ (r : Ready e (taken ts)) (j : Valid ts e) where
       abbrev with-event : Ledger
       with-event = record { history = e ∷ ts; pending = removeAt i (L .pending); falsified = L .falsified }
 
-      tk : Takeable k (Joined 8) ts e
+      tk : Takeable k Valid ts e
       tk = record { formed = X .right .formed e m; ready = r; true-clock = j }
 
-      later : History k (Joined 8) (e ∷ ts)
+      later : History k Valid (e ∷ ts)
       later = (tk, X .right .by-rule)
 
       causal : Causal (e ∷ ts)
-      causal = history-causal k (Joined 8) (joined-rule k 8) (e ∷ ts) later
+      causal = history-causal k Valid (valid-rule k) (e ∷ ts) later
 
       abbrev gs : List Frontier
       gs = stepped (settingOf world ts e) (X .kept)
 
       pub stepped-right : Represents world (e ∷ ts) gs
-      stepped-right = step-represents world (Joined 8) ts e P tk (λ p b. none-closed p) (X .kept) (X .represents)
+      stepped-right = step-represents world Valid ts e P tk (λ p b. none-closed p) (X .kept) (X .represents)
 
       pub stepped-some : 0 < length gs
-      stepped-some = some-frontier world (Joined 8) (e ∷ ts) (record { some-process = P .some-process; room = P .room; rule = P .rule; by-rule = later; good = P .good }) gs stepped-right
+      stepped-some = some-frontier world Valid (e ∷ ts) (record { some-process = P .some-process; room = P .room; rule = P .rule; by-rule = later; good = P .good }) gs stepped-right
 
       storable-later : (f : Event) → In f (e ∷ ts) → Storable w f
       storable-later f q = ⊎-elim (λ s. rw s (X .storable e (inr m))) (λ n. X .storable f (inl n)) (List·Memᴰ·cases-cons q)

@@ -18,9 +18,9 @@ use Rattle.refusals.specs.Refusals.{roomOf}
 use Rattle.answers.specs.Answer.{turnedBack, nothingReady}
 use Rattle.call_take.specs.TrialLaws.{Outcome, none-decides, falsifies, chooses}
 use Rattle.demands.specs.Ledger.{Ledger}
-use Rattle.demands.specs.Run.{ledgerAfter}
 use Rattle.demands.specs.bytes.InsertLaws.{length-removeAt}
 use Rattle.demands.specs.calls.AfterCall.{noEvent, badLengths, decision, take-6, take-else, take-right, trial}
+use Rattle.demands.specs.calls.TakeLedger.{ledgerAfter}
 
 module _ (w k : ℕ) (table : List Line) (start : Cut) (R : Rule w k table start) (L : Ledger) (bytes lent : List ℕ) (X : Watching w k table start L bytes lent)
     (scratch : List ℕ) where

@@ -18,19 +18,22 @@ use Rattle.clocks.specs.Event.{Cut, Ready, apply}
 use Rattle.clocks.specs.validity.ClockRule.{taken-silent}
 use Rattle.clocks.specs.Counts.{at, listOf, rows}
 use Rattle.clocks.specs.stored.CountsLaws.{getD-listOf, at-listOf, at-listOf-all}
-use Rattle.clocks.specs.Valid.{Joined, History, WellFormed}
+use Rattle.clocks.specs.Valid.{History, WellFormed}
 use Rattle.clocks.specs.validity.ValidTestLaws.{valid-same, valid-test}
 use Rattle.clocks.specs.stored.TestedLaws.{ready-test}
 use Rattle.frontiers.specs.WindowLaws.{frontiers-windowBytes}
 use Rattle.frontiers.specs.Bytes.{frontierLength, frontiers, framed, windowBytes}
-use Rattle.demands.specs.Watching.{worldOf, Rule, statusOf, Watching, proper, sized, kept-shaped}
+use Rattle.demands.specs.Watching.{Rule, Watching}
 use Rattle.records.specs.Record.{recordLength, processCount, lineTotal, pendingCount, keptCount, takenCounts, lastClocks, tableLines, pendingAt, pendingEvents, readyIn, validIn}
 use Rattle.refusals.specs.Refusals.{badProcesses, badState}
 use Rattle.demands.specs.Ledger.{Ledger}
-use Rattle.demands.specs.Status.{Status, Sized}
+use Rattle.demands.specs.Status.{Status}
 use Rattle.call_take.specs.Take.{settingIn}
 use Rattle.demands.specs.bytes.PendingLaws.{pendingAt-recordBytes, pendingEvents-recordBytes}
 use Rattle.demands.specs.bytes.RecordLaws.{processCount-recordBytes, lineTotal-recordBytes, pendingCount-recordBytes, tableLines-recordBytes, length-recordBytes, keptCount-recordBytes, takenCounts-recordBytes, lastClocks-recordBytes}
+use Rattle.demands.specs.calls.StoredFits.{proper, sized, kept-shaped}
+use Rattle.demands.specs.World.{worldOf, statusOf, Valid}
+use Rattle.demands.specs.bytes.Sized.{Sized}
 
 module _ (w k : ℕ) (table : List Line) (start : Cut) (R : Rule w k table start) (L : Ledger) (bytes window : List ℕ) (X : Watching w k table start L bytes window) where
   abbrev ts : List Event
@@ -45,10 +48,10 @@ module _ (w k : ℕ) (table : List Line) (start : Cut) (R : Rule w k table start
   z : Sized w status
   z = sized w k table start R L bytes window X
 
-  history : History k (Joined 8) ts
+  history : History k Valid ts
   history = X .right .by-rule
 
-  P : Proper world (Joined 8) ts
+  P : Proper world Valid ts
   P = proper w k table start R L bytes window X
 
   -- ---- the fields
@@ -79,7 +82,7 @@ module _ (w k : ℕ) (table : List Line) (start : Cut) (R : Rule w k table start
   -- the taken counts, from 8 up too
   pub says-taken : at (takenCounts w bytes) ≡ taken ts
   says-taken = ap (λ (s : List ℕ). at (takenCounts w s)) (X .bytes-are) ∙ ap at (takenCounts-recordBytes w status z)
-      ∙ at-listOf-all 8 (taken ts) (λ p l. taken-silent k (Joined 8) ts history p (omega (arith, R .eight-processes)))
+      ∙ at-listOf-all 8 (taken ts) (λ p l. taken-silent k Valid ts history p (omega (arith, R .eight-processes)))
 
   pub says-clocks : (p q : ℕ) → p < 8 → q < 8 → rows (lastClocks w bytes) p q ≡ lastClock ts p q
   says-clocks p q l j =
@@ -107,7 +110,7 @@ module _ (w k : ℕ) (table : List Line) (start : Cut) (R : Rule w k table start
   )
     where
       some-kept : 0 < length (X .kept)
-      some-kept = some-frontier world (Joined 8) ts P (X .kept) (X .represents)
+      some-kept = some-frontier world Valid ts P (X .kept) (X .represents)
 
   -- ---- ready, valid and the step are those of the taken events
   formed-eight : (e : Event) → WellFormed k e → WellFormed 8 e
@@ -121,9 +124,9 @@ module _ (w k : ℕ) (table : List Line) (start : Cut) (R : Rule w k table start
   unfolding readyIn
   ready-in e f = rw says-taken (ready-test 8 e (formed-eight e f) (taken ts))
 
-  pub valid-in : (e : Event) → WellFormed k e → T (validIn w bytes e) ↔ Joined 8 ts e
+  pub valid-in : (e : Event) → WellFormed k e → T (validIn w bytes e) ↔ Valid ts e
   unfolding validIn
-  valid-in e f = rw (valid-same 8 e (rows (lastClocks w bytes)) (lastClock ts) says-clocks) (valid-test k 8 (Joined 8) ts (R .eight-processes) history e f)
+  valid-in e f = rw (valid-same 8 e (rows (lastClocks w bytes)) (lastClock ts) says-clocks) (valid-test k 8 Valid ts (R .eight-processes) history e f)
 
   pub setting-in : (e : Event) → settingIn w bytes e ≡ settingOf world ts e
   unfolding settingIn taken apply

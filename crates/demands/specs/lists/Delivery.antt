@@ -21,7 +21,8 @@ use Rattle.clocks.specs.stored.SameEventLaws.{same-equal, same-refl}
 use Rattle.clocks.specs.Valid.{Takeable, History, ClockRule}
 use Rattle.clocks.specs.cuts.CausalLaws.{count-number, number-of, in-occupied, count-within}
 use Rattle.clocks.specs.cuts.SameEvents.{Same, same-sym, same-taken}
-use Rattle.demands.specs.Ledger.{occurrences, Ledger, Eight, Kept-right, accounted, Settled}
+use Rattle.demands.specs.Ledger.{occurrences, Ledger, accounted, Settled}
+use Rattle.demands.specs.Watching.{Eight, Kept-right}
 
 -- ---- occurrences and members
 pub occurs-i : (e : Event) (fs : List Event) → List·Memᴰ e fs → 0 < occurrences e fs

@@ -37,8 +37,8 @@ use Rattle.call_open.specs.Open.{firstRecord, openTable, openRead, openCall}
 use Rattle.call_offer.specs.Offer.{placeAmong, offerCall}
 use Rattle.call_take.specs.Take.{settingIn, tried, decided, takeWithin, takeCall}
 use Rattle.demands.specs.Status.{insertAt, removeAt}
-use Rattle.demands.specs.Run.{Call, offers, takes, Watch, decisionOf, ledgerAfter, offeredLedger, after, run}
-use Rattle.demands.specs.lists.SoundRun.{atEnd}
+use Rattle.demands.specs.Run.{Call, offers, takes, Watch, trialOf, stoppedAt, takenLedger, offeredLedger, after, run}
+use Rattle.demands.specs.EveryList.{atEnd}
 
 -- ---- The watches
 
@@ -156,7 +156,7 @@ frontiersAt21 =
     ∷ []
 
 pub starred : StarredExamples
-unfolding badStart restAt aWordAt eWordAt wordAt andThen expect expectDigit closeAt atomAt innerWith unaryWith binaryWith bodyWith formAt readRule lineCount constantWeight unaryWeight binaryWeight trueLines constantLines linesBefore linesAfter linesBetween linesAfterBoth linesAt startFrontier firstRecord openTable openRead openCall trailingZeros bit bytesOf valueOf number put involved count apply minus listOf allBelow anyBelow anyOf ready joinTo validBy lowest keyOf keyBefore badMask badClock badLabels stays enabledAt advanced filtered slotCounts mergeInto merge slots sought withoutLast consider gathered judgedBy lay stepped keptAfter fits frontierLength countBytes frontierBytes frontierFrom frontierAt frontiers framed windowBytes replaced before same standing bisect gallop seek tableBytes goodLine goodFrom lineAt linesFrom propositionJudged notJudged andJudged eyJudged esJudged asJudged judgeLine judgeFrom takenCounts lastClocks tableLines pendingAt pendingEvents eventBytes inserted removed clocksSet counted badRecordLength badWindowLength roomOf badProcesses badState alreadyTaken conflicts conflicting placeAmong offerCall settingIn readyIn validIn tried stateOf decided takeWithin takeCall after run decisionOf ledgerAfter offeredLedger insertAt removeAt headed vectors sourceKeeps consistent redundant redundantWithin served taken clockOf event isNumber
+unfolding badStart restAt aWordAt eWordAt wordAt andThen expect expectDigit closeAt atomAt innerWith unaryWith binaryWith bodyWith formAt readRule lineCount constantWeight unaryWeight binaryWeight trueLines constantLines linesBefore linesAfter linesBetween linesAfterBoth linesAt startFrontier firstRecord openTable openRead openCall trailingZeros bit bytesOf valueOf number put involved count apply minus listOf allBelow anyBelow anyOf ready joinTo validBy lowest keyOf keyBefore badMask badClock badLabels stays enabledAt advanced filtered slotCounts mergeInto merge slots sought withoutLast consider gathered judgedBy lay stepped keptAfter fits frontierLength countBytes frontierBytes frontierFrom frontierAt frontiers framed windowBytes replaced before same standing bisect gallop seek tableBytes goodLine goodFrom lineAt linesFrom propositionJudged notJudged andJudged eyJudged esJudged asJudged judgeLine judgeFrom takenCounts lastClocks tableLines pendingAt pendingEvents eventBytes inserted removed clocksSet counted badRecordLength badWindowLength roomOf badProcesses badState alreadyTaken conflicts conflicting placeAmong offerCall settingIn readyIn validIn tried stateOf decided takeWithin takeCall after run trialOf stoppedAt takenLedger offeredLedger insertAt removeAt headed vectors sourceKeeps consistent redundant redundantWithin served taken clockOf event isNumber
 starred =
     let ab : watch 2 someOrder (a1 ++ a2 ++ b1) .window ≡ windowBytes 2 200 frontiersAt21 = refl in
     let ba : watch 2 someOrder (b1 ++ a1 ++ a2) .window ≡ windowBytes 2 200 frontiersAt21 = refl in

@@ -21,15 +21,15 @@ use Rattle.frontiers.specs.ListLaws.{place-member}
 use Rattle.frontiers.specs.Bytes.{frontiers}
 use Rattle.clocks.specs.History.{taken}
 use Rattle.clocks.specs.Counts.{listOf}
-use Rattle.clocks.specs.Valid.{Joined, History}
-use Rattle.demands.specs.Watching.{Rule, Watching, worldOf}
+use Rattle.clocks.specs.Valid.{History}
+use Rattle.demands.specs.Watching.{Rule, Watching}
 use Rattle.records.specs.Record.{pendingCount, pendingAt, pendingEvents, lineTotal, keptCount}
 use Rattle.answers.specs.Answer.{Answer, turnedBack, state, nothingReady, held, found, absent, stateOf}
 use Rattle.call_offer.specs.Offer.{offeredEvent, placeAmong}
 use Rattle.demands.specs.Ledger.{Ledger, Settled}
-use Rattle.demands.specs.Run.{Watch, offeredLedger, after, offers, ledgerAfter, Call, takes, finds}
+use Rattle.demands.specs.Run.{Watch, offeredLedger, after, offers, Call, takes, finds}
 use Rattle.demands.specs.calls.OfferLaws.{OfferCase, offer-case, turned, accepted}
-use Rattle.demands.specs.lists.Verdicts.{Truthful, TrueVerdict, verdict-later, state-true}
+use Rattle.demands.specs.lists.Verdicts.{verdict-later, state-true}
 use Rattle.refusals.specs.Refusals.{roomOf, badRecordLength, badWindowLength, badState}
 use Rattle.call_take.specs.TrialLaws.{Outcome, none-decides, falsifies, chooses}
 use Rattle.demands.specs.calls.AfterCall.{WatchRight, noEvent, lengthened, decision, badLengths, take-6, take-else, trial, is-ready, is-valid}
@@ -38,6 +38,9 @@ use Rattle.demands.specs.calls.WatchingLaws.{ready-in, says-lines, says-
 use Rattle.demands.specs.Status.{insertAt, removeAt}
 use Rattle.demands.specs.calls.TakeLaws.{stepped-right}
 use Rattle.call_find.specs.Find.{findFrom, findCall}
+use Rattle.demands.specs.World.{worldOf, Valid}
+use Rattle.demands.specs.Verdict.{Truthful, TrueVerdict}
+use Rattle.demands.specs.calls.TakeLedger.{ledgerAfter}
 
 -- The last answer "nothing ready" says that no pending event is ready.
 abbrev pub Quiet : Ledger → List Answer → Type 0
@@ -70,7 +73,7 @@ module _ (w k : ℕ) (f : Formula) (start : Cut) (R : Rule w k (linesAt 0 f) sta
   offer-reporting W Y mask clock labels = go (offer-case w mask clock labels (W .bytes))
     where
       go : OfferCase w mask clock labels (W .bytes) → Reporting (after w (offers mask clock labels) W .ledger) (after w (offers mask clock labels) W .answers)
-      go (turned n q) = rw q (turned-plain (W .ledger) (W .ledger) (W .answers) Y refl n 0)
+      go (turned n m q) = rw q (turned-plain (W .ledger) (W .ledger) (W .answers) Y refl n 0)
       go (accepted h7 h8 h9 h31 h32 h33 q) = rw q
           (plain-answer (W .ledger) (record { history = W .ledger .history; pending = insertAt (placeAmong (offeredEvent mask clock labels) (pendingEvents w (W .bytes))) (offeredEvent mask clock labels) (W .ledger .pending); falsified = W .ledger .falsified })
           (W .answers) Y refl (held (pendingCount (W .bytes) + 1))
@@ -112,20 +115,20 @@ module _ (w k : ℕ) (f : Formula) (start : Cut) (R : Rule w k (linesAt 0 f) sta
     abbrev After : Decision → Type 0
     After d = Reporting (ledgerAfter w bytes L d) (decided w bytes lent (X′ .kept) d .answer ∷ W .answers)
 
-    taken-reporting : (j : ℕ) (l : j < length (L .pending)) → Ready (getD (L .pending) j noEvent) (taken (L .history)) → Joined 8 (L .history) (getD (L .pending) j noEvent)
+    taken-reporting : (j : ℕ) (l : j < length (L .pending)) → Ready (getD (L .pending) j noEvent) (taken (L .history)) → Valid (L .history) (getD (L .pending) j noEvent)
         → Reporting (record { history = getD (L .pending) j noEvent ∷ L .history; pending = removeAt j (L .pending); falsified = L .falsified })
         (stateOf (length table) (listOf 8 (apply (getD (L .pending) j noEvent) (taken (L .history)))) (stepped (settingOf (worldOf k table start) (L .history) (getD (L .pending) j noEvent)) (X′ .kept)) ∷ W .answers)
     unfolding stateOf taken apply
     taken-reporting j l r v =
         let e : Event = getD (L .pending) j noEvent in
         let gs : List Frontier = stepped (settingOf (worldOf k table start) (L .history) e) (X′ .kept) in
-        let h : History k (Joined 8) (e ∷ L .history) = (record { formed = X .right .formed e (place-member (L .pending) j noEvent l); ready = r; true-clock = v }, X .right .by-rule) in
+        let h : History k Valid (e ∷ L .history) = (record { formed = X .right .formed e (place-member (L .pending) j noEvent l); ready = r; true-clock = v }, X .right .by-rule) in
         record {
           truthful = λ c t kept i. ⊎-elim (λ x. here e gs c t kept h (stepped-right w k table start R L bytes lent X′ j noEvent l r v) x) (λ m. verdict-later k f start e (L .history) h c t (Y .truthful c t kept m)) (List·Memᴰ·cases-cons i);
           quiet = λ prior x. let z : _≡_ {A = ℕ} 0 1 = cc in absurd (omega arith);
         }
       where
-        here : (e : Event) (gs : List Frontier) (c : List ℕ) (t : Bool) (kept : ℕ) → History k (Joined 8) (e ∷ L .history) → Represents (worldOf k table start) (e ∷ L .history) gs
+        here : (e : Event) (gs : List Frontier) (c : List ℕ) (t : Bool) (kept : ℕ) → History k Valid (e ∷ L .history) → Represents (worldOf k table start) (e ∷ L .history) gs
             → state c t kept ≡ state (listOf 8 (apply e (taken (L .history)))) (bit (getD (map (λ g. g .values) gs) (length gs - 1) 0) (length table - 1)) (length gs)
             → TrueVerdict k f start (e ∷ L .history) c t
         here e gs c t kept h r x =
@@ -159,9 +162,9 @@ module _ (w k : ℕ) (f : Formula) (start : Cut) (R : Rule w k (linesAt 0 f) sta
 
       go : (b : Bool) → badLengths w k table start R (W .ledger) (W .bytes) (W .window ++ replicate more 0) X″ scratch ≡ b → Reporting (after w (takes more scratch) W .ledger) (after w (takes more scratch) W .answers)
       go true h = let t = take-6 w k table start R (W .ledger) (W .bytes) (W .window ++ replicate more 0) X″ scratch h in
-          rw (t .0, t .1) (turned-plain (W .ledger) (W .ledger) (W .answers) Y refl 6 0)
+          rw (t .1, t .0) (turned-plain (W .ledger) (W .ledger) (W .answers) Y refl 6 0)
       go false h = let t = take-else w k table start R (W .ledger) (W .bytes) (W .window ++ replicate more 0) X″ scratch h in
-          rw (t .0, t .1) (decided-reporting W X Y more scratch (trial w k table start R (W .ledger) (W .bytes) (W .window ++ replicate more 0) X″ scratch))
+          rw (t .1, t .0) (decided-reporting W X Y more scratch (trial w k table start R (W .ledger) (W .bytes) (W .window ++ replicate more 0) X″ scratch))
 
   -- ... and what open reports is true
   pub open-reporting : (fs : List Frontier) → Represents (worldOf k table start) [] fs → Reporting (record { history = []; pending = []; falsified = [] }) (stateOf (length table) (replicate 8 0) fs ∷ [])

@@ -2,9 +2,8 @@
 use Prim.Native.Nat.{ℕ, _<_}
 use native.Mathlib.Omega.{arith}
 use mathlib.Core.Path.{_≡_, refl, sym, ap, _∙_}
-use mathlib.Core.Bool.{Bool}
-use mathlib.Core.List.{List, [], _∷_, List·Memᴰ, List·Memᴰ·head, List·Memᴰ·tail}
-use lib.ListN.{length}
+use mathlib.Core.List.{List, [], _∷_, List·Memᴰ·head, List·Memᴰ·tail}
+use lib.ListN.{length, replicate}
 use Rattle.rules.specs.Line.{linesAt}
 use Rattle.rules.specs.Formula.{Formula}
 use Rattle.clocks.specs.Event.{Cut}
@@ -13,38 +12,26 @@ use Rattle.window.specs.Start.{startFrontier}
 use Rattle.rules.specs.Reader.{readRule, formed}
 use Rattle.demands.specs.lists.Reports.{Reporting, after-reporting, open-reporting}
 use Rattle.demands.specs.Watching.{Rule}
-use Rattle.call_open.specs.Open.{Opened, openTable, openCall}
+use Rattle.call_open.specs.Open.{Opened, openTable}
 use Rattle.answers.specs.Answer.{turnedBack, state}
 use Rattle.demands.specs.calls.OpenLaws.{OpenCase, open-case, opened-rule, opened-right, turned-back, opens, opened-start}
 use Rattle.demands.specs.Ledger.{occurrences}
-use Rattle.demands.specs.Run.{Call, Passed, Watch, after, run, opened}
-use Rattle.demands.specs.lists.Balance.{WatchBalanced, after-balanced}
+use Rattle.demands.specs.Run.{Call, Watch, after, run, opened}
+use Rattle.demands.specs.lists.LedgerBalance.{WatchBalanced, after-balanced}
 use Rattle.demands.specs.calls.AfterCall.{WatchRight, after-right}
-
--- Open accepted the text, the number of processes and the start labels (01: answers as for a taken event).
-abbrev pub Accepts : ℕ → List ℕ → ℕ → List ℕ → List ℕ → List ℕ → Type 0
-Accepts w text k labels s window = (counts : List ℕ) × (truth : Bool) × (kept : ℕ) × (openCall w text k labels s window .answer ≡ state counts truth kept)
-
--- The start labels are such as the machine passes: eight bytes.
-abbrev pub EightBytes : List ℕ → Type 0
-EightBytes labels = (length labels ≡ 8) × ((p : ℕ) → at labels p < 256)
-
--- Every call's arguments are such as the machine passes.
-abbrev pub AllPassed : ℕ → List Call → Type 0
-AllPassed w cs = (c : Call) → List·Memᴰ c cs → Passed w c
-
--- The watch at the end of a list of calls after open.
-abbrev pub atEnd : ℕ → List ℕ → ℕ → List ℕ → List ℕ → List ℕ → List Call → Watch
-atEnd w text k labels s window cs = run w cs (opened (openCall w text k labels s window))
+use Rattle.demands.specs.EveryList.{Accepts, EightBytes, AllPassed, atEnd}
+use Rattle.demands.specs.lists.AnswerCounts.{Said, after-said, open-said}
 
 -- What is true of it.
 pub record Sound (w k : ℕ) (f : Formula) (start : Cut) (Z : Watch) : Type 0 where
   pub rule : Rule w k (linesAt 0 f) start
   pub right : WatchRight w k (linesAt 0 f) start Z
   pub balanced : WatchBalanced Z
+  pub said : Said (Z .ledger) (Z .accepted) (Z .answers)
   pub reporting : Reporting w k f start rule (Z .ledger) (Z .answers)
 
-run-sound : (w k : ℕ) (f : Formula) (start : Cut) (cs : List Call) (W : Watch) → AllPassed w cs → Sound w k f start W → Sound w k f start (run w cs W)
+run-sound : (w k : ℕ) (f : Formula) (start : Cut) (cs : List Call) (W : Watch) → AllPassed w cs → Sound w k f start W
+    → Sound w k f start (run w cs W)
 unfolding run
 run-sound w k f start [] W p S = S
 run-sound w k f start (c ∷ cs) W p S = run-sound w k f start cs (after w c W) (λ d m. p d (List·Memᴰ·tail m))
@@ -52,17 +39,20 @@ run-sound w k f start (c ∷ cs) W p S = run-sound w k f start cs (after w c W) 
       rule = S .rule;
       right = after-right w k (linesAt 0 f) start (S .rule) W (S .right) c (p c (List·Memᴰ·head refl));
       balanced = after-balanced w k (linesAt 0 f) start (S .rule) W (S .right) (S .balanced) c;
+      said = after-said w k (linesAt 0 f) start (S .rule) W (S .right) (S .said) c;
       reporting = after-reporting w k f start (S .rule) W (S .right) (S .reporting) c;
     })
 
 -- ---- Theorem
 -- the form is the one that the reader reads, whose text was opened (ReaderAccepts: reader-accepts)
-pub sound-run : (w : ℕ) → 0 < w → (text : List ℕ) (k : ℕ) (labels : List ℕ) → EightBytes labels → (s window : List ℕ) → Accepts w text k labels s window
+pub sound-run : (w : ℕ) → 0 < w → (text : List ℕ) (k : ℕ) (labels : List ℕ) → EightBytes labels → (s window : List ℕ)
+    → Accepts w text k labels s window
     → (cs : List Call) → AllPassed w cs → (f : Formula) × (i : ℕ) × (readRule text k ≡ formed i f) × Sound w k f (at labels) (atEnd w text k labels s window cs)
 unfolding openTable occurrences
 sound-run w pos text k labels eight s window a cs p = go (open-case w text k labels s window)
   where
-    go : OpenCase w text k labels s window → (f : Formula) × (i : ℕ) × (readRule text k ≡ formed i f) × Sound w k f (at labels) (atEnd w text k labels s window cs)
+    go : OpenCase w text k labels s window
+        → (f : Formula) × (i : ℕ) × (readRule text k ≡ formed i f) × Sound w k f (at labels) (atEnd w text k labels s window cs)
     go (turned-back n i q) =
         let x : turnedBack n i ≡ state (a .0) (a .1) (a .2) = sym (ap (λ (o : Opened). o .answer) q) ∙ a .3 in
         let z : _≡_ {A = ℕ} 0 1 = cc in absurd (omega arith)
@@ -73,5 +63,11 @@ sound-run w pos text k labels eight s window a cs p = go (open-case w text k lab
           i,
           h,
           rw q (run-sound w k f (at labels) cs (opened (openTable w (linesAt 0 f) k labels (length window))) p
-              (record { rule = R; right = X; balanced = record { each = λ e. refl; total = refl }; reporting = open-reporting w k f (at labels) R (startFrontier 8 labels (linesAt 0 f) ∷ []) (opened-start w text k labels window pos (eight .0) (eight .1) f i h6 h5 h) })),
+              (record {
+                rule = R;
+                right = X;
+                balanced = record { each = λ e. refl; total = refl };
+                said = open-said (length (linesAt 0 f)) (replicate 8 0) (startFrontier 8 labels (linesAt 0 f) ∷ []);
+                reporting = open-reporting w k f (at labels) R (startFrontier 8 labels (linesAt 0 f) ∷ []) (opened-start w text k labels window pos (eight .0) (eight .1) f i h6 h5 h);
+              })),
         )

@@ -1,0 +1,67 @@
+-- The watch at the end of a list of calls after an accepted open, and the form of what is said of every such list.
+use Prim.Native.Nat.{ℕ, _<_}
+use mathlib.Core.Path.{_≡_}
+use mathlib.Core.Bool.{Bool, false}
+use mathlib.Core.List.{List, _∷_, List·Memᴰ, _++_}
+use lib.ListN.{length, replicate}
+use Rattle.clocks.specs.Counts.{at}
+use Rattle.call_open.specs.Open.{openCall}
+use Rattle.answers.specs.Answer.{state, Answer, nothingReady}
+use Rattle.demands.specs.Ledger.{occurrences}
+use Rattle.demands.specs.Run.{Call, Passed, Watch, run, opened}
+use Rattle.clocks.specs.declared.Event.{Event}
+use Rattle.rules.specs.Formula.{Formula}
+use Rattle.rules.specs.Text.{textOf}
+use Rattle.rules.specs.Reader.{readRule, formed}
+use Rattle.clocks.specs.Event.{Cut}
+use Rattle.refusals.specs.Refusals.{badWindowLength}
+use Rattle.call_take.specs.Take.{takeCall, Taken}
+
+-- Open accepted the text, the number of processes and the start labels (01: answers as for a taken event).
+abbrev pub Accepts : ℕ → List ℕ → ℕ → List ℕ → List ℕ → List ℕ → Type 0
+Accepts w text k labels s window =
+    (counts : List ℕ) × (truth : Bool) × (kept : ℕ)
+    × (openCall w text k labels s window .answer ≡ state counts truth kept)
+
+-- The start labels are such as the machine passes: eight bytes.
+abbrev pub EightBytes : List ℕ → Type 0
+EightBytes labels = (length labels ≡ 8) × ((p : ℕ) → at labels p < 256)
+
+-- Every call's arguments are such as the machine passes.
+abbrev pub AllPassed : ℕ → List Call → Type 0
+AllPassed w cs = (c : Call) → List·Memᴰ c cs → Passed w c
+
+-- The watch at the end of a list of calls after open.
+abbrev pub atEnd : ℕ → List ℕ → ℕ → List ℕ → List ℕ → List ℕ → List Call → Watch
+atEnd w text k labels s window cs = run w cs (opened (openCall w text k labels s window))
+
+-- The last answer was "nothing ready".
+abbrev pub EndsQuiet : Watch → Type 0
+EndsQuiet W = (prior : List Answer) × (W .answers ≡ nothingReady ∷ prior)
+
+-- Each event, by mask, clock and labels, was accepted as often in one list as in the other.
+abbrev pub SameAccepted : Watch → Watch → Type 0
+SameAccepted Y Z = (e : Event) → occurrences e (Y .accepted) ≡ occurrences e (Z .accepted)
+
+-- For every list of calls after an accepted open, with the formula f that the reader reads: P of the width of a count,
+-- the number of processes, f, the start labels and the watch at the list's end.
+abbrev pub AfterEveryList : (ℕ → ℕ → Formula → Cut → Watch → Type 0) → Type 0
+AfterEveryList P =
+    (w : ℕ) → 0 < w → (text : List ℕ) (k : ℕ) (labels : List ℕ) → EightBytes labels
+    → (s window : List ℕ) → Accepts w text k labels s window → (cs : List Call) → AllPassed w cs
+    → (f : Formula) × (i : ℕ) × (readRule text k ≡ formed i f) × (textOf f ≡ text)
+    × P w k f (at labels) (atEnd w text k labels s window cs)
+
+-- ---- The next take
+
+-- The window that it is lent: with zeros appended.
+abbrev pub lentWindow : Watch → ℕ → List ℕ
+lentWindow Z more = Z .window ++ replicate more 0
+
+-- Window and scratch have right lengths: 6 does not come.
+abbrev pub RightLengths : ℕ → Watch → ℕ → List ℕ → Type 0
+RightLengths w Z more scratch =
+    (badWindowLength w (length (lentWindow Z more)) ≡ false) × (length scratch ≡ length (lentWindow Z more))
+
+abbrev pub nextTake : ℕ → Watch → ℕ → List ℕ → Taken
+nextTake w Z more scratch = takeCall w (Z .bytes) (lentWindow Z more) scratch

@@ -1,0 +1,55 @@
+-- What the bytes of a watch are said to mean: the world in which its rule is judged, its rule for valid clocks, the
+-- cuts that it keeps, its record's contents.
+use Prim.Native.Nat.{ℕ, _<_}
+use mathlib.Core.List.{List, List·Memᴰ}
+use Rattle.pactl.specs.declared.Line.{Line}
+use Rattle.clocks.specs.declared.Event.{Event}
+use Rattle.window_laws.specs.Represents.{World, Sorted, modelOf, frontierOf}
+use Rattle.clocks.specs.Event.{Cut}
+use Rattle.clocks.specs.History.{taken, lastClock, Consistent}
+use Rattle.clocks.specs.Valid.{Joined}
+use Rattle.demands.specs.Ledger.{Ledger}
+use Rattle.demands.specs.Status.{Status}
+use mathlib.Core.Path.{_≡_}
+use mathlib.Core.Logic.{_↔_}
+use lib.ListN.{length}
+use Rattle.rules.specs.Formula.{Formula}
+use Rattle.rules.specs.Line.{linesAt}
+use Rattle.pactl.specs.Truth.{Model}
+use Rattle.frontiers.specs.declared.Frontier.{Frontier}
+
+-- The world of a watch: eight processes stored, none closed.
+abbrev pub worldOf : ℕ → List Line → Cut → World
+worldOf k table start = record { stored = 8; processes = k; closed = 0; start = start; table = table }
+
+-- With the rule of a formula: the model in which it is judged after a history, and the frontier of a cut.
+abbrev pub modelAfter : ℕ → Formula → Cut → List Event → Model
+modelAfter k f start ts = modelOf (worldOf k (linesAt 0 f) start) ts
+
+abbrev pub frontierAfter : ℕ → Formula → Cut → List Event → Cut → Frontier
+frontierAfter k f start ts S = frontierOf (worldOf k (linesAt 0 f) start) ts S
+
+-- The rule for valid clocks of a watch (01, Clocks and cuts: true).
+abbrev pub Valid : List Event → Event → Type 0
+Valid = Joined 8
+
+-- The kept cuts of a history, each once, in ascending order of their counts: exactly the consistent cuts in which some
+-- process has all its taken events (01, The window; demand 2). There is one such list.
+pub record KeptCuts (k : ℕ) (ts : List Event) (cuts : List Cut) : Type 0 where
+  pub ascending : Sorted 8 cuts
+  pub exactly : (S : Cut) → List·Memᴰ S cuts ↔ (Consistent ts S × ((p : ℕ) × (p < k) × (S p ≡ taken ts p)))
+
+-- There are n of them.
+abbrev pub KeptNumber : ℕ → List Event → ℕ → Type 0
+KeptNumber k ts n = (cuts : List Cut) × KeptCuts k ts cuts × (length cuts ≡ n)
+
+-- The record's contents after a history.
+abbrev pub statusOf : ℕ → List Line → ℕ → Ledger → Status
+statusOf k table kept L = record {
+  processes = k;
+  table = table;
+  kept = kept;
+  counts = taken (L .history);
+  clocks = lastClock (L .history);
+  pending = L .pending;
+}

@@ -1,0 +1,213 @@
+-- Find after a list of calls: the window's frontiers are those of the kept cuts, and bit i of a frontier's values is the
+-- truth of line i.
+use Prim.Native.Nat.{ℕ, suc, _≤_, _<_}
+use native.Mathlib.Omega.{arith}
+use mathlib.Core.Path.{_≡_, refl, sym, ap, subst, _∙_}
+use mathlib.Core.Bool.{Bool, true, false}
+use mathlib.Core.List.{List, map, List·Memᴰ, List·Memᴰ·head, Memᴰ·append-right}
+use mathlib.Core.Logic.{_⊎_, ⊎-elim, _↔_, _≢_}
+use lib.Dec.{leb}
+use lib.ListN.{length, getD, take, drop, length-map}
+use lib.Seq.{split-at, length-take-le}
+use borrow.Author.Tests.{eq-eqb, le-leb, lt-leb, leb-true, leb-false}
+use Rattle.frontiers.specs.declared.Frontier.{Frontier}
+use Rattle.pactl.specs.declared.Line.{Line}
+use Rattle.clocks.specs.declared.Event.{Event}
+use Rattle.codec.specs.Bit.{bit}
+use Rattle.frontiers.specs.Bytes.{frontiers}
+use Rattle.frontiers.specs.ListLaws.{place-member, member-place}
+use Rattle.window.specs.Lists.{getD-mapped}
+use Rattle.window_laws.specs.FrontierLaws.{bit-wordOf}
+use Rattle.window_laws.specs.Represents.{modelOf, frontierOf}
+use Rattle.rules.specs.Line.{linesAt}
+use Rattle.rules.specs.Formula.{Formula}
+use Rattle.rules.specs.reading.ReaderAccepts.{reader-accepts}
+use Rattle.pactl.specs.Truth.{Property, lineTruth}
+use Rattle.clocks.specs.Event.{Cut}
+use Rattle.clocks.specs.Counts.{at}
+use Rattle.records.specs.Record.{keptCount, lineTotal, recordLength}
+use Rattle.refusals.specs.Refusals.{badRecordLength, badWindowLength, badState, roomOf}
+use Rattle.answers.specs.Answer.{Answer, turnedBack, found, absent}
+use Rattle.call_find.specs.Find.{findFrom, findCall}
+use Rattle.demands.specs.Run.{Watch}
+use Rattle.demands.specs.World.{worldOf, KeptCuts}
+use Rattle.demands.specs.EveryList.{atEnd}
+use Rattle.demands.specs.statements.Find.{FirstAt, lineOf, FindExact, FindIsExact}
+use Rattle.demands.specs.calls.ListPlaces.{member-take, which-first}
+use Rattle.demands.specs.calls.KeptCutsLaws.{represented-are, represented-cuts}
+use Rattle.demands.specs.calls.WatchingLaws.{bytes-long, says-lines, says-frontiers, never-34}
+use Rattle.demands.specs.calls.AfterCall.{room-iff}
+use Rattle.demands.specs.calls.FindLaws.{Finding, finding, first, nowhere}
+use Rattle.demands.specs.lists.SoundRun.{Sound, sound-run}
+
+-- ---- The first cut is one
+first-unique : (has : Property) (cuts : List Cut) (i j : ℕ) → FirstAt has cuts i → FirstAt has cuts j → i ≡ j
+first-unique has cuts i j x y = ⊎-elim (λ q. sym (x .place) ∙ ap length (q .0) ∙ y .place)
+    (⊎-elim (λ m. absurd (clash (y .none-before (x .cut) m) (x .here))) (λ m. absurd (clash (x .none-before (y .cut) m) (y .here))))
+    (which-first (x .before) (x .behind) (y .before) (y .behind) (x .cut) (y .cut) (sym (x .cuts-are) ∙ y .cuts-are))
+  where
+    clash : {b : Bool} → b ≡ false → b ≡ true → ⊥
+    clash p q = let z : _≡_ {A = Bool} false true = sym p ∙ q in let u : _≡_ {A = ℕ} 0 1 = cc in omega arith
+
+-- ---- Frontiers of cuts, a bit of whose values is a property
+module _ (line : ℕ) (F : Cut → Frontier) (has : Property) (says : (S : Cut) → bit (F S .values) line ≡ has S) (cuts : List Cut) where
+  zero-cut : Cut
+  zero-cut p = 0
+
+  data Case : Type 0 where
+    here : (i : ℕ) → findFrom line 0 (map F cuts) ≡ found i → FirstAt has cuts i → Case
+    nowhere-here : findFrom line 0 (map F cuts) ≡ absent → ((S : Cut) → List·Memᴰ S cuts → has S ≡ false) → Case
+
+  -- the truth at a place, from the frontier there
+  at-place : (j : ℕ) (b : Bool) → j < length cuts → bit (getD (map F cuts) j (F zero-cut) .values) line ≡ b
+      → has (getD cuts j zero-cut) ≡ b
+  at-place j b l q =
+      sym (says (getD cuts j zero-cut)) ∙ ap (λ (g : Frontier). bit (g .values) line) (sym (getD-mapped F cuts j zero-cut (F zero-cut) l)) ∙ q
+
+  found-case : Case
+  found-case = go (finding line 0 (map F cuts) (F zero-cut))
+    where
+      go : Finding line 0 (map F cuts) (F zero-cut) → Case
+      go (first j l q t n) =
+          let m : j < length cuts = omega (arith, l, length-map cuts F) in
+          here j (q ∙ ap found (omega arith))
+          (record {
+            before = take j cuts;
+            cut = getD cuts j zero-cut;
+            behind = drop (suc j) cuts;
+            cuts-are = split-at cuts j zero-cut m;
+            place = length-take-le j cuts (omega arith);
+            here = at-place j true m t;
+            none-before = λ C c. let p = member-take cuts j zero-cut C c in subst (λ (D : Cut). has D ≡ false) (p .3) (at-place (p .0) false (p .2) (n (p .0) (p .1)));
+          })
+      go (nowhere q n) = nowhere-here q (λ C c. let p = member-place cuts C zero-cut c in
+          subst (λ (D : Cut). has D ≡ false) (p .2) (at-place (p .0) false (p .1) (n _ (place-member (map F cuts) (p .0) (F zero-cut) (omega (arith, p .1, length-map cuts F))))))
+
+  first-exactly : (i : ℕ) → (findFrom line 0 (map F cuts) ≡ found i) ↔ FirstAt has cuts i
+  first-exactly i = (there found-case, back found-case)
+    where
+      there : Case → findFrom line 0 (map F cuts) ≡ found i → FirstAt has cuts i
+      there (here j q x) r = let z : j ≡ i = cc in rw (← z) x
+      there (nowhere-here q n) r = let z : _≡_ {A = ℕ} 0 1 = cc in absurd (omega arith)
+
+      back : Case → FirstAt has cuts i → findFrom line 0 (map F cuts) ≡ found i
+      back (here j q x) y = q ∙ ap found (first-unique has cuts j i x y)
+      back (nowhere-here q n) y =
+          let m : List·Memᴰ (y .cut) cuts = rw (y .cuts-are) (Memᴰ·append-right (y .before) (List·Memᴰ·head refl)) in
+          let z : _≡_ {A = Bool} false true = sym (n (y .cut) m) ∙ y .here in
+          let u : _≡_ {A = ℕ} 0 1 = cc in absurd (omega arith)
+
+  none-exactly : (findFrom line 0 (map F cuts) ≡ absent) ↔ ((S : Cut) → List·Memᴰ S cuts → has S ≡ false)
+  none-exactly = (there found-case, back found-case)
+    where
+      there : Case → findFrom line 0 (map F cuts) ≡ absent → (S : Cut) → List·Memᴰ S cuts → has S ≡ false
+      there (here j q x) r = let z : _≡_ {A = ℕ} 0 1 = cc in absurd (omega arith)
+      there (nowhere-here q n) r = n
+
+      back : Case → ((S : Cut) → List·Memᴰ S cuts → has S ≡ false) → findFrom line 0 (map F cuts) ≡ absent
+      back (here j q x) n =
+          let m : List·Memᴰ (x .cut) cuts = rw (x .cuts-are) (Memᴰ·append-right (x .before) (List·Memᴰ·head refl)) in
+          let z : _≡_ {A = Bool} false true = sym (n (x .cut) m) ∙ x .here in
+          let u : _≡_ {A = ℕ} 0 1 = cc in absurd (omega arith)
+      back (nowhere-here q n) r = q
+
+  -- it is no refusal
+  no-refusal : (n : ℕ) → findFrom line 0 (map F cuts) ≢ turnedBack n 0
+  no-refusal n r = go found-case
+    where
+      go : Case → ⊥
+      go (here j q x) = let z : _≡_ {A = ℕ} 0 1 = cc in absurd (omega arith)
+      go (nowhere-here q m) = let z : _≡_ {A = ℕ} 0 1 = cc in absurd (omega arith)
+
+-- ---- After a list of calls
+module _ (w k : ℕ) (f : Formula) (start : Cut) (Z : Watch) (S : Sound w k f start Z) where
+  abbrev table : List Line
+  table = linesAt 0 f
+
+  abbrev ts : List Event
+  ts = Z .ledger .history
+
+  abbrev frontier : Cut → Frontier
+  frontier = frontierOf (worldOf k table start) ts
+
+  long : badRecordLength w (length (Z .bytes)) ≡ false
+  unfolding badRecordLength
+  long =
+      rw (eq-eqb (length (Z .bytes)) (recordLength w) (bytes-long w k table start (S .rule) (Z .ledger) (Z .bytes) (Z .window) (S .right)))
+
+  good : badState w (roomOf w (length (Z .window))) (Z .bytes) ≡ false
+  good =
+      never-34 w k table start (S .rule) (Z .ledger) (Z .bytes) (Z .window) (S .right) (roomOf w (length (Z .window))) (room-iff w (length (S .right .kept)) (length (Z .window)) .1 (S .right .room))
+
+  lines : lineTotal (Z .bytes) ≡ length table
+  lines = says-lines w k table start (S .rule) (Z .ledger) (Z .bytes) (Z .window) (S .right)
+
+  read : frontiers w (Z .window) (keptCount (Z .bytes)) ≡ S .right .kept
+  read =
+      ap (λ (s : List ℕ). frontiers w s (keptCount (Z .bytes))) (S .right .window-is) ∙ says-frontiers w k table start (S .rule) (Z .ledger) (Z .bytes) (Z .window) (S .right) (length (Z .window))
+
+  says : (line : ℕ) → line < length table → (C : Cut) → bit (frontier C .values) line ≡ lineOf k f start Z line C
+  unfolding frontierOf
+  says line l C = bit-wordOf (length table) (λ j. lineTruth (modelOf (worldOf k table start) ts) table j C) line l
+
+  abbrev answer : ℕ → Answer
+  answer line = findCall w line (Z .bytes) (Z .window)
+
+  -- the three ways it goes
+  six : badWindowLength w (length (Z .window)) ≡ true → (line : ℕ) → answer line ≡ turnedBack 6 0
+  unfolding findCall
+  six h line = rw (long, h)
+
+  eleven : badWindowLength w (length (Z .window)) ≡ false → (line : ℕ) → length table ≤ line
+      → answer line ≡ turnedBack 11 0
+  unfolding findCall
+  eleven h line l = rw (long, h, good, lines, le-leb (length table) line l)
+
+  looks : badWindowLength w (length (Z .window)) ≡ false → (line : ℕ) → line < length table → (cuts : List Cut)
+      → KeptCuts k ts cuts → answer line ≡ findFrom line 0 (map frontier cuts)
+  unfolding findCall
+  looks h line l cuts K =
+      rw (long, h, good, lines, lt-leb (length table) line l, read, represented-are k table start ts (S .rule .some-process) (S .right .kept) (S .right .represents) cuts K)
+
+  -- some list of the kept cuts is there
+  looks-somewhere : badWindowLength w (length (Z .window)) ≡ false → (line : ℕ) → line < length table → (n : ℕ)
+      → answer line ≢ turnedBack n 0
+  looks-somewhere h line l n q =
+      let K = represented-cuts k table start ts (S .rule .some-process) (S .right .kept) (S .right .represents) in
+      no-refusal line frontier (lineOf k f start Z line) (says line l) (S .right .represents .cuts) n (sym (looks h line l (S .right .represents .cuts) K) ∙ q)
+
+  other : (line n : ℕ) → badWindowLength w (length (Z .window)) ≡ false → answer line ≡ turnedBack n 0 → n ≡ 11
+  other line n h q = go (leb (length table) line) refl
+    where
+      go : (b : Bool) → leb (length table) line ≡ b → n ≡ 11
+      go true b = let e = eleven h line (leb-true (length table) line b) in cc
+      go false b = absurd (looks-somewhere h line (leb-false (length table) line b) n q)
+
+  find-of : FindExact w k f start Z
+  find-of = record {
+    wrong-length = λ line. ((λ q. is-wrong line q (badWindowLength w (length (Z .window))) refl), λ h. six h line);
+    no-line = λ h line. ((λ q. too-far h line q (leb (length table) line) refl), eleven h line);
+    first = λ h line l cuts K i. rw (looks h line l cuts K) (first-exactly line frontier (lineOf k f start Z line) (says line l) cuts i);
+    none = λ h line l cuts K. rw (looks h line l cuts K) (none-exactly line frontier (lineOf k f start Z line) (says line l) cuts);
+    never-34 = λ line q. not-34 line q (badWindowLength w (length (Z .window))) refl;
+  }
+    where
+      is-wrong : (line : ℕ) → answer line ≡ turnedBack 6 0 → (b : Bool) → badWindowLength w (length (Z .window)) ≡ b
+          → b ≡ true
+      is-wrong line q true h = refl
+      is-wrong line q false h = absurd (omega (arith, other line 6 h q))
+
+      too-far : badWindowLength w (length (Z .window)) ≡ false → (line : ℕ) → answer line ≡ turnedBack 11 0
+          → (b : Bool) → leb (length table) line ≡ b → length table ≤ line
+      too-far h line q true b = leb-true (length table) line b
+      too-far h line q false b = absurd (looks-somewhere h line (leb-false (length table) line b) 11 q)
+
+      not-34 : (line : ℕ) → answer line ≡ turnedBack 34 0 → (b : Bool) → badWindowLength w (length (Z .window)) ≡ b → ⊥
+      not-34 line q true h = let e = six h line in let z : _≡_ {A = ℕ} 6 34 = cc in omega arith
+      not-34 line q false h = omega (arith, other line 34 h q)
+
+-- ---- Theorem
+pub find-first : FindIsExact
+find-first w pos text k labels eight s window a cs p =
+    let x = sound-run w pos text k labels eight s window a cs p in
+    (x .0, x .1, x .2, reader-accepts text k (x .1) (x .0) .0 (x .2) .0, find-of w k (x .0) (at labels) (atEnd w text k labels s window cs) (x .3))

@@ -1,0 +1,6 @@
+-- What is stated of every list of calls, with no proofs.
+pub mod WindowExact
+pub mod OrderIndependent
+pub mod TakeAnswers
+pub mod Balance
+pub mod Find

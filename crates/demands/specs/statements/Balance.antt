@@ -1,0 +1,73 @@
+-- The balance (01, The calls): every accepted event was taken, left with a false clock, or is pending; said of each
+-- event, and of the answers that a caller sees. Proved in lists/Balance.
+use Prim.Native.Nat.{ℕ, _+_, _-_, _≤_}
+use mathlib.Core.Path.{_≡_}
+use mathlib.Core.Bool.{Bool, true, false}
+use mathlib.Core.List.{List, [], _∷_}
+use lib.Dec.{eqb}
+use lib.ListN.{length}
+use Rattle.clocks.specs.declared.Event.{Event}
+use Rattle.clocks.specs.Event.{one}
+use Rattle.records.specs.Record.{pendingCount}
+use Rattle.answers.specs.Answer.{Answer, turnedBack, state, nothingReady, held, found, absent}
+use Rattle.demands.specs.Ledger.{occurrences, Ledger, accounted}
+use Rattle.demands.specs.Run.{Watch}
+use Rattle.demands.specs.EveryList.{AfterEveryList}
+
+-- ---- Counting answers
+
+-- How many answers pass a test.
+unfoldable pub number : (Answer → Bool) → List Answer → ℕ
+number test [] = 0
+number test (a ∷ answers) = one (test a) + number test answers
+
+-- An offer was accepted.
+abbrev pub isHeld : Answer → Bool
+isHeld (turnedBack n i) = false
+isHeld (state c t k) = false
+isHeld nothingReady = false
+isHeld (held n) = true
+isHeld (found i) = false
+isHeld absent = false
+
+-- Opened, or an event was taken.
+abbrev pub isState : Answer → Bool
+isState (turnedBack n i) = false
+isState (state c t k) = true
+isState nothingReady = false
+isState (held n) = false
+isState (found i) = false
+isState absent = false
+
+-- Turned back by 35: an event left with a false clock.
+abbrev pub isFalseClock : Answer → Bool
+isFalseClock (turnedBack n i) = eqb n 35
+isFalseClock (state c t k) = false
+isFalseClock nothingReady = false
+isFalseClock (held n) = false
+isFalseClock (found i) = false
+isFalseClock absent = false
+
+-- ---- The balance
+
+pub record Balanced (L : Ledger) (accepted : List Event) : Type 0 where
+  -- each event, by mask, clock and labels
+  pub each : (e : Event) → accounted e L ≡ occurrences e accepted
+  -- and in number
+  pub total : length accepted ≡ length (L .history) + length (L .falsified) + length (L .pending)
+
+pub record AnswersBalanced (Z : Watch) : Type 0 where
+  -- accepted offers = states after the first, which is open's own, + answers 35 + the record's number of pending events
+  pub some-state : 1 ≤ number isState (Z .answers)
+  pub balance : number isHeld (Z .answers)
+      ≡ (number isState (Z .answers) - 1) + number isFalseClock (Z .answers) + pendingCount (Z .bytes)
+  -- the ledger lists as many events as the answers say
+  pub accepted-said : number isHeld (Z .answers) ≡ length (Z .accepted)
+  pub taken-said : number isState (Z .answers) ≡ length (Z .ledger .history) + 1
+  pub falsified-said : number isFalseClock (Z .answers) ≡ length (Z .ledger .falsified)
+  pub pending-said : pendingCount (Z .bytes) ≡ length (Z .ledger .pending)
+  -- and each event balances there
+  pub balanced : Balanced (Z .ledger) (Z .accepted)
+
+abbrev pub AnswersBalance : Type 0
+AnswersBalance = AfterEveryList (λ w k f start Z. AnswersBalanced Z)

@@ -1,0 +1,51 @@
+-- What a find after a list of calls answers (01, The calls: find): the first kept cut at which a line of the rule is
+-- true. Proved in lists/Find.
+use Prim.Native.Nat.{ℕ, _≤_, _<_}
+use mathlib.Core.Path.{_≡_}
+use mathlib.Core.Bool.{true, false}
+use mathlib.Core.List.{List, _∷_, _++_, List·Memᴰ}
+use mathlib.Core.Logic.{_↔_, _≢_}
+use lib.ListN.{length}
+use Rattle.rules.specs.Line.{linesAt}
+use Rattle.pactl.specs.Truth.{Property, lineTruth}
+use Rattle.rules.specs.Formula.{Formula}
+use Rattle.clocks.specs.Event.{Cut}
+use Rattle.refusals.specs.Refusals.{badWindowLength}
+use Rattle.answers.specs.Answer.{turnedBack, found, absent}
+use Rattle.call_find.specs.Find.{findCall}
+use Rattle.demands.specs.Run.{Watch}
+use Rattle.demands.specs.World.{KeptCuts, modelAfter}
+use Rattle.demands.specs.EveryList.{AfterEveryList}
+
+-- Of these cuts, the one with i before it is the first that has a property.
+pub record FirstAt (has : Property) (cuts : List Cut) (i : ℕ) : Type 0 where
+  pub before : List Cut
+  pub cut : Cut
+  pub behind : List Cut
+  pub cuts-are : cuts ≡ before ++ (cut ∷ behind)
+  pub place : length before ≡ i
+  pub here : has cut ≡ true
+  pub none-before : (S : Cut) → List·Memᴰ S before → has S ≡ false
+
+-- PaCTL's truth of a line of the rule after the list's taken events.
+abbrev pub lineOf : ℕ → Formula → Cut → Watch → ℕ → Property
+lineOf k f start Z line = lineTruth (modelAfter k f start (Z .ledger .history)) (linesAt 0 f) line
+
+pub record FindExact (w k : ℕ) (f : Formula) (start : Cut) (Z : Watch) : Type 0 where
+  pub wrong-length : (line : ℕ)
+      → (findCall w line (Z .bytes) (Z .window) ≡ turnedBack 6 0) ↔ (badWindowLength w (length (Z .window)) ≡ true)
+  pub no-line : badWindowLength w (length (Z .window)) ≡ false → (line : ℕ)
+      → (findCall w line (Z .bytes) (Z .window) ≡ turnedBack 11 0) ↔ (length (linesAt 0 f) ≤ line)
+  -- for a line that is there: the place of the first kept cut, in the window's order, at which it is true
+  pub first : badWindowLength w (length (Z .window)) ≡ false → (line : ℕ) → line < length (linesAt 0 f)
+      → (cuts : List Cut) → KeptCuts k (Z .ledger .history) cuts → (i : ℕ)
+      → (findCall w line (Z .bytes) (Z .window) ≡ found i) ↔ FirstAt (lineOf k f start Z line) cuts i
+  -- and none exactly if it is true at no kept cut
+  pub none : badWindowLength w (length (Z .window)) ≡ false → (line : ℕ) → line < length (linesAt 0 f)
+      → (cuts : List Cut) → KeptCuts k (Z .ledger .history) cuts
+      → (findCall w line (Z .bytes) (Z .window) ≡ absent)
+      ↔ ((S : Cut) → List·Memᴰ S cuts → lineOf k f start Z line S ≡ false)
+  pub never-34 : (line : ℕ) → findCall w line (Z .bytes) (Z .window) ≢ turnedBack 34 0
+
+abbrev pub FindIsExact : Type 0
+FindIsExact = AfterEveryList FindExact

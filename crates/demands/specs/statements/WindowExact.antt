@@ -1,0 +1,62 @@
+-- What a window holds (demand 2): after every list of calls, exactly the kept cuts of the taken events, each with the
+-- truth of every line; what the record says; when nothing is ready. Proved in lists/WindowExact.
+use Prim.Native.Nat.{ℕ, _-_, _≤_, _<_}
+use mathlib.Core.Path.{_≡_}
+use mathlib.Core.Bool.{false}
+use mathlib.Core.List.{List, map}
+use mathlib.Core.Logic.{_↔_, _≢_}
+use lib.ListN.{length}
+use Rattle.frontiers.specs.declared.Frontier.{Frontier}
+use Rattle.codec.specs.Bit.{bit}
+use Rattle.frontiers.specs.Bytes.{frontiers, windowBytes}
+use Rattle.rules.specs.Line.{lineCount, linesAt}
+use Rattle.pactl.specs.Truth.{holds, lineTruth}
+use Rattle.rules.specs.Formula.{Formula, meaning}
+use Rattle.clocks.specs.Event.{Cut}
+use Rattle.clocks.specs.Valid.{History}
+use Rattle.records.specs.Record.{keptCount}
+use Rattle.refusals.specs.Refusals.{badState}
+use Rattle.answers.specs.Answer.{turnedBack, nothingReady}
+use Rattle.demands.specs.Ledger.{Settled, Ordered, Clear}
+use Rattle.demands.specs.Run.{Watch}
+use Rattle.demands.specs.Status.{recordBytes}
+use Rattle.demands.specs.World.{statusOf, Valid, KeptCuts, modelAfter, frontierAfter}
+use Rattle.demands.specs.EveryList.{AfterEveryList, RightLengths, nextTake}
+
+pub record WindowExact (w k : ℕ) (f : Formula) (start : Cut) (Z : Watch) : Type 0 where
+  pub frontiers-kept : List Frontier
+  pub cuts : List Cut
+  -- the record's bytes are those of the taken and the pending events, the window's those of the kept frontiers and
+  -- then zeros
+  pub record-is : Z .bytes ≡ recordBytes w (statusOf k (linesAt 0 f) (length frontiers-kept) (Z .ledger))
+  pub window-is : Z .window ≡ windowBytes w (length (Z .window)) frontiers-kept
+  pub read-back : frontiers w (Z .window) (keptCount (Z .bytes)) ≡ frontiers-kept
+  -- exactly the consistent cuts in which some process has all its taken events, each once, in ascending order
+  pub cuts-are : KeptCuts k (Z .ledger .history) cuts
+  -- ... each with its labels, masks and values
+  pub frontiers-are : frontiers-kept ≡ map (frontierAfter k f start (Z .ledger .history)) cuts
+  -- bit i of a frontier's values is PaCTL's truth of line i there; the bits from the number of lines up are 0
+  pub line-true : (S : Cut) (i : ℕ) → i < length (linesAt 0 f)
+      → bit (frontierAfter k f start (Z .ledger .history) S .values) i
+      ≡ lineTruth (modelAfter k f start (Z .ledger .history)) (linesAt 0 f) i S
+  pub no-more-bits : (S : Cut) (i : ℕ) → length (linesAt 0 f) ≤ i
+      → bit (frontierAfter k f start (Z .ledger .history) S .values) i ≡ false
+  -- the last line is the rule: the truth, by source 000, of the formula whose text was opened
+  pub rule-true : lineTruth (modelAfter k f start (Z .ledger .history)) (linesAt 0 f) (lineCount f - 1)
+      ≡ holds (modelAfter k f start (Z .ledger .history)) (meaning f)
+  -- the taken events are a history: each was ready and had a true clock when it was taken
+  pub history-true : History k Valid (Z .ledger .history)
+  -- the pending events stand in the order of lowest process and count, and no two have the same count at a common
+  -- process
+  pub pending-ordered : Ordered (Z .ledger .pending)
+  pub pending-apart : Clear (Z .ledger .pending)
+  -- "nothing ready" is the next take's answer, where 6 does not come, exactly when the taken counts allow no pending
+  -- event
+  pub nothing-ready : (more : ℕ) (scratch : List ℕ) → RightLengths w Z more scratch
+      → (nextTake w Z more scratch .answer ≡ nothingReady) ↔ Settled (Z .ledger)
+  -- 34 never comes: its condition does not hold with any room for what is kept, and no take answers it
+  pub state-good : (room : ℕ) → keptCount (Z .bytes) ≤ room → badState w room (Z .bytes) ≡ false
+  pub never-34 : (more : ℕ) (scratch : List ℕ) → nextTake w Z more scratch .answer ≢ turnedBack 34 0
+
+abbrev pub WindowIsExact : Type 0
+WindowIsExact = AfterEveryList WindowExact
