@@ -13,6 +13,7 @@ use Rattle.answers.specs.Answer.{Answer, turnedBack, state, nothingReady, held,
 use Rattle.demands.specs.Ledger.{occurrences, Ledger, accounted}
 use Rattle.demands.specs.Run.{Watch}
 use Rattle.demands.specs.EveryList.{AfterEveryList}
+use Rattle.numbers.specs.Refusal.{falseClockNumber}
 
 -- ---- Counting answers
 
@@ -41,7 +42,7 @@ isState absent = false
 
 -- Turned back by 35: an event left with a false clock.
 abbrev pub isFalseClock : Answer → Bool
-isFalseClock (turnedBack n i) = eqb n 35
+isFalseClock (turnedBack n i) = eqb n falseClockNumber
 isFalseClock (state c t k) = false
 isFalseClock nothingReady = false
 isFalseClock (held n) = false

@@ -16,6 +16,7 @@ use Rattle.call_find.specs.Find.{findCall}
 use Rattle.demands.specs.Run.{Watch}
 use Rattle.demands.specs.World.{KeptCuts, modelAfter}
 use Rattle.demands.specs.EveryList.{AfterEveryList}
+use Rattle.numbers.specs.Refusal.{lengthNumber, noLineNumber, stateNumber}
 
 -- Of these cuts, the one with i before it is the first that has a property.
 pub record FirstAt (has : Property) (cuts : List Cut) (i : ℕ) : Type 0 where
@@ -33,9 +34,9 @@ lineOf k f start Z line = lineTruth (modelAfter k f start (Z .ledger .history)) 
 
 pub record FindExact (w k : ℕ) (f : Formula) (start : Cut) (Z : Watch) : Type 0 where
   pub wrong-length : (line : ℕ)
-      → (findCall w line (Z .bytes) (Z .window) ≡ turnedBack 6 0) ↔ (badWindowLength w (length (Z .window)) ≡ true)
+      → (findCall w line (Z .bytes) (Z .window) ≡ turnedBack lengthNumber 0) ↔ (badWindowLength w (length (Z .window)) ≡ true)
   pub no-line : badWindowLength w (length (Z .window)) ≡ false → (line : ℕ)
-      → (findCall w line (Z .bytes) (Z .window) ≡ turnedBack 11 0) ↔ (length (linesAt 0 f) ≤ line)
+      → (findCall w line (Z .bytes) (Z .window) ≡ turnedBack noLineNumber 0) ↔ (length (linesAt 0 f) ≤ line)
   -- for a line that is there: the place of the first kept cut, in the window's order, at which it is true
   pub first : badWindowLength w (length (Z .window)) ≡ false → (line : ℕ) → line < length (linesAt 0 f)
       → (cuts : List Cut) → KeptCuts k (Z .ledger .history) cuts → (i : ℕ)
@@ -45,7 +46,7 @@ pub record FindExact (w k : ℕ) (f : Formula) (start : Cut) (Z : Watch) : Type 
       → (cuts : List Cut) → KeptCuts k (Z .ledger .history) cuts
       → (findCall w line (Z .bytes) (Z .window) ≡ absent)
       ↔ ((S : Cut) → List·Memᴰ S cuts → lineOf k f start Z line S ≡ false)
-  pub never-34 : (line : ℕ) → findCall w line (Z .bytes) (Z .window) ≢ turnedBack 34 0
+  pub never-34 : (line : ℕ) → findCall w line (Z .bytes) (Z .window) ≢ turnedBack stateNumber 0
 
 abbrev pub FindIsExact : Type 0
 FindIsExact = AfterEveryList FindExact

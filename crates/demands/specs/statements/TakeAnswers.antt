@@ -19,6 +19,7 @@ use Rattle.demands.specs.Ledger.{Ledger, Settled}
 use Rattle.demands.specs.Run.{Watch, after, takes}
 use Rattle.demands.specs.World.{Valid, KeptNumber, modelAfter}
 use Rattle.demands.specs.EveryList.{AfterEveryList, lentWindow, RightLengths, nextTake}
+use Rattle.numbers.specs.Refusal.{falseClockNumber, lengthNumber, noRoomNumber, stateNumber}
 
 -- ---- What take comes to, with room for so many frontiers
 
@@ -77,8 +78,8 @@ nextLedger w Z more scratch = after w (takes more scratch) Z .ledger
 -- The answers where the lengths are right.
 pub record AnswersExact (w k : ℕ) (f : Formula) (start : Cut) (Z : Watch) (more : ℕ) (scratch : List ℕ) : Type 0 where
   pub nothing-exactly : (nextTake w Z more scratch .answer ≡ nothingReady) ↔ Settled (Z .ledger)
-  pub full-exactly : (nextTake w Z more scratch .answer ≡ turnedBack 36 0) ↔ NoRoom k (roomLent w Z more) (Z .ledger)
-  pub false-exactly : (nextTake w Z more scratch .answer ≡ turnedBack 35 0)
+  pub full-exactly : (nextTake w Z more scratch .answer ≡ turnedBack noRoomNumber 0) ↔ NoRoom k (roomLent w Z more) (Z .ledger)
+  pub false-exactly : (nextTake w Z more scratch .answer ≡ turnedBack falseClockNumber 0)
       ↔ FalseClock k (roomLent w Z more) (Z .ledger)
   pub state-exactly : (counts : List ℕ) (truth : Bool) (kept : ℕ)
       → (nextTake w Z more scratch .answer ≡ state counts truth kept)
@@ -86,8 +87,8 @@ pub record AnswersExact (w k : ℕ) (f : Formula) (start : Cut) (Z : Watch) (mor
   -- and it is one of these
   pub no-other :
       (nextTake w Z more scratch .answer ≡ nothingReady)
-      ⊎ ((nextTake w Z more scratch .answer ≡ turnedBack 36 0)
-      ⊎ ((nextTake w Z more scratch .answer ≡ turnedBack 35 0)
+      ⊎ ((nextTake w Z more scratch .answer ≡ turnedBack noRoomNumber 0)
+      ⊎ ((nextTake w Z more scratch .answer ≡ turnedBack falseClockNumber 0)
       ⊎ ((counts : List ℕ) × (truth : Bool) × (kept : ℕ)
       × (nextTake w Z more scratch .answer ≡ state counts truth kept))))
   -- the event at which it stops is pending no more: it is among those with a false clock, or the newest of those taken
@@ -99,14 +100,14 @@ pub record AnswersExact (w k : ℕ) (f : Formula) (start : Cut) (Z : Watch) (mor
 
 pub record TakeExact (w k : ℕ) (f : Formula) (start : Cut) (Z : Watch) : Type 0 where
   pub wrong-lengths : (more : ℕ) (scratch : List ℕ)
-      → (nextTake w Z more scratch .answer ≡ turnedBack 6 0) ↔ (RightLengths w Z more scratch → ⊥)
+      → (nextTake w Z more scratch .answer ≡ turnedBack lengthNumber 0) ↔ (RightLengths w Z more scratch → ⊥)
   pub right-lengths : (more : ℕ) (scratch : List ℕ) → RightLengths w Z more scratch
       → AnswersExact w k f start Z more scratch
-  pub never-34 : (more : ℕ) (scratch : List ℕ) → nextTake w Z more scratch .answer ≢ turnedBack 34 0
+  pub never-34 : (more : ℕ) (scratch : List ℕ) → nextTake w Z more scratch .answer ≢ turnedBack stateNumber 0
   -- a take with none of these answers lowers the number of pending events by exactly 1, so that takes one after the
   -- other come to an end
   pub lowers : (more : ℕ) (scratch : List ℕ) → nextTake w Z more scratch .answer ≢ nothingReady
-      → nextTake w Z more scratch .answer ≢ turnedBack 6 0 → nextTake w Z more scratch .answer ≢ turnedBack 36 0
+      → nextTake w Z more scratch .answer ≢ turnedBack lengthNumber 0 → nextTake w Z more scratch .answer ≢ turnedBack noRoomNumber 0
       → pendingCount (nextTake w Z more scratch .bytes) + 1 ≡ pendingCount (Z .bytes)
 
 abbrev pub TakeIsExact : Type 0

@@ -22,6 +22,7 @@ use Rattle.demands.specs.Run.{Watch}
 use Rattle.demands.specs.Status.{recordBytes}
 use Rattle.demands.specs.World.{statusOf, Valid, KeptCuts, modelAfter, frontierAfter}
 use Rattle.demands.specs.EveryList.{AfterEveryList, RightLengths, nextTake}
+use Rattle.numbers.specs.Refusal.{stateNumber}
 
 pub record WindowExact (w k : ℕ) (f : Formula) (start : Cut) (Z : Watch) : Type 0 where
   pub frontiers-kept : List Frontier
@@ -56,7 +57,7 @@ pub record WindowExact (w k : ℕ) (f : Formula) (start : Cut) (Z : Watch) : Typ
       → (nextTake w Z more scratch .answer ≡ nothingReady) ↔ Settled (Z .ledger)
   -- 34 never comes: its condition does not hold with any room for what is kept, and no take answers it
   pub state-good : (room : ℕ) → keptCount (Z .bytes) ≤ room → badState w room (Z .bytes) ≡ false
-  pub never-34 : (more : ℕ) (scratch : List ℕ) → nextTake w Z more scratch .answer ≢ turnedBack 34 0
+  pub never-34 : (more : ℕ) (scratch : List ℕ) → nextTake w Z more scratch .answer ≢ turnedBack stateNumber 0
 
 abbrev pub WindowIsExact : Type 0
 WindowIsExact = AfterEveryList WindowExact
