@@ -1,5 +1,6 @@
 // Standard input, from chunks of any size to lines.
 
+use program::split::scan;
 ghost use Prim.Native.Nat.{_≤_};
 ghost use lib.ListN.{length};
 
@@ -19,17 +20,6 @@ pub(crate) struct Line {
     pub(crate) rest: Input,
 }
 
-// Before anything is read.
-pub(crate) fn beginning() -> Input
-    ensures { λ r. ⌜ r .end ≤ 0 ⌝ }
-{
-    Input {
-        at: 0,
-        end: 0,
-        over: false,
-    }
-}
-
 // The input with bytes in the chunk, or over: the chunk is read anew if its bytes are used. A read that fails ends the input too.
 fn refill(input: Input, chunk: &mut [u8]) -> Input
     requires { ⌜ input .end ≤ length (now chunk) ⌝ }
@@ -47,20 +37,8 @@ fn refill(input: Input, chunk: &mut [u8]) -> Input
     }
 }
 
-// Adds a byte to a line's bytes if there is room for it: their number.
-fn keep(line: &mut [u8], kept: usize, byte: u8) -> usize
-    requires { ⌜ kept ≤ length (now line) ⌝ }
-    ensures { λ r. ⌜ r ≤ length (now (line .exit)) ⌝ }
-{
-    if kept < line.len() {
-        line[kept] = byte;
-        return kept + 1;
-    }
-    kept
-}
-
 // The next line, without its line feed. Bytes that `line` has no room for are passed over. Bytes behind the last line feed are a line. A
-// proved loop has to end, and nothing says that the input does: so the bytes are counted down, from a number that no input has.
+// proved loop has to end, and nothing says that the input does: so the chunks are counted down, from a number that no input has.
 pub(crate) fn next_line(input: Input, chunk: &mut [u8], line: &mut [u8]) -> Line
     requires { ⌜ input .end ≤ length (now chunk) ⌝ }
     ensures { λ r. ⌜ r .length ≤ length (now (line .exit)) ⌝ }
@@ -72,22 +50,24 @@ pub(crate) fn next_line(input: Input, chunk: &mut [u8], line: &mut [u8]) -> Line
     while left > 0 {
         rest = refill(rest, chunk);
         let at = rest.at;
-        if at >= rest.end {
+        let end = rest.end;
+        if at >= end {
             return Line {
                 found: kept > 0,
                 length: kept,
                 rest,
             };
         }
-        rest.at = at + 1;
-        if chunk[at] == b'\n' {
+        let part = scan(&chunk[at..end], line, kept);
+        kept = part.kept;
+        rest.at = at + part.used;
+        if part.feed {
             return Line {
                 found: true,
                 length: kept,
                 rest,
             };
         }
-        kept = keep(line, kept, chunk[at]);
         left -= 1;
     }
     Line {

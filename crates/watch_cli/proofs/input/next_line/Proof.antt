@@ -1,13 +1,14 @@
--- The chunk's end and the bytes kept stay within their buffers; the countdown falls with each byte.
-use Prim.Native.Nat.{_≤_}
+-- The chunk's end and the bytes kept stay within their buffers; the countdown falls with each chunk.
 use mathlib.Core.Path.{_≡_}
+use Prim.Native.Nat.{_≤_}
 use lib.ListN.{length}
 use borrow.Author.Needs.{needs}
 use Rattle.watch_cli.proofs.input.next_line.Statement.{statement}
 use Rattle.watch_cli.proofs.input.next_line.Tie as tie
 
 abbrev Inv-loop : tie.InvT-loop
-Inv-loop chunk₀ line₀ rest₀ kept₀ left₀ chunk line rest kept left = (rest .end ≤ length chunk) × (kept ≤ length line) × (length chunk ≡ length chunk₀) × (length line ≡ length line₀)
+Inv-loop chunk₀ line₀ rest₀ kept₀ left₀ chunk line rest kept left =
+    (rest .end ≤ length chunk) × (kept ≤ length line) × (length chunk ≡ length chunk₀) × (length line ≡ length line₀)
 
 abbrev μ-loop : tie.MeasureT-loop
 μ-loop chunk₀ line₀ rest₀ kept₀ left₀ chunk line rest kept left = left
@@ -27,11 +28,20 @@ same-length-2 c = search needs
 returns : tie.Need-returns Inv-loop μ-loop
 returns c = search needs
 
+sub-scan : tie.Need-sub-scan Inv-loop μ-loop
+sub-scan c = search needs
+
+part-scan-start : tie.Need-part-scan-start Inv-loop μ-loop
+part-scan-start c = search needs
+
+part-scan-end : tie.Need-part-scan-end Inv-loop μ-loop
+part-scan-end c = search needs
+
+scan-requires : tie.Need-scan-requires Inv-loop μ-loop
+scan-requires c κs = search needs
+
 add-rest : tie.Need-add-rest Inv-loop μ-loop
 add-rest c = search needs
-
-slice-read-if2 : tie.Need-slice-read-if2 Inv-loop μ-loop
-slice-read-if2 c = search needs
 
 same-length-3 : tie.Need-same-length-3 Inv-loop μ-loop
 same-length-3 c = search needs
@@ -41,12 +51,6 @@ same-length-4 c = search needs
 
 returns-2 : tie.Need-returns-2 Inv-loop μ-loop
 returns-2 c = search needs
-
-slice-read-keep : tie.Need-slice-read-keep Inv-loop μ-loop
-slice-read-keep c = search needs
-
-keep-requires : tie.Need-keep-requires Inv-loop μ-loop
-keep-requires c κs = search needs
 
 sub-left : tie.Need-sub-left Inv-loop μ-loop
 sub-left c = search needs
@@ -77,13 +81,14 @@ next-line-spec =
     same-length
     same-length-2
     returns
+    sub-scan
+    part-scan-start
+    part-scan-end
+    scan-requires
     add-rest
-    slice-read-if2
     same-length-3
     same-length-4
     returns-2
-    slice-read-keep
-    keep-requires
     sub-left
     loop-less
     loop-again

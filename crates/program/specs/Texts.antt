@@ -1,0 +1,50 @@
+-- The answers' text (01, Examples: the program), each with its line feed.
+use Prim.Native.Nat.{ℕ, zero, suc, _+_, _-_, _/_, _%_}
+use mathlib.Core.Bool.{Bool, cond}
+use mathlib.Core.List.{List, [], _∷_, _++_}
+use lib.Dec.{ltb}
+use Rattle.clocks.specs.Counts.{at}
+use Rattle.rules.specs.Text.{ascii}
+use Rattle.answers.specs.Answer.{Answer, turnedBack, state, nothingReady, held, found, absent}
+
+-- A number's decimal digits, without needless zeros, for a number of at most so many digits.
+unfoldable pub numeralOf : ℕ → ℕ → List ℕ
+numeralOf zero n = []
+numeralOf (suc most) n = cond (ltb n 10) ((48 + n) ∷ []) (numeralOf most (n / 10) ++ ((48 + n % 10) ∷ []))
+
+-- The digits of a number of 64 bits, which are at most 20.
+abbrev pub numeral : ℕ → List ℕ
+numeral n = numeralOf 20 n
+
+-- The n counts behind the first, with a space before each.
+unfoldable pub moreCounts : List ℕ → ℕ → List ℕ
+moreCounts counts zero = []
+moreCounts counts (suc n) = moreCounts counts n ++ (32 ∷ []) ++ numeral (at counts (suc n))
+
+-- The first k counts, at least one, with single spaces between them.
+unfoldable pub countsText : List ℕ → ℕ → List ℕ
+countsText counts k = numeral (at counts 0) ++ moreCounts counts (k - 1)
+
+-- (refused n place)
+unfoldable pub refusedText : ℕ → ℕ → List ℕ
+refusedText n place = ascii "(refused " ++ numeral n ++ (32 ∷ []) ++ numeral place ++ (41 ∷ 10 ∷ [])
+
+-- (held n)
+unfoldable pub heldText : ℕ → List ℕ
+heldText n = ascii "(held " ++ numeral n ++ (41 ∷ 10 ∷ [])
+
+-- (state (c ..) yes|no kept), with the counts of k processes
+unfoldable pub verdictText : Bool → List ℕ
+verdictText holds = cond holds (ascii ") yes ") (ascii ") no ")
+
+unfoldable pub stateText : List ℕ → ℕ → Bool → ℕ → List ℕ
+stateText counts k holds kept = ascii "(state (" ++ countsText counts k ++ verdictText holds ++ numeral kept ++ (41 ∷ 10 ∷ [])
+
+-- What is printed for an answer, where there are k processes. Nothing ready prints nothing; the program asks for no place.
+unfoldable pub answerText : ℕ → Answer → List ℕ
+answerText k (turnedBack n place) = refusedText n place
+answerText k (state counts truth kept) = stateText counts k truth kept
+answerText k nothingReady = []
+answerText k (held n) = heldText n
+answerText k (found i) = []
+answerText k absent = []

@@ -1,0 +1,85 @@
+// Answers, printed: a line is answered, and takes follow where they have to.
+
+use program::Reply;
+use program::Session;
+use program::following::decode;
+use program::following::takes;
+use program::following::takes_again;
+use program::stages::answer;
+use program::text::answer_text;
+use watch::watch_take;
+ghost use Prim.Native.Nat.{_≤_, _<_};
+ghost use mathlib.Core.Path.{_≡_};
+ghost use lib.ListN.{length};
+ghost use Rattle.program.specs.Stages.{Within};
+
+const OUT: i32 = 1;
+
+// A line answered: where the program stands then, and whether it goes on.
+pub(crate) struct Turn {
+    pub(crate) session: Session,
+    pub(crate) on: bool,
+}
+
+// Prints an answer's text, whole, so that it is out before the next line is waited for; whether it was written.
+fn print(state: &[u8], k: u64, reply: Reply, offered: bool) -> bool
+    requires { ⌜ k ≤ 8 ⌝ }
+    requires { ⌜ length (now state) ≡ 1368 ⌝ }
+{
+    let mut out = [0u8; 256];
+    let end = answer_text(state, k, reply, offered, &mut out);
+    io::write_all(OUT, &out[..end])
+}
+
+// A proved loop has to end, and nothing says that the input does: so turns are counted down from a number that no run reaches, or to 0 if there is
+// none to follow.
+pub(crate) fn turns(left: u64, again: bool) -> u64
+    requires { ⌜ 0 < left ⌝ }
+    ensures { λ r. ⌜ r < left ⌝ }
+{
+    if again { left - 1 } else { 0 }
+}
+
+// Takes and prints, as long as another take is to follow.
+fn take_all(first: bool, k: u64, state: &mut [u8], window: &mut [u8], scratch: &mut [u8])
+    requires { ⌜ k ≤ 8 ⌝ }
+    requires { ⌜ length (now state) ≡ 1368 ⌝ }
+{
+    let mut left = turns(u64::MAX, first);
+    while left > 0 {
+        let reply = decode(watch_take(state, window, scratch));
+        let written = print(state, k, reply, false);
+        left = turns(left, written & takes_again(reply));
+    }
+}
+
+// Answers a line, with a window cut to the room that the first line gave. The rule's text waits in the scratch, which no take needs before the
+// watch is open. A first state that cannot be written ends the program.
+pub(crate) fn respond(
+    session: Session,
+    line: &[u8],
+    state: &mut [u8],
+    window: &mut [u8],
+    scratch: &mut [u8],
+) -> Turn
+    requires { ⌜ Within 40960 session ⌝ }
+    requires { ⌜ (length (now line) ≤ 40960) × (length (now state) ≡ 1368) × (length (now scratch) ≡ 40960) ⌝ }
+    ensures { λ r. ⌜ Within 40960 (r .session) ⌝ }
+{
+    let bytes = 40 * session.room;
+    let offered = session.stage == 3;
+    let next = answer(session, line, scratch, state, window);
+    let reply = next.reply;
+    let written = print(state, next.k, reply, offered);
+    take_all(
+        takes(offered, reply),
+        next.k,
+        state,
+        window,
+        &mut scratch[..bytes],
+    );
+    Turn {
+        session: next,
+        on: (next.stage < 4) & (written | (next.stage != 3) | offered),
+    }
+}
