@@ -4,23 +4,23 @@ use Prim.Native.Nat.{ℕ, zero, suc, _+_, _-_, _*_, _≤_}
 use native.Mathlib.Omega.{arith}
 use mathlib.Core.Path.{_≡_, refl, sym, subst, _∙_}
 use mathlib.Core.List.{List, _++_}
-use lib.ListN.{length, length-append}
+use lib.ListN.{length, take, replicate, length-append}
 use Rattle.rules.specs.declared.Unary.{Unary}
 use Rattle.rules.specs.declared.Binary.{Binary}
 use Rattle.rules.specs.declared.WordRead.{WordRead}
-use Rattle.rules.specs.declared.WordRead.the-variants.{AtWord, ConstantWord, UnaryWord, BinaryWord, NoWord}
 use Rattle.rules.specs.declared.Read.{Read}
 use Rattle.rules.specs.declared.Read.the-variants.{Form, Refused}
 use Rattle.rules.specs.Line.{linesBefore, linesAfter, linesBetween, linesAfterBoth, lineCount, linesAt}
-use Rattle.rules.specs.reading.WordLaws.{WordSpan, wordAt-span}
 use Rattle.rules.proofs.LayingSteps.{lay-lay}
 use Rattle.rules.specs.Text.{byteAt}
 use Rattle.rules.specs.Laying.{lay, LaidDown, Done}
 use Rattle.rules.specs.reading.ReaderLaws.{inner-formed, formAt-formed, readOf-form, readOf-refused}
 use Rattle.rules.specs.Formula.{Formula, unary, binary}
 use Rattle.rules.proofs.forms.ReaderSteps.{expect-met, expect-other}
-use Rattle.rules.specs.reading.PlaceLaws.{constant-short, unary-short, binary-short, length-textOf}
+use Rattle.rules.specs.reading.PlaceLaws.{length-textOf}
 use Rattle.rules.specs.lines.LineLaws.{length-linesAt, lineCount-pos}
+use Rattle.rules.specs.RuleTable.{tableOf}
+use Rattle.rules.specs.lines.RuleTableLaws.{take-laid}
 use Rattle.rules.specs.Reader.{wordAt, Reading, andThen, closeAt, innerWith, unaryWith, binaryWith, bodyWith, formAt, formed, refused}
 
 -- A form's first byte and its word
@@ -49,24 +49,6 @@ formAt-word (suc a) s k closed i word o =
     let h : suc a - 1 ≡ a = omega arith in
     rw (h, expect-met s i 40 (o .bracket), o .meets)
 
--- How far a word reaches.
-unfoldable pub NextBy : ℕ → WordRead → Type 0
-NextBy m (AtWord j) = j ≤ m
-NextBy m (ConstantWord w j) = j ≤ m + 2
-NextBy m (UnaryWord w j) = j ≤ m
-NextBy m (BinaryWord w j) = j ≤ m
-NextBy m (NoWord j) = Unit {0}
-
-pub word-near : (a : ℕ) (s : List ℕ) (i : ℕ) (word : WordRead) → Opened a s i word → NextBy (i + 4) word
-word-near a s i word o = go word (subst (WordSpan s (i + 1)) (o .meets) (wordAt-span s (i + 1)))
-  where
-    go : (word : WordRead) → WordSpan s (i + 1) word → NextBy (i + 4) word
-    go (AtWord j) p = unfold WordSpan NextBy in (omega (arith, p .ends))
-    go (ConstantWord w j) p = unfold WordSpan NextBy in (omega (arith, p .ends, constant-short w .0))
-    go (UnaryWord w j) p = unfold WordSpan NextBy in (omega (arith, p .ends, unary-short w .0))
-    go (BinaryWord w j) p = unfold WordSpan NextBy in (omega (arith, p .ends, binary-short w .0))
-    go (NoWord j) p = unfold NextBy in tt
-
 -- By what the forms inside gave
 
 module _ (reader : ℕ → ℕ → Reading) (s : List ℕ) where
@@ -92,17 +74,6 @@ module _ (reader : ℕ → ℕ → Reading) (s : List ℕ) where
       → innerWith reader s c j ≡ formed m g → binaryWith reader s w closed i ≡ closeAt s closed m (binary w f g)
   unfolding binaryWith andThen
   binary-form w closed i j m f g c e q d = rw (e, ← q, d)
-
--- What is known of a form that was read inside.
-pub record Inside (closed i j : ℕ) (f : Formula) : Type 0 where
-  pub short : closed + lineCount f ≤ 64
-  pub near : j ≤ i + 9 * lineCount f
-  pub some : 1 ≤ lineCount f
-
-pub inside : (a : ℕ) (s : List ℕ) (k closed i j : ℕ) (f : Formula) → innerWith (formAt a s k) s closed i ≡ formed j f → Inside closed i j f
-inside a s k closed i j f e =
-    let x = inner-formed s k a (formAt a s k) (formAt-formed s k a) closed i j f e .1 in
-    record { short = x .short; near = omega (arith, x .span .ends, length-textOf f); some = lineCount-pos f }
 
 -- From the code's answer back
 
@@ -134,6 +105,44 @@ form-done laid closed old new reading r j l c d e =
 pub fault-done : (laid closed : ℕ) (old new : List ℕ) (reading : Reading) (r : Read) (n j : ℕ) → Done laid closed old new reading r → r ≡ Refused n j
     → reading ≡ refused n j
 fault-done laid closed old new reading r n j d e = readOf-refused laid closed reading n j (sym (d .answer) ∙ e)
+
+-- A form read at a text's first byte: which, and the front of the table with its lines.
+pub record RuleDone (s : List ℕ) (k : ℕ) (new : List ℕ) (j l : ℕ) : Type 0 where
+  pub form : Formula
+  pub read : formAt 32 s k 0 0 ≡ formed j form
+  pub short : lineCount form ≤ 64
+  pub count : l ≡ lineCount form
+  pub table : take 192 new ≡ tableOf form
+
+pub rule-done : (s : List ℕ) (k : ℕ) {new : List ℕ} {r : Read} {j l c : ℕ}
+    → Done 0 0 (replicate 600 0) new (formAt 32 s k 0 0) r → r ≡ Form j l c → RuleDone s k new j l
+rule-done s k {new} {r} {j} {l} {c} d e =
+    let x = form-done 0 0 (replicate 600 0) new (formAt 32 s k 0 0) r j l c d e in
+    let y = formAt-formed s k 32 0 0 j (x .form) (x .read) in
+    let short : lineCount (x .form) ≤ 64 = omega (arith, y .short) in
+    record {
+      form = x .form;
+      read = x .read;
+      short = short;
+      count = omega (arith, x .laid-now);
+      table = take-laid new (x .form) short (x .table);
+    }
+
+-- A form read inside another: which, how many lines it may have, and how far it reaches.
+pub record InnerDone (a : ℕ) (s : List ℕ) (k laid closed i : ℕ) (old new : List ℕ) (j l c : ℕ) : Type 0 where
+  pub done : FormDone laid closed old new (innerWith (formAt a s k) s closed i) j l c
+  pub some : 1 ≤ lineCount (done .form)
+  pub short : closed + lineCount (done .form) ≤ 64
+  pub near : j ≤ i + 9 * lineCount (done .form)
+
+pub inner-done : (a : ℕ) (s : List ℕ) (k i : ℕ) {laid closed : ℕ} {old new : List ℕ} {r : Read} {j l c : ℕ}
+    → Done laid closed old new (innerWith (formAt a s k) s closed i) r → r ≡ Form j l c
+    → InnerDone a s k laid closed i old new j l c
+inner-done a s k i {laid} {closed} {old} {new} {r} {j} {l} {c} d e =
+    let x = form-done laid closed old new (innerWith (formAt a s k) s closed i) r j l c d e in
+    let f = x .form in
+    let y = inner-formed s k a (formAt a s k) (formAt-formed s k a) closed i j f (x .read) .1 in
+    record { done = x; some = lineCount-pos f; short = y .short; near = omega (arith, y .span .ends, length-textOf f) }
 
 -- The table of a whole form
 

@@ -1,27 +1,23 @@
 -- Laws of laying lines down, and of the code's answers against the readings they stand for.
-use Prim.Native.Nat.{ℕ, _+_, _*_, _≤_}
+use Prim.Native.Nat.{ℕ, _+_, _-_, _*_, _≤_}
 use native.Mathlib.Omega.{arith}
 use mathlib.Core.Path.{_≡_, refl, sym, _∙_}
 use mathlib.Core.Bool.{Bool, true, false, cond}
 use mathlib.Core.List.{List, [], _∷_, _++_}
 use lib.Dec.{leb, eqb}
-use lib.ListN.{length}
+use lib.ListN.{length, length-append}
 use lib.Seq.{length-sets}
 use Rattle.codec.specs.SetsLaws.{sets-append}
 use Rattle.pactl.specs.declared.Line.{Line}
-use Rattle.rules.specs.declared.Constant.{Constant}
-use Rattle.rules.specs.declared.Constant.the-variants.{True, False}
-use Rattle.rules.specs.declared.Binary.{Binary}
-use Rattle.rules.specs.declared.Binary.the-variants.{And, Es, As, Or}
 use Rattle.rules.specs.declared.Unary.{Unary}
 use Rattle.rules.specs.declared.Unary.the-variants.{Not, Ey, Ep, Ap, Ay, Eh, Ah}
 use Rattle.rules.specs.declared.Read.{Read}
 use Rattle.rules.specs.declared.Read.the-variants.{Form, Refused}
 use Rattle.pactl.specs.TableLaws.{length-tableBytes, tableBytes-append}
-use Rattle.rules.specs.Line.{trueLines, linesBefore, lineCount, linesAt, constantLines, linesAfter, linesBetween, linesAfterBoth}
+use Rattle.rules.specs.Line.{trueLines, linesBefore, lineCount, linesAt}
 use Rattle.pactl.specs.Table.{tableBytes}
 use Rattle.rules.specs.Text.{byteAt}
-use Rattle.rules.specs.Laying.{lay, hasTrue, closeRead, LaidDown, Done}
+use Rattle.rules.specs.Laying.{lay, Laid, hasTrue, closeRead, LaidDown, Done}
 use Rattle.rules.specs.Formula.{Formula}
 use Rattle.rules.specs.Reader.{expect, closeAt, readOf, formed, refused}
 
@@ -40,17 +36,23 @@ lay-lay bytes n m ls ms h =
     let e : 3 * m ≡ 3 * n + length (tableBytes ls) = omega (arith, length-tableBytes ls) in
     rw (e, sets-append bytes (3 * n) (tableBytes ls) (tableBytes ms), tableBytes-append ls ms)
 
--- One line behind the other.
-pub lay-two : (bytes : List ℕ) (n : ℕ) (v w : Line) → lay (lay bytes n (v ∷ [])) (n + 1) (w ∷ []) ≡ lay bytes n (v ∷ w ∷ [])
-lay-two bytes n v w = lay-lay bytes n (n + 1) (v ∷ []) (w ∷ []) refl
+-- What is laid down in two parts; with a larger bound; and where nothing is.
+pub laid-then : {n m k : ℕ} {ls ms : List Line} {old mid new : List ℕ} {r q : ℕ} → Laid n m ls old mid r
+    → Laid r k ms mid new q → Laid n (m + k) (ls ++ ms) old new q
+laid-then {n} {m} {k} {ls} {ms} {old} {mid} {new} {r} {q} p t =
+    let e : length (ls ++ ms) ≡ length ls + length ms = length-append ls ms in
+    record {
+      count = omega (arith, p .count, t .count);
+      few = omega (arith, p .few, t .few);
+      table = t .table ∙ rw (p .table) (lay-lay old n r ls ms (p .count));
+    }
 
-pub lay-three : (bytes : List ℕ) (n : ℕ) (v w x : Line)
-    → lay (lay (lay bytes n (v ∷ [])) (n + 1) (w ∷ [])) (n + 2) (x ∷ []) ≡ lay bytes n (v ∷ w ∷ x ∷ [])
-lay-three bytes n v w x = rw (lay-two bytes n v w) (lay-lay bytes n (n + 2) (v ∷ w ∷ []) (x ∷ []) refl)
+pub laid-within : {n m k : ℕ} {ls : List Line} {old new : List ℕ} {r : ℕ} → Laid n m ls old new r → m ≤ k
+    → Laid n k ls old new r
+laid-within p h = record { count = p .count; few = omega (arith, p .few); table = p .table }
 
-pub lay-four : (bytes : List ℕ) (n : ℕ) (v w x y : Line)
-    → lay (lay (lay (lay bytes n (v ∷ [])) (n + 1) (w ∷ [])) (n + 2) (x ∷ [])) (n + 3) (y ∷ []) ≡ lay bytes n (v ∷ w ∷ x ∷ y ∷ [])
-lay-four bytes n v w x y = rw (lay-three bytes n v w x) (lay-lay bytes n (n + 3) (v ∷ w ∷ x ∷ []) (y ∷ []) refl)
+pub laid-none : {n k : ℕ} {old : List ℕ} → Laid n k [] old old n
+laid-none {n} {k} {old} = record { count = omega arith; few = omega arith; table = sym (lay-none old n) }
 
 pub linesBefore-cond : (w : Unary) (n : ℕ) → linesBefore w n ≡ cond (hasTrue w) (trueLines n) []
 unfolding linesBefore hasTrue
@@ -61,46 +63,6 @@ linesBefore-cond Ap n = refl
 linesBefore-cond Ay n = refl
 linesBefore-cond Eh n = refl
 linesBefore-cond Ah n = refl
-
--- How many lines a word has before, after, between.
-pub constant-five : (w : Constant) (n : ℕ) → length (constantLines w n) ≤ 5
-unfolding constantLines trueLines
-constant-five True n = omega arith
-constant-five False n = omega arith
-
-pub before-four : (w : Unary) (n : ℕ) → length (linesBefore w n) ≤ 4
-unfolding linesBefore trueLines
-before-four Not n = omega arith
-before-four Ey n = omega arith
-before-four Ep n = omega arith
-before-four Ap n = omega arith
-before-four Ay n = omega arith
-before-four Eh n = omega arith
-before-four Ah n = omega arith
-
-pub after-three : (w : Unary) (t a : ℕ) → length (linesAfter w t a) ≤ 3
-unfolding linesAfter
-after-three Not t a = omega arith
-after-three Ey t a = omega arith
-after-three Ep t a = omega arith
-after-three Ap t a = omega arith
-after-three Ay t a = omega arith
-after-three Eh t a = omega arith
-after-three Ah t a = omega arith
-
-pub between-one : (w : Binary) (a : ℕ) → length (linesBetween w a) ≤ 1
-unfolding linesBetween
-between-one And a = omega arith
-between-one Es a = omega arith
-between-one As a = omega arith
-between-one Or a = omega arith
-
-pub both-three : (w : Binary) (a b : ℕ) → length (linesAfterBoth w a b) ≤ 3
-unfolding linesAfterBoth
-both-three And a b = omega arith
-both-three Es a b = omega arith
-both-three As a b = omega arith
-both-three Or a b = omega arith
 
 -- Faults
 
@@ -131,8 +93,13 @@ laid-close n old new s closed i f h = go (eqb (byteAt s i) 41) (leb (closed + li
     go true false = unfold LaidDown in tt
     go false y = unfold LaidDown in tt
 
--- The whole answer at a closing bracket, from the counts that the code has and the table.
-pub done-close : (laid closed : ℕ) (old new : List ℕ) (s : List ℕ) (i l c : ℕ) (f : Formula) (r : Read) → r ≡ closeRead s i l c
-    → l ≡ laid + lineCount f → c ≡ closed + lineCount f → new ≡ lay old laid (linesAt laid f) → Done laid closed old new (closeAt s closed i f) r
-done-close laid closed old new s i l c f r e p q h =
-    record { answer = e ∙ rw (p, q) (sym (readOf-close laid closed s i f)); table = laid-close laid old new s closed i f h }
+-- The whole answer at a closing bracket, from the lines that the code counts and the table.
+pub done-close : (laid closed : ℕ) (old new : List ℕ) (s : List ℕ) (i end : ℕ) (f : Formula) (r : Read)
+    → r ≡ closeRead s i end (closed + (end - laid)) → end ≡ laid + lineCount f → new ≡ lay old laid (linesAt laid f)
+    → Done laid closed old new (closeAt s closed i f) r
+done-close laid closed old new s i end f r e p h =
+    let q : closed + (end - laid) ≡ closed + lineCount f = omega arith in
+    record {
+      answer = e ∙ rw (q, p) (sym (readOf-close laid closed s i f));
+      table = laid-close laid old new s closed i f h;
+    }

@@ -18,9 +18,8 @@ ghost use Prim.Native.Nat.{_+_, _-_, _≤_, _<_};
 ghost use mathlib.Core.Path.{_≡_};
 ghost use lib.ListN.{length};
 ghost use Rattle.rules.specs.Formula.{constant};
-ghost use Rattle.rules.specs.Reader.{atomAt, closeAt, innerWith, formAt};
-ghost use Rattle.rules.specs.Line.{linesAfter, linesAfterBoth};
-ghost use Rattle.rules.specs.Laying.{lay, digitAt, closeRead, Done, Room};
+ghost use Rattle.rules.specs.Reader.{atomAt, closeAt, innerWith, unaryWith, binaryWith, formAt};
+ghost use Rattle.rules.specs.Laying.{digitAt, closeRead, Done, Room};
 
 // The digit at a place, below a bound.
 fn read_digit(text: &[u8], i: usize, bound: u32) -> DigitRead
@@ -43,19 +42,21 @@ fn read_digit(text: &[u8], i: usize, bound: u32) -> DigitRead
     }
 }
 
-// The closing bracket of a form. The lines laid down and those of the closed forms are counted with the form's.
-fn close(text: &[u8], place: usize, laid: usize, closed: usize) -> Read
-    requires { ⌜ place ≤ 1024 ⌝ }
-    ensures { λ r. ⌜ r ≡ closeRead (now (text .entry)) place laid closed ⌝ }
+// The closing bracket of a form whose lines are those from line `laid` up to line `end`. They are counted with those of
+// the forms closed before it.
+fn close(text: &[u8], place: usize, laid: usize, end: usize, closed: usize) -> Read
+    requires { ⌜ (place ≤ 1024) × (laid ≤ end) × (end ≤ 200) × (closed ≤ 64) ⌝ }
+    ensures { λ r. ⌜ r ≡ closeRead (now (text .entry)) place end (closed + (end - laid)) ⌝ }
 {
     if byte_at(text, place) != b')' as u32 {
         return Read::Refused { number: 1, place };
     }
-    if closed <= 64 {
+    let count = closed + (end - laid);
+    if count <= 64 {
         Read::Form {
             place: place + 1,
-            laid,
-            closed,
+            laid: end,
+            closed: count,
         }
     } else {
         Read::Refused { number: 3, place }
@@ -97,8 +98,8 @@ fn read_atom(
                     place: place + 3,
                 },
                 DigitRead::Digit { value: b } => {
-                    put_line(table, laid, 0, p, b);
-                    close(text, place + 4, laid + 1, closed + 1)
+                    let end = put_line(table, laid, 0, p, b);
+                    close(text, place + 4, laid, end, closed)
                 }
             }
         }
@@ -118,48 +119,7 @@ fn read_constant(
     ensures { λ r. ⌜ Done laid closed (now (table .entry)) (now (table .exit)) (closeAt (now (text .entry)) closed place (constant word)) r ⌝ }
 {
     let end = lay_constant(table, word, laid);
-    close(text, place, end, closed + (end - laid))
-}
-
-// Behind the form inside a word with one form: the lines after it, and the closing bracket. `end` and `count` are what the form
-// inside left, `added` lines were laid down before it.
-fn close_unary(
-    text: &[u8],
-    word: Unary,
-    truth: usize,
-    added: usize,
-    place: usize,
-    end: usize,
-    count: usize,
-    table: &mut [u8],
-) -> Read
-    requires { ⌜ (length (now table) ≡ 600) × (truth < 200) × (0 < end) × (end + 3 ≤ 200) × (place ≤ 1024) ⌝ }
-    requires { ⌜ (added ≤ 4) × (count ≤ 64) ⌝ }
-    ensures { λ r. ⌜ r ≡ closeRead (now (text .entry)) place (end + length (linesAfter word truth (end - 1))) (count + added + length (linesAfter word truth (end - 1))) ⌝ }
-    ensures { λ r. ⌜ now (table .exit) ≡ lay (now (table .entry)) end (linesAfter word truth (end - 1)) ⌝ }
-{
-    let total = lay_after(table, word, truth, end - 1);
-    close(text, place, total, count + added + (total - end))
-}
-
-// Behind both forms inside a word with two forms. `first` is the first one's last line, `added` lines were laid down between.
-fn close_binary(
-    text: &[u8],
-    word: Binary,
-    first: usize,
-    added: usize,
-    place: usize,
-    end: usize,
-    count: usize,
-    table: &mut [u8],
-) -> Read
-    requires { ⌜ (length (now table) ≡ 600) × (first + 1 < end) × (end + 3 ≤ 200) × (place ≤ 1024) ⌝ }
-    requires { ⌜ (added ≤ 4) × (count ≤ 64) ⌝ }
-    ensures { λ r. ⌜ r ≡ closeRead (now (text .entry)) place (end + length (linesAfterBoth word first (end - 1))) (count + added + length (linesAfterBoth word first (end - 1))) ⌝ }
-    ensures { λ r. ⌜ now (table .exit) ≡ lay (now (table .entry)) end (linesAfterBoth word first (end - 1)) ⌝ }
-{
-    let total = lay_after_both(table, word, first, end - 1);
-    close(text, place, total, count + added + (total - end))
+    close(text, place, laid, end, closed)
 }
 
 // A space and a form inside another.
@@ -179,6 +139,75 @@ fn read_inner(
         return Read::Refused { number: 1, place };
     }
     read_form(text, k, allowance, place + 1, laid, closed, table)
+}
+
+// A word with one form inside, from behind the word on.
+fn read_unary(
+    text: &[u8],
+    k: u32,
+    allowance: usize,
+    word: Unary,
+    place: usize,
+    laid: usize,
+    closed: usize,
+    table: &mut [u8],
+) -> Read
+    requires { ⌜ Room allowance (laid + 4) closed (place + 1) (now table) ⌝ }
+    ensures { λ r. ⌜ Done laid closed (now (table .entry)) (now (table .exit)) (unaryWith (formAt allowance (now (text .entry)) k) (now (text .entry)) word closed place) r ⌝ }
+{
+    let start = lay_before(table, word, laid);
+    let inner = read_inner(text, k, allowance, place, start, closed, table);
+    match inner {
+        Read::Refused { number, place: at } => Read::Refused { number, place: at },
+        Read::Form {
+            place: at,
+            laid: end,
+            ..
+        } => {
+            let total = lay_after(table, word, laid + 3, end - 1);
+            close(text, at, laid, total, closed)
+        }
+    }
+}
+
+// A word with two forms inside, from behind the word on.
+fn read_binary(
+    text: &[u8],
+    k: u32,
+    allowance: usize,
+    word: Binary,
+    place: usize,
+    laid: usize,
+    closed: usize,
+    table: &mut [u8],
+) -> Read
+    requires { ⌜ Room allowance (laid + 4) closed (place + 1) (now table) ⌝ }
+    ensures { λ r. ⌜ Done laid closed (now (table .entry)) (now (table .exit)) (binaryWith (formAt allowance (now (text .entry)) k) (now (text .entry)) word closed place) r ⌝ }
+{
+    let first = read_inner(text, k, allowance, place, laid, closed, table);
+    match first {
+        Read::Refused { number, place: at } => Read::Refused { number, place: at },
+        Read::Form {
+            place: middle,
+            laid: half,
+            closed: some,
+        } => {
+            let last = half - 1;
+            let start = lay_between(table, word, last);
+            let second = read_inner(text, k, allowance, middle, start, some, table);
+            match second {
+                Read::Refused { number, place: at } => Read::Refused { number, place: at },
+                Read::Form {
+                    place: at,
+                    laid: end,
+                    ..
+                } => {
+                    let total = lay_after_both(table, word, last, end - 1);
+                    close(text, at, laid, total, closed)
+                }
+            }
+        }
+    }
 }
 
 // The form at a place, with brackets nested at most as deep as the allowance. `laid` lines are laid down so far, and `closed` are those of the
@@ -201,61 +230,14 @@ pub fn read_form(
     if allowance == 0 {
         return Read::Refused { number: 2, place };
     }
+    let less = allowance - 1;
     let found = read_word(text, place + 1);
     match found {
-        WordRead::AtWord { next } => read_atom(text, k, next, laid, closed, table),
-        WordRead::ConstantWord { word, next } => read_constant(
-            text,
-            word,
-            next,
-            laid,
-            closed,
-            table,
-        ),
-        WordRead::UnaryWord { word, next } => {
-            let start = lay_before(table, word, laid);
-            let inner = read_inner(text, k, allowance - 1, next, start, closed, table);
-            match inner {
-                Read::Form {
-                    place: at,
-                    laid: end,
-                    closed: count,
-                } => close_unary(text, word, laid + 3, start - laid, at, end, count, table),
-                Read::Refused { number, place: at } => Read::Refused { number, place: at },
-            }
-        }
-        WordRead::BinaryWord { word, next } => {
-            let first = read_inner(text, k, allowance - 1, next, laid, closed, table);
-            match first {
-                Read::Form {
-                    place: middle,
-                    laid: half,
-                    closed: some,
-                } => {
-                    let start = lay_between(table, word, half - 1);
-                    let second = read_inner(text, k, allowance - 1, middle, start, some, table);
-                    match second {
-                        Read::Form {
-                            place: at,
-                            laid: end,
-                            closed: count,
-                        } => close_binary(
-                            text,
-                            word,
-                            half - 1,
-                            start - half,
-                            at,
-                            end,
-                            count,
-                            table,
-                        ),
-                        Read::Refused { number, place: at } => Read::Refused { number, place: at },
-                    }
-                }
-                Read::Refused { number, place: at } => Read::Refused { number, place: at },
-            }
-        }
-        WordRead::NoWord { place: at } => Read::Refused {
+        WordRead::AtWord(at) => read_atom(text, k, at, laid, closed, table),
+        WordRead::ConstantWord(word, at) => read_constant(text, word, at, laid, closed, table),
+        WordRead::UnaryWord(word, at) => read_unary(text, k, less, word, at, laid, closed, table),
+        WordRead::BinaryWord(word, at) => read_binary(text, k, less, word, at, laid, closed, table),
+        WordRead::NoWord(at) => Read::Refused {
             number: 1,
             place: at,
         },

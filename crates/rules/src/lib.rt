@@ -30,11 +30,11 @@ pub enum Binary {
 
 // The word at a place, with the place after it; or the first byte that no word has there.
 pub enum WordRead {
-    AtWord { next: usize },
-    ConstantWord { word: Constant, next: usize },
-    UnaryWord { word: Unary, next: usize },
-    BinaryWord { word: Binary, next: usize },
-    NoWord { place: usize },
+    AtWord(usize),
+    ConstantWord(Constant, usize),
+    UnaryWord(Unary, usize),
+    BinaryWord(Binary, usize),
+    NoWord(usize),
 }
 
 // A form read: the place after it, the lines laid down so far, and those of the forms closed so far. Or the fault met.

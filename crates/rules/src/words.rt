@@ -11,6 +11,27 @@ ghost use lib.ListN.{length};
 ghost use Rattle.rules.specs.Text.{byteAt};
 ghost use Rattle.rules.specs.Reader.{restAt, aWordAt, eWordAt, wordAt};
 
+// The letters that tell words apart, as wide as the byte at a place.
+const A: u32 = b'a' as u32;
+
+const E: u32 = b'e' as u32;
+
+const F: u32 = b'f' as u32;
+
+const H: u32 = b'h' as u32;
+
+const N: u32 = b'n' as u32;
+
+const O: u32 = b'o' as u32;
+
+const P: u32 = b'p' as u32;
+
+const S: u32 = b's' as u32;
+
+const T: u32 = b't' as u32;
+
+const Y: u32 = b'y' as u32;
+
 // The byte at a place of a text; behind its end 256, which is no byte.
 pub fn byte_at(text: &[u8], i: usize) -> u32
     ensures { λ r. ⌜ r ≡ byteAt (now (text .entry)) i ⌝ }
@@ -27,30 +48,11 @@ fn rest(text: &[u8], i: usize, letters: &[u8], word: WordRead) -> WordRead
     while j < letters.len() {
         let c = byte_at(text, i + j);
         if c != wide(letters[j]) {
-            return WordRead::NoWord { place: i + j };
+            return WordRead::NoWord(i + j);
         }
         j += 1;
     }
     word
-}
-
-// A word with the place after it.
-fn constant_word(word: Constant, next: usize) -> WordRead
-    ensures { λ r. ⌜ r ≡ WordRead.ConstantWord word next ⌝ }
-{
-    WordRead::ConstantWord { word, next }
-}
-
-fn unary_word(word: Unary, next: usize) -> WordRead
-    ensures { λ r. ⌜ r ≡ WordRead.UnaryWord word next ⌝ }
-{
-    WordRead::UnaryWord { word, next }
-}
-
-fn binary_word(word: Binary, next: usize) -> WordRead
-    ensures { λ r. ⌜ r ≡ WordRead.BinaryWord word next ⌝ }
-{
-    WordRead::BinaryWord { word, next }
 }
 
 // The words that begin with a, from their second letter on: at, as, ap, ay, ah, and.
@@ -60,25 +62,15 @@ fn a_word(text: &[u8], i: usize) -> WordRead
 {
     let c = byte_at(text, i);
     let next = i + 1;
-    if c == b't' as u32 {
-        return WordRead::AtWord { next };
+    match c {
+        T => WordRead::AtWord(next),
+        S => WordRead::BinaryWord(Binary::As, next),
+        P => WordRead::UnaryWord(Unary::Ap, next),
+        Y => WordRead::UnaryWord(Unary::Ay, next),
+        H => WordRead::UnaryWord(Unary::Ah, next),
+        N => rest(text, next, b"d", WordRead::BinaryWord(Binary::And, i + 2)),
+        _ => WordRead::NoWord(i),
     }
-    if c == b's' as u32 {
-        return binary_word(Binary::As, next);
-    }
-    if c == b'p' as u32 {
-        return unary_word(Unary::Ap, next);
-    }
-    if c == b'y' as u32 {
-        return unary_word(Unary::Ay, next);
-    }
-    if c == b'h' as u32 {
-        return unary_word(Unary::Ah, next);
-    }
-    if c == b'n' as u32 {
-        return rest(text, next, b"d", binary_word(Binary::And, i + 2));
-    }
-    WordRead::NoWord { place: i }
 }
 
 // The words that begin with e, from their second letter on: ey, es, ep, eh.
@@ -88,19 +80,13 @@ fn e_word(text: &[u8], i: usize) -> WordRead
 {
     let c = byte_at(text, i);
     let next = i + 1;
-    if c == b'y' as u32 {
-        return unary_word(Unary::Ey, next);
+    match c {
+        Y => WordRead::UnaryWord(Unary::Ey, next),
+        S => WordRead::BinaryWord(Binary::Es, next),
+        P => WordRead::UnaryWord(Unary::Ep, next),
+        H => WordRead::UnaryWord(Unary::Eh, next),
+        _ => WordRead::NoWord(i),
     }
-    if c == b's' as u32 {
-        return binary_word(Binary::Es, next);
-    }
-    if c == b'p' as u32 {
-        return unary_word(Unary::Ep, next);
-    }
-    if c == b'h' as u32 {
-        return unary_word(Unary::Eh, next);
-    }
-    WordRead::NoWord { place: i }
 }
 
 // The word at a place: those with a, those with e, not, true, false, or.
@@ -110,23 +96,23 @@ pub fn read_word(text: &[u8], i: usize) -> WordRead
 {
     let c = byte_at(text, i);
     let next = i + 1;
-    if c == b'a' as u32 {
-        return a_word(text, next);
+    match c {
+        A => a_word(text, next),
+        E => e_word(text, next),
+        N => rest(text, next, b"ot", WordRead::UnaryWord(Unary::Not, i + 3)),
+        T => rest(
+            text,
+            next,
+            b"rue",
+            WordRead::ConstantWord(Constant::True, i + 4),
+        ),
+        F => rest(
+            text,
+            next,
+            b"alse",
+            WordRead::ConstantWord(Constant::False, i + 5),
+        ),
+        O => rest(text, next, b"r", WordRead::BinaryWord(Binary::Or, i + 2)),
+        _ => WordRead::NoWord(i),
     }
-    if c == b'e' as u32 {
-        return e_word(text, next);
-    }
-    if c == b'n' as u32 {
-        return rest(text, next, b"ot", unary_word(Unary::Not, i + 3));
-    }
-    if c == b't' as u32 {
-        return rest(text, next, b"rue", constant_word(Constant::True, i + 4));
-    }
-    if c == b'f' as u32 {
-        return rest(text, next, b"alse", constant_word(Constant::False, i + 5));
-    }
-    if c == b'o' as u32 {
-        return rest(text, next, b"r", binary_word(Binary::Or, i + 2));
-    }
-    WordRead::NoWord { place: i }
 }

@@ -1,9 +1,7 @@
 -- Word by word: no line, or one.
-use native.Mathlib.Omega.{arith}
-use mathlib.Core.Path.{refl, sym}
 use borrow.Author.Needs.{needs}
-use Rattle.rules.proofs.LayingSteps.{lay-none}
 use Rattle.rules.specs.Line.{linesBetween}
+use Rattle.rules.proofs.LayingSteps.{laid-none}
 use Rattle.rules.proofs.laying.lay_between.Statement.{statement}
 use Rattle.rules.proofs.laying.lay_between.Tie as tie
 
@@ -25,27 +23,24 @@ enum-told-4 c = search needs
 put-line-requires : tie.Need-put-line-requires
 put-line-requires c κs = search needs
 
-add-result : tie.Need-add-result
-add-result c = search needs
-
 returns : tie.Need-returns
 unfolding linesBetween
-returns c = rw (c .enum-told .given .1) (omega arith, sym (lay-none _ _))
+returns c = rw (c .enum-told .given .1) laid-none
 
 returns-2 : tie.Need-returns-2
 unfolding linesBetween
-returns-2 c = rw (c .enum-told2 .given .1) (omega arith, sym (lay-none _ _))
+returns-2 c = rw (c .enum-told2 .given .1) laid-none
 
 returns-3 : tie.Need-returns-3
 unfolding linesBetween
-returns-3 c = rw (c .enum-told3 .given .1) (omega arith, sym (lay-none _ _))
+returns-3 c = rw (c .enum-told3 .given .1) laid-none
 
 same-length : tie.Need-same-length
 same-length c = search needs
 
 returns-4 : tie.Need-returns-4
 unfolding linesBetween
-returns-4 c = rw (c .before .before .before .before .enum-told4 .given .1) (refl, c .before .before .put-line .ensures)
+returns-4 c = rw (c .before .before .before .before .enum-told4 .given .1) (c .before .before .put-line .ensures)
 
 pub lay-between-spec : {M : Type 1} → statement M
 lay-between-spec =
@@ -57,7 +52,6 @@ lay-between-spec =
     enum-told-3
     enum-told-4
     put-line-requires
-    add-result
     returns
     returns-2
     returns-3
