@@ -12,6 +12,10 @@ use Rattle.clocks.specs.Counts.{at, listOf}
 use Rattle.records.specs.Record.{takenCounts, readyIn}
 use Rattle.call_take.proofs.TrialSteps.{setting-with}
 
+-- The start of the walk.
+abbrev start : tie.After-process-count → tie.Start
+start c = c .before .before .before .before
+
 process-count-requires : tie.Need-process-count-requires
 process-count-requires c κs = search needs
 
@@ -20,7 +24,7 @@ taken-counts-requires c κs = search needs
 
 apply-requires : tie.Need-apply-requires
 unfolding readyIn
-apply-requires c κs = rw (c .taken-counts .ensures) (c .before .before .before .before .before .pre .1 .1 .1 .1 .0)
+apply-requires c κs = rw (c .taken-counts .ensures) (start (c .before) .pre .1 .1 .1 .1 .0)
 
 count-after-requires : tie.Need-count-after-requires
 count-after-requires c κs = search needs
@@ -28,14 +32,19 @@ count-after-requires c κs = search needs
 same-length : tie.Need-same-length
 same-length c = search needs
 
+-- The event's mask is a byte.
+small : (c : tie.Start) → c .args .e .mask < 256
+small c = omega arith
+
 returns : tie.Need-returns
 returns c =
-    let a = c .before .before .before .before .before .before .before .before .before .before .args in
-    let small : a .e .mask < 256 = omega arith in
-    let counts : c .before .before .before .before .apply .result ≡ listOf 8 (apply (a .e) (at (takenCounts (a .w) (now (a .«record»))))) =
-    c .before .before .before .before .apply .ensures ∙ ap (λ (l : List ℕ). listOf 8 (apply (a .e) (at l))) (c .before .before .before .before .before .taken-counts .ensures) in (
-      rw (setting-with (a .w) (now (a .«record»)) (a .e) small, ← counts, ← (c .before .before .before .before .before .before .process-count .ensures .0)) (c .before .before .count-after .ensures .0 _ _),
-      rw (setting-with (a .w) (now (a .«record»)) (a .e) small, ← counts, ← (c .before .before .before .before .before .before .process-count .ensures .0)) (c .before .before .count-after .ensures .1 .1 _ _),
+    let b = c .before .before .before .before in
+    let k = b .before .before in
+    let a = start k .args in
+    let counts : b .apply .result ≡ listOf 8 (apply (a .e) (at (takenCounts (a .w) (now (a .«record»))))) =
+    b .apply .ensures ∙ ap (λ (l : List ℕ). listOf 8 (apply (a .e) (at l))) (b .before .taken-counts .ensures) in (
+      rw (setting-with (a .w) (now (a .«record»)) (a .e) (small (start k)), ← counts, ← (k .process-count .ensures .0)) (c .before .before .count-after .ensures .0 _ _),
+      rw (setting-with (a .w) (now (a .«record»)) (a .e) (small (start k)), ← counts, ← (k .process-count .ensures .0)) (c .before .before .count-after .ensures .1 .1 _ _),
     )
 
 pub kept-with-spec : {M : Type 1} → statement M

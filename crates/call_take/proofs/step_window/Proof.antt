@@ -17,6 +17,16 @@ use Rattle.records.specs.Record.{takenCounts, readyIn}
 use Rattle.call_take.specs.Take.{settingIn}
 use Rattle.call_take.proofs.TrialSteps.{setting-lent}
 
+-- ---- Places in the walk: the start, and where the processes are counted
+
+abbrev start : tie.After-process-count → tie.Start
+start c = let lent = c .before .before in lent .before .before .before
+
+abbrev counted : tie.After-table-place → tie.After-process-count
+counted c = c .before .before .before .before
+
+-- ---- The needs
+
 process-count-requires : tie.Need-process-count-requires
 process-count-requires c κs = search needs
 
@@ -28,7 +38,7 @@ taken-counts-requires c κs = search needs
 
 apply-requires : tie.Need-apply-requires
 unfolding readyIn
-apply-requires c κs = rw (c .taken-counts .ensures) (c .before .before .before .before .before .before .before .pre .1 .1 .1 .1 .1 .1 .1 .0)
+apply-requires c κs = rw (c .taken-counts .ensures) (start (c .before .before) .pre .1 .1 .1 .1 .1 .1 .1 .0)
 
 table-place-requires : tie.Need-table-place-requires
 table-place-requires c κs = search needs
@@ -43,18 +53,19 @@ part-step-end : tie.Need-part-step-end
 part-step-end c = search needs
 
 -- The step's parameters make the record's setting.
-setting : (c : tie.After-table-place) → let a = c .before .before .before .before .before .before .before .before .before .args in
-    settingIn (a .w) (now (a .«record»)) (a .e) ≡ settingWith (c .before .before .before .before .process-count .result) 0 (take (length (now (a .«record»)) - c .table-place .result) (drop (c .table-place .result) (now (a .«record»)))) (c .before .before .before .line-total .result) (a .e) (c .before .apply .result)
+setting : (c : tie.After-table-place) → let a = start (counted c) .args in
+    settingIn (a .w) (now (a .«record»)) (a .e) ≡ settingWith (counted c .process-count .result) 0 (take (length (now (a .«record»)) - c .table-place .result) (drop (c .table-place .result) (now (a .«record»)))) (c .before .before .before .line-total .result) (a .e) (c .before .apply .result)
 setting c =
-    let a = c .before .before .before .before .before .before .before .before .before .args in
+    let a = start (counted c) .args in
     let counts : c .before .apply .result ≡ listOf 8 (apply (a .e) (at (takenCounts (a .w) (now (a .«record»))))) =
     c .before .apply .ensures ∙ ap (λ (l : List ℕ). listOf 8 (apply (a .e) (at l))) (c .before .before .taken-counts .ensures) in
-    setting-lent (a .w) (now (a .«record»)) (a .e) _ _ _ _ (omega arith) (c .before .before .before .before .process-count .ensures .0) (c .table-place .ensures .0) (c .before .before .before .line-total .ensures .0) counts
+    setting-lent (a .w) (now (a .«record»)) (a .e) _ _ _ _ (omega arith) (counted c .process-count .ensures .0) (c .table-place .ensures .0) (c .before .before .before .line-total .ensures .0) counts
 
 step-requires : tie.Need-step-requires
 step-requires c κs =
-    let a = c .before .before .before .before .before .before .before .before .before .before .before .before .args in
-    let asked = c .before .before .before .before .before .before .before .before .before .before .before .before .pre in (
+    let place = c .before .before .before in
+    let a = start (counted place) .args in
+    let asked = start (counted place) .pre in (
       search needs,
       (
         asked .1 .1 .1 .1 .1 .1 .0,
@@ -69,8 +80,8 @@ step-requires c κs =
                 (
                   search needs,
                   (
-                    asked .1 .1 .1 .1 .1 .1 .1 .1 .0 ∙ ap (λ (t : Setting). keptAfter t (frontiers (a .w) (now (a .window)) (a .n))) (setting (c .before .before .before)),
-                    (asked .1 .1 .1 .1 .1 .1 .1 .1 .1 .0, rw (setting (c .before .before .before)) at (asked .1 .1 .1 .1 .1 .1 .1 .1 .1 .1)),
+                    asked .1 .1 .1 .1 .1 .1 .1 .1 .0 ∙ ap (λ (t : Setting). keptAfter t (frontiers (a .w) (now (a .window)) (a .n))) (setting place),
+                    (asked .1 .1 .1 .1 .1 .1 .1 .1 .1 .0, rw (setting place) at (asked .1 .1 .1 .1 .1 .1 .1 .1 .1 .1)),
                   ),
                 ),
               ),
@@ -88,8 +99,9 @@ same-length-2 c = search needs
 
 returns : tie.Need-returns
 returns c =
-    let to = setting (c .before .before .before .before .before .before .before .before) in
-    let step = c .before .before .before .before .step .ensures in
+    let b = c .before .before .before .before in
+    let to = setting (b .before .before .before .before) in
+    let step = b .step .ensures in
     (rw to (step .0), (step .1 .0, rw to (step .1 .1)))
 
 pub step-window-spec : {M : Type 1} → statement M

@@ -21,6 +21,28 @@ use Rattle.call_take.specs.TakeCode.{choiceFor}
 abbrev kept : ℕ → List ℕ → List ℕ → List Frontier
 kept w s window = frontiers w window (keptCount s)
 
+-- ---- Places in the walk: the start, and where each part is done
+
+abbrev start : tie.After-kept-count → tie.Start
+start c = let lent = c .before .before in lent .before .before .before
+
+abbrev counted : tie.After-decide → tie.After-kept-count
+counted c = c .before .before .before .before
+
+abbrev falsified : tie.After-remove-event-arg → tie.After-decide
+falsified c = let told = c .before .before in told .before .before .before
+
+abbrev chose : tie.After-take-event-arg3 → tie.After-choice3
+chose c = let arg = c .before .before .before in arg .before .before
+
+abbrev removed : tie.After-slice-known6 → tie.After-remove-event
+removed c = let emptied = c .before .before .before in emptied .before .before .before
+
+abbrev taken : tie.After-slice-known9 → tie.After-take-event
+taken c = let lent = c .before .before .before in lent .before .before .before
+
+-- ---- The needs
+
 kept-count-requires : tie.Need-kept-count-requires
 kept-count-requires c κs = search needs
 
@@ -32,14 +54,15 @@ slice-aggregate-decide c = search needs
 
 decide-requires : tie.Need-decide-requires
 decide-requires c κs =
-    let asked = c .before .before .before .before .before .before .before .before .pre .1 .1 .1 .1 .0 in
-    let count = c .before .before .before .kept-count .ensures in
+    let b = c .before .before .before in
+    let asked = start b .pre .1 .1 .1 .1 .0 in
+    let count = b .kept-count .ensures in
     (search needs, (search needs, (search needs, (search needs, ((rw count (asked .0), rw count (asked .1)), rw count (asked .0))))))
 
 -- What is to be known of the call that decides: its frontiers are those that the record says are kept.
-decision : (c : tie.After-decide) → let a = c .before .before .before .before .before .before .before .before .before .args in
+decision : (c : tie.After-decide) → let a = start (counted c) .args in
     c .decide .result ≡ choiceFor (a .w) (now (a .«record»)) (kept (a .w) (now (a .«record»)) (now (a .window))) (tried (a .w) (now (a .«record»)) (a .allowed) (kept (a .w) (now (a .«record»)) (now (a .window))) 0 false (pendingEvents (a .w) (now (a .«record»))))
-decision c = rw (← (c .before .before .before .before .kept-count .ensures)) (c .decide .ensures .0)
+decision c = rw (← (counted c .kept-count .ensures)) (c .decide .ensures .0)
 
 enum-known-choice : tie.Need-enum-known-choice
 enum-known-choice c = search needs
@@ -55,8 +78,9 @@ enum-known-choice-2 c = search needs
 
 remove-event-requires : tie.Need-remove-event-requires
 remove-event-requires c κs =
-    let a = c .before .before .before .before .before .before .before .before .before .before .before .before .before .before .args in
-    let t = choice-falsified (a .w) (now (a .«record»)) (a .allowed) _ _ (sym (c .before .before .choice2 .given .1) ∙ decision (c .before .before .before .before .before)) in
+    let a = start (counted (falsified c)) .args in
+    let asked = start (counted (falsified c)) .pre in
+    let t = choice-falsified (a .w) (now (a .«record»)) (a .allowed) _ _ (sym (c .before .before .choice2 .given .1) ∙ decision (falsified c)) in
     (search needs, (search needs, (t .1, search needs)))
 
 clear-all-requires-2 : tie.Need-clear-all-requires-2
@@ -70,12 +94,14 @@ slice-aggregate-take-event c = search needs
 
 take-event-requires : tie.Need-take-event-requires
 take-event-requires c κs =
-    let a = c .before .before .before .before .before .before .before .before .before .before .before .before .before .before .before .before .before .args in
-    let asked = c .before .before .before .before .before .before .before .before .before .before .before .before .before .before .before .before .before .pre in
-    let count = c .before .before .before .before .before .before .before .before .before .before .before .before .kept-count .ensures in
-    let t = choice-chosen (a .w) (now (a .«record»)) (a .allowed) _ _ _ (sym (c .before .before .before .before .before .choice3 .given .1) ∙ decision (c .before .before .before .before .before .before .before .before)) .1 in
-    let long : length (c .before .before .before .before .before .before .before .before .decide .last .1 .1 .1 .0) ≡ 1024 = search needs in
-    (search needs, (search needs, (search needs, ((rw count (asked .1 .1 .1 .1 .0 .0), rw count (asked .1 .1 .1 .1 .0 .1)), ((t .some, (omega (arith, t .few), omega (arith, mul-le-mul-right (frontierLength (a .w)) (t .few)))), (search needs, ((t .pending, search needs), (t .ready, (rw count (t .many), (rw (long, count) (asked .1 .1 .1 .1 .0 .0), c .before .before .before .before .before .before .before .before .decide .ensures .1 _ _ (c .before .before .before .before .before .choice3 .given .1)))))))))))
+    let told = chose c in
+    let d = told .before .before .before in
+    let a = start (counted d) .args in
+    let asked = start (counted d) .pre in
+    let count = counted d .kept-count .ensures in
+    let t = choice-chosen (a .w) (now (a .«record»)) (a .allowed) _ _ _ (sym (told .choice3 .given .1) ∙ decision d) .1 in
+    let long : length (d .decide .last .1 .1 .1 .0) ≡ 1024 = search needs in
+    (search needs, (search needs, (search needs, ((rw count (asked .1 .1 .1 .1 .0 .0), rw count (asked .1 .1 .1 .1 .0 .1)), ((t .some, (omega (arith, t .few), omega (arith, mul-le-mul-right (frontierLength (a .w)) (t .few)))), (search needs, ((t .pending, search needs), (t .ready, (rw count (t .many), (rw (long, count) (asked .1 .1 .1 .1 .0 .0), d .decide .ensures .1 _ _ (told .choice3 .given .1)))))))))))
 
 same-length : tie.Need-same-length
 same-length c = search needs
@@ -89,9 +115,12 @@ same-length-3 c = search needs
 returns : tie.Need-returns
 unfolding decided
 returns c =
-    let a = c .before .before .before .before .before .before .before .before .before .before .before .before .before .before .before .before .before .before .args in
-    let whole = within-by (a .w) (a .allowed) (now (a .«record»)) (now (a .window)) _ (choice-undecided (a .w) (now (a .«record»)) (a .allowed) _ _ (sym (c .before .before .before .before .before .before .choice .given .1) ∙ decision (c .before .before .before .before .before .before .before .before .before))) in
-    (c .undecided-word .ensures ∙ ap (λ (o : Taken). replyWord (o .answer)) (sym whole), (ap (λ (o : Taken). o .bytes) (sym whole), (ap (λ (o : Taken). o .window) (sym whole), c .before .before .before .clear-all .ensures ∙ ap (λ (n : ℕ). replicate n 0) (c .before .before .before .before .before .before .before .before .before .before .before .before .before .before .before .before .before .before .pre .1 .1 .1 .1 .1 .1) ∙ ap (λ (o : Taken). o .scratch) (sym whole))))
+    let clear = c .before .before .before in
+    let told = clear .before .before .before in
+    let d = told .before .before .before in
+    let a = start (counted d) .args in
+    let whole = within-by (a .w) (a .allowed) (now (a .«record»)) (now (a .window)) _ (choice-undecided (a .w) (now (a .«record»)) (a .allowed) _ _ (sym (told .choice .given .1) ∙ decision d)) in
+    (c .undecided-word .ensures ∙ ap (λ (o : Taken). replyWord (o .answer)) (sym whole), (ap (λ (o : Taken). o .bytes) (sym whole), (ap (λ (o : Taken). o .window) (sym whole), clear .clear-all .ensures ∙ ap (λ (n : ℕ). replicate n 0) (start (counted d) .pre .1 .1 .1 .1 .1 .1) ∙ ap (λ (o : Taken). o .scratch) (sym whole))))
 
 same-length-4 : tie.Need-same-length-4
 same-length-4 c = search needs
@@ -105,9 +134,12 @@ same-length-6 c = search needs
 returns-2 : tie.Need-returns-2
 unfolding decided replyWord
 returns-2 c =
-    let a = c .before .before .before .before .before .before .before .before .before .before .before .before .before .before .before .before .before .before .before .before .before .args in
-    let whole = within-by (a .w) (a .allowed) (now (a .«record»)) (now (a .window)) _ (choice-falsified (a .w) (now (a .«record»)) (a .allowed) _ _ (sym (c .before .before .before .before .before .before .before .before .before .choice2 .given .1) ∙ decision (c .before .before .before .before .before .before .before .before .before .before .before .before)) .0) in
-    (ap (λ (o : Taken). replyWord (o .answer)) (sym whole), (c .before .before .before .before .before .before .remove-event .ensures ∙ ap (λ (o : Taken). o .bytes) (sym whole), (ap (λ (o : Taken). o .window) (sym whole), c .before .before .clear-all2 .ensures ∙ ap (λ (n : ℕ). replicate n 0) (c .before .before .before .before .before .before .before .before .before .before .before .before .before .before .before .before .before .before .before .before .before .pre .1 .1 .1 .1 .1 .1) ∙ ap (λ (o : Taken). o .scratch) (sym whole))))
+    let gone = removed c in
+    let told = gone .before .before .before in
+    let d = told .before .before .before in
+    let a = start (counted d) .args in
+    let whole = within-by (a .w) (a .allowed) (now (a .«record»)) (now (a .window)) _ (choice-falsified (a .w) (now (a .«record»)) (a .allowed) _ _ (sym (told .choice2 .given .1) ∙ decision d) .0) in
+    (ap (λ (o : Taken). replyWord (o .answer)) (sym whole), (gone .remove-event .ensures ∙ ap (λ (o : Taken). o .bytes) (sym whole), (ap (λ (o : Taken). o .window) (sym whole), c .before .before .clear-all2 .ensures ∙ ap (λ (n : ℕ). replicate n 0) (start (counted d) .pre .1 .1 .1 .1 .1 .1) ∙ ap (λ (o : Taken). o .scratch) (sym whole))))
 
 same-length-7 : tie.Need-same-length-7
 same-length-7 c = search needs
@@ -121,10 +153,13 @@ same-length-9 c = search needs
 returns-3 : tie.Need-returns-3
 unfolding decided
 returns-3 c =
-    let a = c .before .before .before .before .before .before .before .before .before .before .before .before .before .before .before .before .before .before .before .before .before .before .before .before .args in
-    let whole = within-by (a .w) (a .allowed) (now (a .«record»)) (now (a .window)) _ (choice-chosen (a .w) (now (a .«record»)) (a .allowed) _ _ _ (sym (c .before .before .before .before .before .before .before .before .before .before .before .before .choice3 .given .1) ∙ decision (c .before .before .before .before .before .before .before .before .before .before .before .before .before .before .before)) .0) in
-    let e = c .before .before .before .before .before .before .take-event .ensures in
-    let count = c .before .before .before .before .before .before .before .before .before .before .before .before .before .before .before .before .before .before .before .kept-count .ensures in
+    let take = taken c in
+    let told = chose (take .before) in
+    let d = told .before .before .before in
+    let a = start (counted d) .args in
+    let whole = within-by (a .w) (a .allowed) (now (a .«record»)) (now (a .window)) _ (choice-chosen (a .w) (now (a .«record»)) (a .allowed) _ _ _ (sym (told .choice3 .given .1) ∙ decision d) .0) in
+    let e = take .take-event .ensures in
+    let count = counted d .kept-count .ensures in
     (rw (whole, ← count) (e .0), (rw (whole, ← count) (e .1 .0), (rw (whole, ← count) (e .1 .1 .0), rw whole (e .1 .1 .1))))
 
 pub take-within-spec : {M : Type 1} → statement M

@@ -30,6 +30,10 @@ Inv-loop window marks₀ w n k closed reached low high opens total₀ i₀ marks
 abbrev μ-loop : tie.MeasureT-loop
 μ-loop window marks₀ w n k closed reached low high opens total₀ i₀ marks total i = n - i
 
+-- The start of the walk.
+abbrev start : tie.After-open-ones Inv-loop μ-loop → tie.Start Inv-loop μ-loop
+start c = let lent = c .before .before .before in lent .before .before
+
 bound-counts-requires : tie.Need-bound-counts-requires Inv-loop μ-loop
 bound-counts-requires c κs = search needs
 
@@ -41,7 +45,7 @@ open-ones-requires c κs = search needs
 
 loop-holds : tie.Need-loop-holds Inv-loop μ-loop
 loop-holds c =
-    let a = c .before .before .before .before .before .args in (
+    let a = start c .args in (
       search needs,
       search needs,
       refl,
@@ -51,7 +55,7 @@ loop-holds c =
 
 counts-at-requires : tie.Need-counts-at-requires Inv-loop μ-loop
 counts-at-requires c κs =
-    let a = c .before .before .before .before .before .before .before .args in
+    let a = start (c .before .before) .args in
     (search needs, (search needs, omega (arith, place-within (c .before .loop .i) (a .n) (a .w) (search needs))))
 
 stays-requires : tie.Need-stays-requires Inv-loop μ-loop
@@ -93,17 +97,20 @@ loop-less c = search needs
 loop-again : tie.Need-loop-again Inv-loop μ-loop
 unfolding stays enabledAt
 loop-again c =
-    let b = c .before .before .before .before .before .before .before in
-    let a = b .before .before .before .before .before .args in
-    let l = c .before .before .before .before .before .before .loop in
+    let read = c .before .before .before .before in
+    let turn = read .before .before in
+    let b = turn .before in
+    let a = start b .args in
+    let asked = start b .pre in
+    let l = turn .loop in
     let f = frontierAt (a .w) (now (a .window)) (l .i) in
     let here : c .before .before .one-if .result ≡ one (staysWith (a .k) (a .closed) (a .reached) (f .counts)) =
-    rw (c .before .before .one-if .ensures .0, c .before .before .before .stays .ensures (a .k) (a .closed) (search needs) (b .open-ones .ensures), c .before .before .before .before .counts-at .ensures) in (
+    rw (c .before .before .one-if .ensures .0, c .before .before .before .stays .ensures (a .k) (a .closed) (asked .1 .1 .0) (b .open-ones .ensures), read .counts-at .ensures) in (
       search needs,
       search needs,
       search needs,
       λ e table lines p q. let there : c .one-if2 .result ≡ one (ready 8 e (at (f .counts))) =
-          rw (c .one-if2 .ensures .0, c .before .within .ensures e p q, c .before .before .before .before .counts-at .ensures) in
+          rw (c .one-if2 .ensures .0, c .before .within .ensures e p q, read .counts-at .ensures) in
           let old = l .inv .3 e table lines p q in (
             rw (here, there, old .0) (omega (arith, keptAfter-more (a .k) (a .closed) table lines e (a .reached) (a .w) (now (a .window)) (l .i))),
             marked-more (settingWith (a .k) (a .closed) table lines e (a .reached)) (a .w) (now (a .window)) (l .i) (l .marks) _ (omega arith) (rw (here, there)) (old .1),
@@ -116,7 +123,7 @@ same-length c = search needs
 returns : tie.Need-returns Inv-loop μ-loop
 returns c =
     let b = c .before .before in
-    let a = b .before .before .before .before .before .args in
+    let a = start b .args in
     let l = c .before .loop in
     let e : l .i ≡ a .n = omega arith in
     let low = b .before .before .bound-counts .ensures in

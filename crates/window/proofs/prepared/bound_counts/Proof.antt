@@ -51,11 +51,14 @@ loop-less : tie.Need-loop-less Inv-loop μ-loop
 loop-less c = search needs
 
 -- What is stored is the bound there.
-stored : (c : tie.After-bound-count Inv-loop μ-loop) → c .bound-count .result ≡ bound (c .before .before .before .before .before .args .high) (involved (c .before .before .before .before .before .args .t1) (c .before .before .before .before .loop .p)) (count (c .before .before .before .before .before .args .t1) (c .before .before .before .before .loop .p))
+stored : (c : tie.After-bound-count Inv-loop μ-loop) → let b = c .before .before .before .before in
+    let a = b .before .args in
+    c .bound-count .result ≡ bound (a .high) (involved (a .t1) (b .loop .p)) (count (a .t1) (b .loop .p))
 unfolding involved count
 stored c =
-    let a = c .before .before .before .before .before .args in
-    let p = c .before .before .before .before .loop .p in
+    let b = c .before .before .before .before in
+    let a = b .before .args in
+    let p = b .loop .p in
     c .bound-count .ensures ∙ ap (λ (b : Bool). bound (a .high) b (at (a .t1 .clock) p)) (c .before .before .has-bit .ensures)
 
 loop-again : tie.Need-loop-again Inv-loop μ-loop

@@ -14,8 +14,9 @@ renewed-requires-2 : tie.Need-renewed-requires-2
 renewed-requires-2 c κs = search needs
 
 returns : tie.Need-returns
-returns c = λ s h v. let a = c .before .before .before .before .before .before .before .args in
-    let full = c .before .before .before .before .before .before .before .pre .0 in
+returns c = λ s h v. let b = c .before .before .before in
+    let a = b .before .before .before .before .args in
+    let full = b .before .before .before .before .pre .0 in
     advanced-parts s (a .e) (a .f) (c .before .before .apply .result) (c .before .renewed .result) (c .renewed2 .result) h v
     (c .before .before .apply .ensures) (c .before .renewed .ensures (a .e .mask) full) (c .renewed2 .ensures (a .e .mask) full)
 

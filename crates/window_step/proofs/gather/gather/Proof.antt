@@ -33,6 +33,16 @@ Inv-loop scratch w m k mask ors₀ ands₀ begins₀ masks counts p₀ ors ands 
 abbrev μ-loop : tie.MeasureT-loop
 μ-loop scratch w m k mask ors₀ ands₀ begins₀ masks counts p₀ ors ands begins p = k - p
 
+-- ---- Places in the walk: the start, the loop
+
+abbrev start : tie.At-loop Inv-loop μ-loop → tie.Start Inv-loop μ-loop
+start c = c .before .before .before .before
+
+abbrev turn : tie.After-is-sought Inv-loop μ-loop → tie.At-loop Inv-loop μ-loop
+turn c = c .before .before
+
+-- ---- The needs
+
 loop-holds : tie.Need-loop-holds Inv-loop μ-loop
 loop-holds c =
     let a = c .before .before .before .args in (
@@ -64,7 +74,7 @@ seek-requires c κs = search needs
 
 values-at-requires : tie.Need-values-at-requires Inv-loop μ-loop
 values-at-requires c κs =
-    let a = c .before .before .before .before .before .before .before .before .before .before .args in
+    let a = start (turn (c .before .before .before .before)) .args in
     (search needs, (search needs, omega (arith, place-within (c .before .seek .result) (a .m) (a .w) (search needs))))
 
 or-words-requires : tie.Need-or-words-requires Inv-loop μ-loop
@@ -90,8 +100,9 @@ loop-less c = search needs
 
 loop-again : tie.Need-loop-again Inv-loop μ-loop
 loop-again c =
-    let a = c .before .before .before .before .before .before .before .args in
-    let l = c .before .before .before .loop in
+    let b = turn (c .before) in
+    let a = start b .args in
+    let l = b .loop in
     let laid = frontiers (a .w) (now (a .scratch)) (a .m) in
     let t = c .before .is-sought in (
       search needs,
@@ -117,7 +128,7 @@ loop-again c =
 
 returns : tie.Need-returns Inv-loop μ-loop
 returns c =
-    let a = c .before .before .before .before .before .args in
+    let a = start (c .before) .args in
     let l = c .before .loop in
     let e : l .p ≡ a .k = omega arith in
     λ s h v. l .inv .2 s (a .g) h v refl refl refl ∙ ap (gathered s (frontiers (a .w) (now (a .scratch)) (a .m)) (a .hints) (a .g)) e

@@ -17,6 +17,10 @@ use Rattle.clocks.specs.Tested.{ready}
 use Rattle.frontiers.specs.Bytes.{frontierAt}
 use Rattle.lookup.specs.Order.{before}
 
+-- The start of the walk.
+abbrev start : tie.After-counts-at → tie.Start
+start c = c .before .before .before .before
+
 returns : tie.Need-returns
 returns c = let a = c .before .before .args in rw (le-ltb (a .j) (a .n) (search needs))
 
@@ -30,12 +34,12 @@ counts-at-requires c κs =
 
 apply-requires : tie.Need-apply-requires
 apply-requires c κs =
-    let a = c .before .before .before .before .args in
-    subst (λ (counts : List ℕ). T (ready 8 (a .e) (at counts))) (sym (c .counts-at .ensures)) (true-T (c .before .before .before .before .pre .1 .1 (search needs)))
+    let a = start c .args in
+    subst (λ (counts : List ℕ). T (ready 8 (a .e) (at counts))) (sym (c .counts-at .ensures)) (true-T (start c .pre .1 .1 (search needs)))
 
 counts-at-requires-2 : tie.Need-counts-at-requires-2
 counts-at-requires-2 c κs =
-    let a = c .before .before .before .before .before .args in
+    let a = start (c .before) .args in
     (search needs, (omega arith, omega (arith, place-within (a .i) (a .n) (a .w) (search needs))))
 
 counts-before-requires : tie.Need-counts-before-requires
@@ -43,7 +47,7 @@ counts-before-requires c κs = search needs
 
 returns-3 : tie.Need-returns-3
 returns-3 c =
-    let a = c .before .before .before .before .before .before .before .args in
+    let a = start (c .before .before .before) .args in
     let there : c .before .before .apply .result ≡ listOf 8 (apply (a .e) (at (frontierAt (a .w) (now (a .window)) (a .j) .counts))) =
     c .before .before .apply .ensures ∙ ap (λ (counts : List ℕ). listOf 8 (apply (a .e) (at counts))) (c .before .before .before .counts-at .ensures) in
     rw (lt-ltb (a .j) (a .n) (search needs), lt-ltb (a .i) (a .n) (search needs))

@@ -1,7 +1,7 @@
 -- Each turn lays down the next slot: the laws `laid-staying` and `laid-fresh`.
 use native.Mathlib.Omega.{arith}
 use mathlib.Core.Path.{_≡_, refl, sym, ap, _∙_}
-use Prim.Native.Nat.{_≤_, _<_, _-_, _+_}
+use Prim.Native.Nat.{_≤_, _<_, _-_}
 use lib.ListN.{length}
 use borrow.Author.Needs.{needs}
 use Rattle.window_step.proofs.merge.lay_all.Statement.{statement}

@@ -42,8 +42,9 @@ loop-less c = search needs
 
 loop-again : tie.Need-loop-again Inv-loop μ-loop
 loop-again c =
-    let a = c .before .before .before .before .before .before .args in
-    let l = c .before .before .before .before .loop in
+    let b = c .before .before .before .before in
+    let a = b .before .before .args in
+    let l = b .loop in
     let k : l .next < a .n = omega arith in
     (search needs, λ t w window T. l .inv .1 t w window T ∙ rest-pass t w window (a .n) (l .next) k (T (l .next) k ∙ sym (c .before .is-marked .ensures) ∙ c .if1 .left))
 
