@@ -1,5 +1,5 @@
 -- The program's lines (01, Examples: the program): what each gives, or its fault by 1 or 10.
-use Prim.Native.Nat.{ℕ, _-_}
+use Prim.Native.Nat.{ℕ, _-_, _≤_}
 use mathlib.Core.Bool.{true, false, cond}
 use mathlib.Core.List.{List}
 use lib.Dec.{eqb}
@@ -7,8 +7,8 @@ use lib.ListN.{length, take, drop}
 use Rattle.clocks.specs.Counts.{at}
 use Rattle.rules.specs.Text.{ascii, byteAt}
 use Rattle.rules.specs.Reader.{Reading, formed, refused, readRule}
-use Rattle.lines.specs.declared.Read.{Read}
-use Rattle.lines.specs.declared.Read.the-variants.{At, Refused}
+use Rattle.line_pieces.specs.declared.Read.{Read}
+use Rattle.line_pieces.specs.declared.Read.the-variants.{At, Refused}
 use Rattle.lines.specs.declared.WatchLine.{WatchLine}
 use Rattle.lines.specs.declared.WatchLine.the-variants.{Watch, Refused as WatchRefused}
 use Rattle.lines.specs.declared.StartLine.{StartLine}
@@ -17,11 +17,12 @@ use Rattle.lines.specs.declared.DidLine.{DidLine}
 use Rattle.lines.specs.declared.DidLine.the-variants.{Did, Refused as DidRefused}
 use Rattle.lines.specs.declared.RuleLine.{RuleLine}
 use Rattle.lines.specs.declared.RuleLine.the-variants.{Rule, Refused as RuleRefused}
-use Rattle.lines.specs.Reading.{valueOf, thenByte, thenBytes, headRead, thenNumber, thenEnd, limited}
-use Rattle.lines.specs.NumberList.{thenList, thenSpacedList, thenClose, eight}
+use Rattle.line_pieces.specs.Reading.{valueOf, thenByte, thenBytes, headRead, thenNumber, thenEnd, limited, thenLast}
+use Rattle.line_pieces.specs.NumberList.{thenList, thenSpacedList, thenClose, eight}
 use Rattle.lines.specs.Words.{word, placed}
 
--- The limits on numbers (01, Turned back, from the input: 10): the processes and counts, labels, process numbers, and frontiers in a window.
+-- The limits on numbers (01, Turned back, from the input: 10): the processes and counts, labels, process numbers, and
+-- frontiers in a window.
 abbrev pub countLimit : ℕ
 countLimit = 65535
 
@@ -33,10 +34,6 @@ processLimit = 7
 
 abbrev pub roomLimit : ℕ
 roomLimit = 1024
-
--- A line's closing bracket and its end.
-unfoldable pub thenLast : List ℕ → Read → Read
-thenLast s r = limited s (thenEnd s (thenByte s 41 r))
 
 -- (watch k room)
 unfoldable pub watchOf : ℕ → Read → WatchLine
@@ -59,7 +56,8 @@ startLine s k =
     let labels = thenSpacedList s labelLimit (headRead s (ascii "(start")) in
     startOf (eight (labels .numbers)) (limited s (thenEnd s (thenClose s k k (labels .read))))
 
--- (did (p ..) (c ..) (l ..)): some processes, ascending; a count for each of k processes; a label byte for each of those that take part.
+-- (did (p ..) (c ..) (l ..)): some processes, ascending; a count for each of k processes; a label byte for each of
+-- those that take part.
 unfoldable pub didOf : ℕ → List ℕ → List ℕ → List ℕ → Read → DidLine
 didOf n processes counts labels (At i v) =
     Did (word 2 (placed n (at processes) (λ j. 1)))
@@ -84,7 +82,8 @@ ruleText s = take (length s - 7) (drop 6 s)
 
 -- Behind the rule's own faults: a last byte that is no closing bracket is 1.
 unfoldable pub ruleClosed : List ℕ → Reading → RuleLine
-ruleClosed s (formed i f) = cond (eqb (byteAt s (length s - 1)) 41) (Rule 6 (length s - 1)) (RuleRefused 1 (length s - 1))
+ruleClosed s (formed i f) =
+    cond (eqb (byteAt s (length s - 1)) 41) (Rule 6 (length s - 1)) (RuleRefused 1 (length s - 1))
 ruleClosed s (refused n i) = RuleRefused n i
 
 unfoldable pub ruleOf : List ℕ → ℕ → Read → RuleLine
@@ -93,3 +92,8 @@ ruleOf s k (Refused n i) = RuleRefused n i
 
 unfoldable pub ruleLine : List ℕ → ℕ → RuleLine
 ruleLine s k = ruleOf s k (limited s (headRead s (ascii "(rule ")))
+
+-- The rule stands within a line of so many bytes.
+abbrev pub RuleWithin : ℕ → RuleLine → Type 0
+RuleWithin n (Rule start end) = (start ≤ end) × (end ≤ n)
+RuleWithin n (RuleRefused m i) = Unit {0}

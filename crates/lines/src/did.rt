@@ -1,20 +1,18 @@
 // An event's line.
 
 use crate::DidLine;
-use crate::Read;
 use crate::limits::COUNT_LIMIT;
 use crate::limits::LABEL_LIMIT;
 use crate::limits::PROCESS_LIMIT;
-use crate::list::then_close;
-use crate::list::then_list;
-use crate::reading::head;
-use crate::reading::then_bytes;
-use crate::reading::then_last;
-use crate::reading::value_of;
-use crate::words::bits_word;
-use crate::words::counts_word;
-use crate::words::labels_word;
 use crate::words::place;
+use crate::words::word_of;
+use line_pieces::Read;
+use line_pieces::list::then_close;
+use line_pieces::list::then_list;
+use line_pieces::reading::head;
+use line_pieces::reading::then_bytes;
+use line_pieces::reading::then_last;
+use line_pieces::reading::value_of;
 ghost use Prim.Native.Nat.{_≤_};
 ghost use mathlib.Core.Path.{_≡_};
 ghost use Rattle.lines.specs.Lines.{didOf, didLine};
@@ -26,10 +24,10 @@ fn did_of(n: u64, processes: [u64; 8], counts: [u64; 8], labels: [u64; 8], whole
 {
     match whole {
         Read::At { place: _, value: _ } => DidLine::Did {
-            mask: bits_word(place(n, processes, [1u64; 8])),
-            low: counts_word(counts[0], counts[1], counts[2], counts[3]),
-            high: counts_word(counts[4], counts[5], counts[6], counts[7]),
-            labels: labels_word(place(n, processes, labels)),
+            mask: word_of(2, place(n, processes, [1u64; 8]), 0, 8),
+            low: word_of(65536, counts, 0, 4),
+            high: word_of(65536, counts, 4, 8),
+            labels: word_of(256, place(n, processes, labels), 0, 8),
         },
         Read::Refused { number, place } => DidLine::Refused { number, place },
     }

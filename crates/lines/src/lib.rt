@@ -2,12 +2,6 @@
 
 // The limits on numbers.
 mod limits;
-// Numbers, from their digits.
-mod number;
-// A line's pieces, from left to right.
-mod reading;
-// Lists of numbers.
-mod list;
 // Numbers in words.
 mod words;
 // The line that opens: processes and room.
@@ -19,25 +13,14 @@ pub mod start;
 // An event's line.
 pub mod did;
 
-// Where a reading stands, with the number read last; or the first fault met (01, Turned back, from the input: 1 and 10).
-pub enum Read {
-    At { place: usize, value: u64 },
-    Refused { number: u8, place: usize },
-}
-
-// A list read: its first eight numbers, and how many they are in all.
-pub struct Numbers {
-    pub values: [u64; 8],
-    pub read: Read,
-}
-
 // The line that opens: the number of processes and the room in frontiers.
 pub enum WatchLine {
     Watch { k: u64, room: u64 },
     Refused { number: u8, place: usize },
 }
 
-// The rule's line: the rule is the bytes from `start` to before `end`. A fault of the rule itself has its place counted from `start`.
+// The rule's line: the rule is the bytes from `start` to before `end`. A fault of the rule itself has its place
+// counted from `start`.
 pub enum RuleLine {
     Rule { start: usize, end: usize },
     Refused { number: u8, place: usize },
@@ -49,7 +32,8 @@ pub enum StartLine {
     Refused { number: u8, place: usize },
 }
 
-// An event's line: a bit for each process that takes part, a clock in two words of four counts, and labels as the bytes of a word.
+// An event's line: a bit for each process that takes part, a clock in two words of four counts, and labels as the
+// bytes of a word.
 pub enum DidLine {
     Did {
         mask: u64,

@@ -1,17 +1,16 @@
 // The rule's line.
 
-use crate::Read;
 use crate::RuleLine;
-use crate::number::byte_at;
-use crate::reading::head;
-use crate::reading::limited;
+use line_pieces::Read;
+use line_pieces::number::byte_at;
+use line_pieces::reading::head;
+use line_pieces::reading::limited;
 use rules::RuleRead;
 ghost use mathlib.Core.Path.{_≡_};
 ghost use lib.ListN.{length};
 ghost use Rattle.rules.specs.RuleTable.{answerOf};
 ghost use Rattle.rules.specs.Reader.{readRule};
-ghost use Rattle.lines.specs.Lines.{ruleText, ruleClosed, ruleLine};
-ghost use Rattle.lines.specs.RuleLaws.{RuleWithin};
+ghost use Rattle.lines.specs.Lines.{ruleText, ruleClosed, ruleLine, RuleWithin};
 
 // The rule read: what stands between its place and the line's last byte.
 fn read_text(line: &[u8], k: u32) -> RuleRead

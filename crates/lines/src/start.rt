@@ -1,14 +1,14 @@
 // The line with the start labels.
 
-use crate::Read;
 use crate::StartLine;
 use crate::limits::LABEL_LIMIT;
-use crate::list::then_close;
-use crate::list::then_spaced_list;
-use crate::reading::head;
-use crate::reading::limited;
-use crate::reading::then_end;
-use crate::words::labels_word;
+use crate::words::word_of;
+use line_pieces::Read;
+use line_pieces::list::then_close;
+use line_pieces::list::then_spaced_list;
+use line_pieces::reading::head;
+use line_pieces::reading::limited;
+use line_pieces::reading::then_end;
 ghost use mathlib.Core.Path.{_≡_};
 ghost use Rattle.lines.specs.Lines.{startOf, startLine};
 
@@ -18,7 +18,7 @@ fn start_of(labels: [u64; 8], whole: Read) -> StartLine
 {
     match whole {
         Read::At { place: _, value: _ } => StartLine::Start {
-            labels: labels_word(labels),
+            labels: word_of(256, labels, 0, 8),
         },
         Read::Refused { number, place } => StartLine::Refused { number, place },
     }

@@ -1,14 +1,14 @@
 // The line that opens: processes and room.
 
-use crate::Read;
 use crate::WatchLine;
 use crate::limits::COUNT_LIMIT;
 use crate::limits::ROOM_LIMIT;
-use crate::reading::head;
-use crate::reading::then_byte;
-use crate::reading::then_last;
-use crate::reading::then_number;
-use crate::reading::value_of;
+use line_pieces::Read;
+use line_pieces::reading::head;
+use line_pieces::reading::then_byte;
+use line_pieces::reading::then_last;
+use line_pieces::reading::then_number;
+use line_pieces::reading::value_of;
 ghost use mathlib.Core.Path.{_≡_};
 ghost use Rattle.lines.specs.Lines.{watchOf, watchLine};
 

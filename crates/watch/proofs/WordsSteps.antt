@@ -7,7 +7,7 @@ use lib.Dec.{lit<}
 use lib.ListN.{length}
 use lib.Pow.{pow-pos}
 use Rattle.clocks.specs.Counts.{at, listOf}
-use Rattle.watch.specs.Words.{part, unpackCounts, unpackLabels}
+use Rattle.call_words.specs.Words.{part, unpackCounts, unpackLabels}
 
 part-lt : (bits word i : ℕ) → part bits word i < 2 ^ bits
 unfolding part

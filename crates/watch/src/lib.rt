@@ -4,7 +4,7 @@
 pub mod words;
 
 ghost use mathlib.Core.Path.{_≡_};
-ghost use Rattle.watch.specs.Words.{unpackCounts, unpackLabels};
+ghost use Rattle.call_words.specs.Words.{unpackCounts, unpackLabels};
 ghost use Rattle.call_open.specs.Open.{openCall};
 ghost use Rattle.call_offer.specs.Offer.{offerCall};
 ghost use Rattle.call_take.specs.Take.{takeCall};

@@ -2,7 +2,7 @@
 
 ghost use Prim.Native.Nat.{_<_};
 ghost use mathlib.Core.Path.{_≡_};
-ghost use Rattle.watch.specs.Words.{part, unpackCounts, unpackLabels};
+ghost use Rattle.call_words.specs.Words.{part, unpackCounts, unpackLabels};
 
 // The count in part i of a word: sixteen bits.
 fn count_in(word: u64, i: u32) -> u32

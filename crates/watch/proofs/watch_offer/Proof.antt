@@ -9,7 +9,7 @@ use Rattle.watch.proofs.watch_offer.Statement.{statement}
 use Rattle.watch.proofs.WordsSteps.{counts-fit}
 use Rattle.answers.specs.Answer.{replyWord}
 use Rattle.call_offer.specs.Offer.{Offered, offerCall}
-use Rattle.watch.specs.Words.{unpackCounts, unpackLabels}
+use Rattle.call_words.specs.Words.{unpackCounts, unpackLabels}
 
 unpack-counts-requires : tie.Need-unpack-counts-requires
 unpack-counts-requires c κs = search needs

@@ -8,7 +8,7 @@ use denote.Ref.{now}
 use Rattle.watch.proofs.watch_open.Statement.{statement}
 use Rattle.call_open.specs.Open.{Opened, openCall}
 use Rattle.answers.specs.Answer.{replyWord}
-use Rattle.watch.specs.Words.{unpackLabels}
+use Rattle.call_words.specs.Words.{unpackLabels}
 
 unpack-labels-requires : tie.Need-unpack-labels-requires
 unpack-labels-requires c κs = search needs

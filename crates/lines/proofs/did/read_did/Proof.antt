@@ -1,5 +1,5 @@
 -- The parts are read one after the other, as the definition says; of each list eight numbers are kept.
-use Rattle.lines.specs.DidLaws.{did-made}
+use Rattle.lines.proofs.did.DidSteps.{did-made}
 use borrow.Author.Needs.{needs}
 use Rattle.lines.proofs.did.read_did.Statement.{statement}
 use Rattle.lines.proofs.did.read_did.Tie as tie
@@ -47,13 +47,20 @@ then-last-requires : tie.Need-then-last-requires
 then-last-requires c κs = search needs
 
 did-of-requires : tie.Need-did-of-requires
-did-of-requires c κs = rw (c .before .before .before .before .before .before .before .before .before .before .before .before .value-of .ensures) (c .before .before .before .before .before .before .before .before .before .before .before .before .before .then-close .ensures .1)
+did-of-requires c κs =
+    rw (c .before .before .before .before .before .before .before .before .before .before .before .before .value-of .ensures) (c .before .before .before .before .before .before .before .before .before .before .before .before .before .then-close .ensures .1)
 
 returns : tie.Need-returns
 returns c = let a = c .before .before .before .before .before .before .before .before .before .before .before .before .before .before .before .before .before .before .before .args in
-    did-made (a .line .now) (a .k) _ (rw (c .before .before .before .before .before .before .before .before .before .before .before .before .before .value-of .ensures) (c .before .before .before .before .before .before .before .before .before .before .before .before .before .before .then-close .ensures .1)) (c .before .before .before .before .before .before .before .before .before .before .before .before .before .before .before .before .head .ensures) (c .before .before .before .before .before .before .before .before .before .before .before .before .before .before .before .then-list .ensures) (c .before .before .before .before .before .before .before .before .before .before .before .before .before .before .then-close .ensures .0) (c .before .before .before .before .before .before .before .before .before .before .before .before .before .value-of .ensures)
-    (c .before .before .before .before .before .before .before .before .before .before .before .then-bytes .ensures) (c .before .before .before .before .before .before .before .before .before .before .then-list2 .ensures) (c .before .before .before .before .before .before .before .before .before .then-close2 .ensures .0)
-    (c .before .before .before .before .before .before .before .then-bytes2 .ensures) (c .before .before .before .before .before .before .then-list3 .ensures) (c .before .before .before .before .before .then-close3 .ensures .0) (c .before .before .before .before .then-last .ensures) (c .did-of .ensures)
+    did-made (a .line .now) (a .k) _
+    (rw (c .before .before .before .before .before .before .before .before .before .before .before .before .before .value-of .ensures) (c .before .before .before .before .before .before .before .before .before .before .before .before .before .before .then-close .ensures .1)) (c .before .before .before .before .before .before .before .before .before .before .before .before .before .before .before .before .head .ensures) (c .before .before .before .before .before .before .before .before .before .before .before .before .before .before .before .then-list .ensures) (c .before .before .before .before .before .before .before .before .before .before .before .before .before .before .then-close .ensures .0) (c .before .before .before .before .before .before .before .before .before .before .before .before .before .value-of .ensures)
+    (c .before .before .before .before .before .before .before .before .before .before .before .then-bytes .ensures)
+    (c .before .before .before .before .before .before .before .before .before .before .then-list2 .ensures)
+    (c .before .before .before .before .before .before .before .before .before .then-close2 .ensures .0)
+    (c .before .before .before .before .before .before .before .then-bytes2 .ensures)
+    (c .before .before .before .before .before .before .then-list3 .ensures)
+    (c .before .before .before .before .before .then-close3 .ensures .0)
+    (c .before .before .before .before .then-last .ensures) (c .did-of .ensures)
 
 pub read-did-spec : {M : Type 1} → statement M
 read-did-spec =

@@ -3,7 +3,7 @@ use Prim.Native.Nat.{_-_}
 use native.Mathlib.Omega.{arith}
 use mathlib.Core.Path.{sym, _∙_}
 use borrow.Author.Tests.{eq-eqb, ne-eqb}
-use Rattle.lines.specs.RuleLaws.{closed-refused, closed-accepted, closed-short}
+use Rattle.lines.proofs.rule.RuleSteps.{closed-refused, closed-accepted, closed-short}
 use borrow.Author.Needs.{needs}
 use Rattle.lines.proofs.rule.closed.Statement.{statement}
 use Rattle.lines.proofs.rule.closed.Tie as tie
@@ -18,7 +18,11 @@ enum-told : tie.Need-enum-told
 enum-told c = search needs
 
 returns : tie.Need-returns
-returns c = (sym (closed-short (c .before .before .before .before .before .args .line .now) (c .before .before .before .before .before .args .k) (c .if1 .taken)), tt)
+returns c = (
+  sym (closed-short (c .before .before .before .before .before .args .line .now)
+      (c .before .before .before .before .before .args .k) (c .if1 .taken)),
+  tt,
+)
 
 sub-end : tie.Need-sub-end
 sub-end c = search needs
@@ -27,16 +31,26 @@ byte-at-requires : tie.Need-byte-at-requires
 byte-at-requires c κs = search needs
 
 returns-2 : tie.Need-returns-2
-returns-2 c = let a = c .before .before .before .before .before .before .before .args in
-    (sym (closed-accepted (a .line .now) (a .k) _ (sym (c .before .before .before .before .before .read-text .ensures) ∙ c .before .before .before .enum-told .given .1) ∙ rw (← c .before .byte-at .ensures, ne-eqb _ _ (c .if2 .taken))), tt)
+returns-2 c = let a = c .before .before .before .before .before .before .before .args in (
+  sym (closed-accepted (a .line .now) (a .k) _
+      (sym (c .before .before .before .before .before .read-text .ensures)
+      ∙ c .before .before .before .enum-told .given .1)
+      ∙ rw (← c .before .byte-at .ensures, ne-eqb _ _ (c .if2 .taken))),
+  tt,
+)
 
 returns-3 : tie.Need-returns-3
-returns-3 c = let a = c .before .before .before .before .before .args in
-    (sym (closed-refused (a .line .now) (a .k) _ _ (sym (c .before .before .before .read-text .ensures) ∙ c .before .read .given .1)), tt)
+returns-3 c = let a = c .before .before .before .before .before .args in (
+  sym (closed-refused (a .line .now) (a .k) _ _
+      (sym (c .before .before .before .read-text .ensures) ∙ c .before .read .given .1)),
+  tt,
+)
 
 returns-4 : tie.Need-returns-4
 returns-4 c = let a = c .before .before .before .before .before .before .before .args in (
-  sym (closed-accepted (a .line .now) (a .k) _ (sym (c .before .before .before .before .before .read-text .ensures) ∙ c .before .before .before .enum-told .given .1) ∙ rw (← c .before .byte-at .ensures, eq-eqb _ _ (c .if2 .left))),
+  sym (closed-accepted (a .line .now) (a .k) _
+      (sym (c .before .before .before .before .before .read-text .ensures)
+      ∙ c .before .before .before .enum-told .given .1) ∙ rw (← c .before .byte-at .ensures, eq-eqb _ _ (c .if2 .left))),
   (omega (arith, c .before .before .if1 .left), omega arith),
 )
 

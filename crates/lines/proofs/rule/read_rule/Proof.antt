@@ -24,11 +24,25 @@ enum-known-first c = search needs
 
 returns : tie.Need-returns
 unfolding ruleOf ruleLine
-returns c = (rw (← c .before .before .before .before .head .ensures, ← c .before .before .before .limited .ensures, c .before .enum-told .given .1) (c .closed .ensures .0), c .closed .ensures .1)
+returns c = (
+  rw (
+    ← c .before .before .before .before .head .ensures,
+    ← c .before .before .before .limited .ensures,
+    c .before .enum-told .given .1,
+  ) (c .closed .ensures .0),
+  c .closed .ensures .1,
+)
 
 returns-2 : tie.Need-returns-2
 unfolding ruleOf ruleLine
-returns-2 c = (rw (← c .before .before .before .before .head .ensures, ← c .before .before .before .limited .ensures, c .before .first .given .1), tt)
+returns-2 c = (
+  rw (
+    ← c .before .before .before .before .head .ensures,
+    ← c .before .before .before .limited .ensures,
+    c .before .first .given .1,
+  ),
+  tt,
+)
 
 pub read-rule-spec : {M : Type 1} → statement M
 read-rule-spec =

@@ -1,6 +1,6 @@
 -- The rule is empty in a line of six bytes or fewer, and else stands between the seventh byte and the last.
 use mathlib.Core.Path.{refl, _∙_}
-use Rattle.lines.specs.RuleLaws.{text-short, text-long, text-answer}
+use Rattle.lines.proofs.rule.RuleSteps.{text-short, text-long, text-answer}
 use borrow.Author.Needs.{needs}
 use Rattle.lines.proofs.rule.read_text.Statement.{statement}
 use Rattle.lines.proofs.rule.read_text.Tie as tie
@@ -16,7 +16,8 @@ read-rule-requires c κs = search needs
 
 returns : tie.Need-returns
 returns c = let a = c .before .before .before .before .before .before .args in
-    rw (text-short (a .line .now) (c .before .before .before .before .if1 .taken)) (c .before .read-rule .ensures .0 ∙ text-answer _ _ _ refl)
+    rw (text-short (a .line .now) (c .before .before .before .before .if1 .taken))
+    (c .before .read-rule .ensures .0 ∙ text-answer _ _ _ refl)
 
 sub-end : tie.Need-sub-end
 sub-end c = search needs
@@ -38,7 +39,8 @@ read-rule-requires-2 c κs = search needs
 
 returns-2 : tie.Need-returns-2
 returns-2 c = let a = c .before .before .before .before .before .before .args in
-    rw (text-long (a .line .now) _ (c .before .before .before .before .if1 .left) refl) (c .before .read-rule2 .ensures .0 ∙ text-answer _ _ _ refl)
+    rw (text-long (a .line .now) _ (c .before .before .before .before .if1 .left) refl)
+    (c .before .read-rule2 .ensures .0 ∙ text-answer _ _ _ refl)
 
 pub read-text-spec : {M : Type 1} → statement M
 read-text-spec =

@@ -1,5 +1,5 @@
 -- The parts are read one after the other, as the definition says.
-use Rattle.lines.specs.StartLaws.{start-made}
+use Rattle.lines.proofs.start.StartSteps.{start-made}
 use borrow.Author.Needs.{needs}
 use Rattle.lines.proofs.start.read_start.Statement.{statement}
 use Rattle.lines.proofs.start.read_start.Tie as tie
@@ -26,7 +26,11 @@ start-of-requires : tie.Need-start-of-requires
 start-of-requires c κs = search needs
 
 returns : tie.Need-returns
-returns c = start-made (c .before .before .before .before .before .before .before .before .before .args .line .now) (c .before .before .before .before .before .before .before .before .before .args .k) (c .before .before .before .before .before .before .head .ensures) (c .before .before .before .before .before .then-spaced-list .ensures) (c .before .before .before .before .then-close .ensures .0)
+returns c = start-made (c .before .before .before .before .before .before .before .before .before .args .line .now)
+    (c .before .before .before .before .before .before .before .before .before .args .k)
+    (c .before .before .before .before .before .before .head .ensures)
+    (c .before .before .before .before .before .then-spaced-list .ensures)
+    (c .before .before .before .before .then-close .ensures .0)
     (c .before .before .before .then-end .ensures) (c .before .before .limited .ensures) (c .start-of .ensures)
 
 pub read-start-spec : {M : Type 1} → statement M

@@ -4,7 +4,7 @@ use native.Mathlib.Omega.{arith}
 use mathlib.Core.Path.{_≡_, refl}
 use Rattle.clocks.specs.Counts.{at}
 use Rattle.lines.specs.Words.{placed}
-use Rattle.lines.specs.WordLaws.{placed-next}
+use Rattle.lines.proofs.words.WordSteps.{placed-next}
 use borrow.Author.Needs.{needs}
 use Rattle.lines.proofs.words.place.Statement.{statement}
 use Rattle.lines.proofs.words.place.Tie as tie

@@ -3,7 +3,7 @@ use Rattle.watch.proofs.words.label_in.Tie as tie
 use mathlib.Core.Path.{refl}
 use borrow.Author.Needs.{needs}
 use Rattle.watch.proofs.words.label_in.Statement.{statement}
-use Rattle.watch.specs.Words.{part}
+use Rattle.call_words.specs.Words.{part}
 
 mul-result : tie.Need-mul-result
 mul-result c = search needs

@@ -3,7 +3,7 @@ use Rattle.watch.proofs.words.unpack_counts.Tie as tie
 use borrow.Author.Needs.{needs}
 use Rattle.clocks.specs.Counts.{listOf}
 use Rattle.watch.proofs.words.unpack_counts.Statement.{statement}
-use Rattle.watch.specs.Words.{unpackCounts}
+use Rattle.call_words.specs.Words.{unpackCounts}
 
 count-in-requires : tie.Need-count-in-requires
 count-in-requires c κs = search needs

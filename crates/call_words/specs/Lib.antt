@@ -1,0 +1,4 @@
+-- The words that C hands over.
+
+-- What a reader has to believe
+pub mod Words

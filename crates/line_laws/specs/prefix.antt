@@ -1,0 +1,3 @@
+-- A long line's answer is that of its first bytes.
+pub mod PrefixDecides
+pub mod LinePrefixDecides

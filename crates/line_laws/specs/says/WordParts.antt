@@ -1,0 +1,71 @@
+-- The parts of a word are the numbers that it is made of.
+use Prim.Native.Nat.{ℕ, zero, suc, _+_, _*_, _/_, _%_, _^_, _<_}
+use native.Mathlib.Nat.{div-one, zero-div, mod-mod, mod-eq-of-lt, div-div-eq-div-mul, pow-succ', mod-lt, add-mul-mod-self-left, add-mul-div-left, div-eq-of-lt, zero-add, mul-zero, mul-suc, mul-comm, pow-zero}
+use native.Mathlib.Omega.{arith}
+use mathlib.Core.Path.{_≡_, refl, sym, ap, _∙_}
+use mathlib.Core.List.{List, [], _∷_}
+use lib.Dec.{eqb, lit<}
+use lib.ListN.{take, drop}
+use lib.Pow.{pow-add}
+use Rattle.codec.specs.Bit.{bit}
+use Rattle.clocks.specs.Counts.{at, listOf}
+use Rattle.clocks.specs.stored.CountsLaws.{listOf-same}
+use Rattle.call_words.specs.Words.{part, unpackCounts, unpackLabels}
+use Rattle.line_pieces.specs.NumberList.{eight}
+use Rattle.lines.specs.Words.{word}
+
+-- Part i of a word is number i, below the base.
+word-part : (base : ℕ) → 0 < base → (vs : List ℕ) (i : ℕ) → word base vs / base ^ i % base ≡ at vs i % base
+unfolding word
+word-part base h [] i = rw (zero-div (base ^ i))
+word-part base h (v ∷ vs) zero =
+    rw (pow-zero base) (ap (λ (x : ℕ). x % base) (div-one (v % base + base * word base vs))
+    ∙ add-mul-mod-self-left (v % base) base (word base vs) ∙ mod-mod v base)
+word-part base h (v ∷ vs) (suc i) =
+    let low : (v % base + base * word base vs) / base ≡ word base vs =
+    add-mul-div-left (v % base) (word base vs) h ∙ rw (div-eq-of-lt (mod-lt v h)) (zero-add (word base vs))
+    in
+    rw (pow-succ', ← div-div-eq-div-mul (v % base + base * word base vs) base (base ^ i), low) (word-part base h vs i)
+
+-- ---- Bits
+
+pub word-bit : (vs : List ℕ) (p : ℕ) → bit (word 2 vs) p ≡ eqb (at vs p % 2) 1
+unfolding bit
+word-bit vs p = rw (word-part 2 (lit< tt) vs p)
+
+-- ---- Words of counts and of labels
+
+-- Two to the power of a product.
+two-to : (bits i : ℕ) → 2 ^ (bits * i) ≡ (2 ^ bits) ^ i
+two-to bits zero = rw (mul-zero bits, pow-zero (2 ^ bits))
+two-to bits (suc i) =
+    rw (mul-suc bits i, pow-add 2 (bits * i) bits, two-to bits i)
+    (mul-comm ((2 ^ bits) ^ i) (2 ^ bits) ∙ sym (pow-succ' (2 ^ bits) i))
+
+part-is : (bits base : ℕ) → 2 ^ bits ≡ base → (vs : List ℕ) (i : ℕ) → at vs i < base
+    → part bits (word base vs) i ≡ at vs i
+unfolding part
+part-is bits base e vs i h = rw (two-to bits i, e) (word-part base (omega (arith, h)) vs i ∙ mod-eq-of-lt h)
+
+pub labels-unpacked : (vs : List ℕ) → ((p : ℕ) → at vs p < 256) → unpackLabels (word 256 vs) ≡ eight vs
+unfolding unpackLabels
+labels-unpacked vs h = listOf-same 8 (part 8 (word 256 vs)) (at vs) (λ p _. part-is 8 256 refl vs p (h p))
+
+pub counts-unpacked : (cs : List ℕ) → ((p : ℕ) → at cs p < 65536)
+    → unpackCounts (word 65536 (take 4 (eight cs))) (word 65536 (drop 4 (eight cs))) ≡ eight cs
+unfolding unpackCounts listOf
+counts-unpacked cs h =
+    let low : List ℕ = at cs 0 ∷ at cs 1 ∷ at cs 2 ∷ at cs 3 ∷ [] in
+    let high : List ℕ = at cs 4 ∷ at cs 5 ∷ at cs 6 ∷ at cs 7 ∷ [] in
+    let is : (vs : List ℕ) (i : ℕ) → at vs i < 65536 → part 16 (word 65536 vs) i ≡ at vs i = part-is 16 65536 refl in
+    rw (
+      is low 0 (h 0),
+      is low 1 (h 1),
+      is low 2 (h 2),
+      is low 3 (h 3),
+      is high 0 (h 4),
+      is high 1 (h 5),
+      is high 2
+          (h 6),
+      is high 3 (h 7),
+    )

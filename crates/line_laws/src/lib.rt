@@ -1,0 +1,1 @@
+// What is proved of the program's lines: no code, all of it stands in specs/.

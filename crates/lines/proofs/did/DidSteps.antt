@@ -1,0 +1,93 @@
+-- An event's line from the eight numbers that the code keeps of each list.
+use Prim.Native.Nat.{ℕ, _-_, _≤_, _<_}
+use native.Mathlib.Omega.{arith}
+use mathlib.Core.Path.{_≡_, refl, sym, _∙_}
+use mathlib.Core.Bool.{true, false}
+use mathlib.Core.List.{List}
+use lib.ListN.{length, length-drop, replicate, getD-replicate, take, drop}
+use lib.Seq.{take-all}
+use Rattle.clocks.specs.Counts.{at}
+use Rattle.clocks.specs.stored.CountsLaws.{length-listOf, listOf-at, at-listOf}
+use Rattle.rules.specs.Text.{ascii}
+use Rattle.line_pieces.specs.declared.Read.{Read}
+use Rattle.line_pieces.specs.declared.Read.the-variants.{At, Refused}
+use Rattle.lines.specs.declared.DidLine.{DidLine}
+use Rattle.lines.specs.declared.DidLine.the-variants.{Did}
+use Rattle.line_pieces.specs.declared.Numbers.{Numbers}
+use Rattle.line_pieces.specs.Reading.{valueOf, thenBytes, headRead, thenLast}
+use Rattle.line_pieces.specs.NumberList.{thenList, thenClose, eight, kept}
+use Rattle.lines.specs.Words.{word, placed}
+use Rattle.lines.proofs.words.WordSteps.{placed-same, length-placed}
+use Rattle.lines.specs.Lines.{countLimit, labelLimit, processLimit, didOf, didLine}
+
+-- Of each list the first eight numbers are enough.
+pub did-eight : (n : ℕ) (processes counts labels : List ℕ) (whole : Read) → n ≤ 8
+    → didOf n (eight processes) (eight counts) (eight labels) whole ≡ didOf n processes counts labels whole
+unfolding didOf
+did-eight n processes counts labels (At i v) h =
+    let same : (l : List ℕ) (j : ℕ) → j < n → at (eight l) j ≡ at l j = λ l j p. at-listOf 8 (at l) j (omega arith) in
+    rw (
+      listOf-at 8 (eight counts) (length-listOf 8 (at counts)),
+      placed-same n (at (eight processes)) (at processes) (λ j. 1) (λ j. 1) (same processes) (λ j p. refl),
+      placed-same n (at (eight processes)) (at processes) (at (eight labels)) (at labels) (same processes)
+          (same labels),
+    )
+did-eight n processes counts labels (Refused m i) h = refl
+
+-- All of eight numbers.
+all-eight : (l : List ℕ) → length l ≡ 8 → take (8 - 0) (drop 0 l) ≡ l
+all-eight l h = take-all 8 l (omega (arith, h))
+
+-- The words as the code makes them, each of what is made before.
+pub words-made : (n : ℕ) (processes counts labels marks placed′ : List ℕ) (i v mask low high word′ : ℕ) → n ≤ 8
+    → length counts ≡ 8
+    → marks ≡ placed n (at processes) (at (replicate 8 1)) → mask ≡ word 2 (take (8 - 0) (drop 0 marks))
+    → low ≡ word 65536 (take (4 - 0) (drop 0 counts)) → high ≡ word 65536 (take (8 - 4) (drop 4 counts))
+    → placed′ ≡ placed n (at processes) (at labels) → word′ ≡ word 256 (take (8 - 0) (drop 0 placed′))
+    → Did mask low high word′ ≡ didOf n processes counts labels (At i v)
+unfolding didOf
+words-made n processes counts labels marks placed′ i v mask low high word′ h l m e lo hi p w =
+    let ones : placed n (at processes) (λ j. 1) ≡ placed n (at processes) (at (replicate 8 1)) =
+    placed-same n (at processes) (at processes) (λ j. 1) (at (replicate 8 1)) (λ j p. refl)
+    (λ j p. sym (getD-replicate 8 j 1 0 (omega arith)))
+    in
+    let short : take 4 (drop 4 counts) ≡ drop 4 counts =
+    take-all 4 (drop 4 counts) (omega (arith, length-drop 4 counts, l)) in
+    rw (
+      ones,
+      listOf-at 8 counts l,
+      e,
+      lo,
+      hi,
+      short,
+      w,
+      m,
+      p,
+      all-eight
+          (placed n (at processes) (at (replicate 8 1))) (length-placed n (at processes) (at (replicate 8 1))),
+      all-eight
+          (placed n (at processes) (at labels)) (length-placed n (at processes) (at labels)),
+    )
+
+-- The line, from the parts that the code reads.
+pub did-made : (s : List ℕ) (k n : ℕ) {head first firstBytes second secondBytes third whole : Read}
+    {processes counts labels : Numbers}
+    {answer : DidLine} → n ≤ 8
+    → head ≡ headRead s (ascii "(did (") → processes ≡ kept (thenList s true processLimit head)
+    → first ≡ thenClose s 1 8 (processes .read) → n ≡ valueOf first
+    → firstBytes ≡ thenBytes s (ascii " (") first → counts ≡ kept (thenList s false countLimit firstBytes)
+    → second ≡ thenClose s k k (counts .read)
+    → secondBytes ≡ thenBytes s (ascii " (") second → labels ≡ kept (thenList s false labelLimit secondBytes)
+    → third ≡ thenClose s n n (labels .read) → whole ≡ thenLast s third
+    → answer ≡ didOf n (processes .values) (counts .values) (labels .values) whole → answer ≡ didLine s k
+unfolding kept didLine
+did-made s k n {head} {first} {firstBytes} {second} {secondBytes} {third} {whole} {processes} {counts} {labels}
+    {answer} few h p f e fb c d sb l t w a =
+    let ps = thenList s true processLimit head in
+    let cs = thenList s false countLimit firstBytes in
+    let ls = thenList s false labelLimit secondBytes in
+    let kept-all : didOf n (processes .values) (counts .values) (labels .values) whole
+    ≡ didOf n (ps .numbers) (cs .numbers) (ls .numbers) whole =
+    rw (p, c, l) (did-eight n (ps .numbers) (cs .numbers) (ls .numbers) whole few)
+    in
+    a ∙ kept-all ∙ rw (w, t, l, sb, d, c, fb, e, f, p, h)

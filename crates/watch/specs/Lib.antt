@@ -1,4 +1,0 @@
--- The C border.
-
--- What a reader has to believe
-pub mod Words
