@@ -9,11 +9,11 @@ use lib.ListN.{length, take, drop, length-drop}
 use lib.Seq.{length-take-le}
 use Rattle.rules.specs.Text.{ascii, byteAt}
 use Rattle.rules.specs.Reader.{Reading, formed, refused, readRule}
-use Rattle.lines.specs.declared.Read.{Read}
-use Rattle.lines.specs.declared.Read.the-variants.{At, Refused}
+use Rattle.line_pieces.specs.declared.Read.{Read}
+use Rattle.line_pieces.specs.declared.Read.the-variants.{At, Refused}
 use Rattle.lines.specs.declared.RuleLine.{RuleLine}
 use Rattle.lines.specs.declared.RuleLine.the-variants.{Rule, Refused as RuleRefused}
-use Rattle.lines.specs.Reading.{limited, headRead}
+use Rattle.line_pieces.specs.Reading.{limited, headRead}
 use Rattle.lines.specs.Lines.{ruleText, ruleClosed, ruleOf, ruleLine}
 
 -- The part of a line that is the rule's fits where the line does.

@@ -6,12 +6,12 @@ use lib.Dec.{T, ltb, leb, eqb, leb→le}
 use lib.ListN.{length, drop}
 use Rattle.clocks.specs.stored.BoundedLaws.{and-r}
 use Rattle.rules.specs.Text.{ascii, byteAt}
-use Rattle.lines.specs.declared.Read.{Read}
-use Rattle.lines.specs.declared.Read.the-variants.{At, Refused}
+use Rattle.line_pieces.specs.declared.Read.{Read}
+use Rattle.line_pieces.specs.declared.Read.the-variants.{At, Refused}
 use Rattle.lines.specs.declared.WatchLine.{WatchLine}
 use Rattle.lines.specs.declared.WatchLine.the-variants.{Watch, Refused as WatchRefused}
-use Rattle.lines.specs.Number.{digits, value, numberOf, numberAt}
-use Rattle.lines.specs.Reading.{lineLimit, thenByte, thenNumber, thenEnd, limited, headRead, valueOf}
+use Rattle.line_pieces.specs.Number.{digits, value, numberOf, numberAt}
+use Rattle.line_pieces.specs.Reading.{lineLimit, thenByte, thenNumber, thenEnd, limited, headRead, valueOf}
 use Rattle.lines.specs.Lines.{thenLast, watchOf, watchLine, countLimit, roomLimit}
 
 -- A reading's number is at most so much.

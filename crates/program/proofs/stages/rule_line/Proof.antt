@@ -4,7 +4,7 @@ use mathlib.Core.Path.{_∙_}
 use lib.ListN.{length}
 use Rattle.program.proofs.StageSteps.{rule-refused, rule-stands}
 use Rattle.program.proofs.KeptRule.{part-fits, Lies, rule-lies}
-use Rattle.lines.specs.RuleLaws.{RuleWithin}
+use Rattle.lines.specs.Lines.{RuleWithin}
 use mathlib.Core.Path.{subst}
 use borrow.Author.Needs.{needs}
 use Rattle.program.proofs.stages.rule_line.Statement.{statement}
