@@ -6,10 +6,10 @@ use mathlib.Core.Bool.{Bool, cond}
 use mathlib.Core.List.{List, [], _∷_, _++_}
 use lib.ListN.{length, drop}
 use Rattle.rules.specs.Text.{byteAt}
-use Rattle.rules.specs.reading.WordLaws.{Span}
 use Rattle.line_pieces.specs.Number.{digits, value}
 use Rattle.line_pieces.specs.Reading.{lineLimit}
 use Rattle.line_laws.specs.Grammar.{Numeral, Numerals, spaced, between, Piece, one, number, list, spacedList, PieceText, Fault1}
+use Rattle.rules.specs.Fault.{Span}
 
 -- The digits at a place are a number's text, and the number is below `least` or above `most`.
 unfoldable pub NumberOut : List ℕ → ℕ → ℕ → ℕ → Type 0

@@ -27,14 +27,14 @@ StartFindsFirstFault = (s : List ℕ) (k n i : ℕ) → (startLine s k ≡ Start
 
 abbrev pub StartAcceptsFaultless : Type 0
 StartAcceptsFaultless =
-    (s : List ℕ) (k : ℕ) → ((labels : ℕ) × (startLine s k ≡ Start labels))
-    ↔ ((n i : ℕ) → Fault n (startPieces k) s i → ⊥)
+    (s : List ℕ) (k : ℕ)
+    → ((labels : ℕ) × (startLine s k ≡ Start labels)) ↔ ((n i : ℕ) → Fault n (startPieces k) s i → ⊥)
 
 -- An event's line, by the number m of processes that its text names; there is one for each line (names-some in
 -- NamedProcesses).
 abbrev pub DidFindsFirstFault : Type 0
-DidFindsFirstFault = (s : List ℕ) (k m n i : ℕ) → Names s m → (didLine s k ≡ DidRefused n i)
-    ↔ FirstFault n (didPieces k m) s i
+DidFindsFirstFault =
+    (s : List ℕ) (k m n i : ℕ) → Names s m → (didLine s k ≡ DidRefused n i) ↔ FirstFault n (didPieces k m) s i
 
 abbrev pub DidAcceptsFaultless : Type 0
 DidAcceptsFaultless =
@@ -52,5 +52,5 @@ RuleLineFindsFirstFault = (s : List ℕ) (k n i : ℕ) → (ruleLine s k ≡ Rul
 
 abbrev pub RuleLineAcceptsFaultless : Type 0
 RuleLineAcceptsFaultless =
-    (s : List ℕ) (k : ℕ) → ((start : ℕ) × (end : ℕ) × (ruleLine s k ≡ Rule start end))
-    ↔ ((turn n i : ℕ) → RuleFault turn n s k i → ⊥)
+    (s : List ℕ) (k : ℕ)
+    → ((start : ℕ) × (end : ℕ) × (ruleLine s k ≡ Rule start end)) ↔ ((turn n i : ℕ) → RuleFault turn n s k i → ⊥)

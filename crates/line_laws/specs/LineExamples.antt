@@ -52,39 +52,39 @@ example-taken = (refl, refl, refl, refl, refl, refl, refl)
 
 -- 1: another byte, or the end too early; a needless leading 0.
 example-1 : map watches
-    (ascii "" ∷ ascii "(did" ∷ ascii "(wat" ∷ ascii "(watch 2)" ∷ ascii "(watch 2 4 4)" ∷ ascii "(watch 2 4" ∷ ascii
-    "(watch 2 4) "
+    (ascii "" ∷ ascii "(did" ∷ ascii "(wat" ∷ ascii "(watch 2)" ∷ ascii "(watch 2 4 4)" ∷ ascii "(watch 2 4"
+    ∷ ascii "(watch 2 4) "
     ∷ ascii "(watch 02 4)" ∷ ascii "(watch 2 00)" ∷ ascii "(watch  2 4)" ∷ [])
-    ≡ (WatchRefused 1 0 ∷ WatchRefused 1 1 ∷ WatchRefused 1 4 ∷ WatchRefused 1 8 ∷ WatchRefused 1 10 ∷ WatchRefused 1
-    10 ∷ WatchRefused 1 11
+    ≡ (WatchRefused 1 0 ∷ WatchRefused 1 1 ∷ WatchRefused 1 4 ∷ WatchRefused 1 8 ∷ WatchRefused 1 10
+    ∷ WatchRefused 1 10 ∷ WatchRefused 1 11
     ∷ WatchRefused 1 8 ∷ WatchRefused 1 10 ∷ WatchRefused 1 7 ∷ [])
 unfolding watches
 example-1 = refl
 
 -- 10: a number beyond its limits, judged where it has ended.
 example-10 : map watches
-    (ascii "(watch 2 0)" ∷ ascii "(watch 2 0" ∷ ascii "(watch 2 1025)" ∷ ascii "(watch 65536 0)" ∷ ascii
-    "(watch 340282366920938463463374607431768211458 4)" ∷ [])
+    (ascii "(watch 2 0)" ∷ ascii "(watch 2 0" ∷ ascii "(watch 2 1025)" ∷ ascii "(watch 65536 0)"
+    ∷ ascii "(watch 340282366920938463463374607431768211458 4)" ∷ [])
     ≡ (WatchRefused 10 9 ∷ WatchRefused 10 9 ∷ WatchRefused 10 9 ∷ WatchRefused 10 7 ∷ WatchRefused 10 7 ∷ [])
 unfolding watches
 example-10 = refl
 
 -- Lists of a wrong length, for two processes.
 example-start : map starts
-    (ascii "(start)" ∷ ascii "(start )" ∷ ascii "(start 0)" ∷ ascii "(start 0 0 0)" ∷ ascii "(start 0 256)" ∷ ascii
-    "(start 0 0" ∷ ascii "(start 0 0)x" ∷ [])
-    ≡ (StartRefused 10 6 ∷ StartRefused 1 7 ∷ StartRefused 10 8 ∷ StartRefused 10 12 ∷ StartRefused 10
-    9 ∷ StartRefused 1 10 ∷ StartRefused 1 11 ∷ [])
+    (ascii "(start)" ∷ ascii "(start )" ∷ ascii "(start 0)" ∷ ascii "(start 0 0 0)" ∷ ascii "(start 0 256)"
+    ∷ ascii "(start 0 0" ∷ ascii "(start 0 0)x" ∷ [])
+    ≡ (StartRefused 10 6 ∷ StartRefused 1 7 ∷ StartRefused 10 8 ∷ StartRefused 10 12
+    ∷ StartRefused 10 9 ∷ StartRefused 1 10 ∷ StartRefused 1 11 ∷ [])
 unfolding starts
 example-start = refl
 
 example-did : map dids
-    (ascii "(di" ∷ ascii "(did () (1 0) ())" ∷ ascii "(did (1 0x" ∷ ascii "(did (8) (1 0) (1))" ∷ ascii
-    "(did (0 0) (1 0) (1 1))" ∷ ascii "(did (0) () (1))"
-    ∷ ascii "(did (0) (1 0 0) (1))" ∷ ascii "(did (0) (1 0) (1 1))" ∷ ascii "(did (0) (1 65536) (1))" ∷ ascii
-    "(did (0) (1 0) (256))"
-    ∷ ascii "(did (0)(1 0) (1))" ∷ ascii "(did (0) (1 0) (1)" ∷ ascii "(did (0) (1 0) (1)))" ∷ ascii
-    "(did ( 0) (1 0) (1))" ∷ ascii "(did (0 ) (1 0) (1))" ∷ [])
+    (ascii "(di" ∷ ascii "(did () (1 0) ())" ∷ ascii "(did (1 0x" ∷ ascii "(did (8) (1 0) (1))"
+    ∷ ascii "(did (0 0) (1 0) (1 1))" ∷ ascii "(did (0) () (1))"
+    ∷ ascii "(did (0) (1 0 0) (1))" ∷ ascii "(did (0) (1 0) (1 1))" ∷ ascii "(did (0) (1 65536) (1))"
+    ∷ ascii "(did (0) (1 0) (256))"
+    ∷ ascii "(did (0)(1 0) (1))" ∷ ascii "(did (0) (1 0) (1)" ∷ ascii "(did (0) (1 0) (1)))"
+    ∷ ascii "(did ( 0) (1 0) (1))" ∷ ascii "(did (0 ) (1 0) (1))" ∷ [])
     ≡ (DidRefused 1 3 ∷ DidRefused 10 6 ∷ DidRefused 10 8 ∷ DidRefused 10 6 ∷ DidRefused 10 8 ∷ DidRefused 10 10
     ∷ DidRefused 10 15 ∷ DidRefused 10 19 ∷ DidRefused 10 12 ∷ DidRefused 10 16
     ∷ DidRefused 1 8 ∷ DidRefused 1 18 ∷ DidRefused 1 19 ∷ DidRefused 1 6 ∷ DidRefused 1 8 ∷ [])
@@ -93,11 +93,11 @@ example-did = refl
 
 -- A rule's line: its head, the rule's own faults counted from the rule's first byte, the last byte.
 example-rule : map rules
-    (ascii "(rule (at 0 0))" ∷ ascii "(rule (at 0 0)x" ∷ ascii "(rule " ∷ ascii "(rule" ∷ ascii "(rule)" ∷ ascii
-    "(rule )" ∷ ascii "(rule x"
+    (ascii "(rule (at 0 0))" ∷ ascii "(rule (at 0 0)x" ∷ ascii "(rule " ∷ ascii "(rule" ∷ ascii "(rule)"
+    ∷ ascii "(rule )" ∷ ascii "(rule x"
     ∷ ascii "(rule (at 0 0)" ∷ ascii "(rule (true)) " ∷ ascii "(rule (at 2 0))" ∷ [])
-    ≡ (Rule 6 14 ∷ RuleRefused 1 14 ∷ RuleRefused 1 0 ∷ RuleRefused 1 5 ∷ RuleRefused 1 5 ∷ RuleRefused 1
-    0 ∷ RuleRefused 1 0
+    ≡ (Rule 6 14 ∷ RuleRefused 1 14 ∷ RuleRefused 1 0 ∷ RuleRefused 1 5 ∷ RuleRefused 1 5
+    ∷ RuleRefused 1 0 ∷ RuleRefused 1 0
     ∷ RuleRefused 1 7 ∷ RuleRefused 1 6 ∷ RuleRefused 4 4 ∷ [])
 unfolding rules
 example-rule = refl

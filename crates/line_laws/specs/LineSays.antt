@@ -48,17 +48,20 @@ pub record StartSays (s : List ℕ) (k : ℕ) (ls : List ℕ) : Type 0 where
   pub many : length ls ≡ k
   pub short : length s ≤ lineLimit
 
--- (did (p ..) (c ..) (l ..)): the processes ps, ascending; a count for each of k processes; a label byte for each
--- process of ps.
+-- (did (p ..) (c ..) (l ..)), from the digits of its numbers.
+abbrev pub didText : List (List ℕ) → List (List ℕ) → List (List ℕ) → List ℕ
+didText processes counts labels =
+    ascii "(did (" ++ (between processes
+    ++ (ascii ") (" ++ (between counts
+    ++ (ascii ") (" ++ (between labels ++ ascii "))")))))
+
+-- Such a line: the processes ps, ascending; a count for each of k processes; a label byte for each process of ps.
 pub record DidSays (s : List ℕ) (k : ℕ) (ps cs ls : List ℕ) : Type 0 where
   pub process-digits : List (List ℕ)
   pub count-digits : List (List ℕ)
   pub label-digits : List (List ℕ)
   pub numerals : Numerals process-digits × (Numerals count-digits × Numerals label-digits)
-  pub text : s
-      ≡ ascii "(did (" ++ (between
-      process-digits ++ (ascii
-      ") (" ++ (between count-digits ++ (ascii ") (" ++ (between label-digits ++ ascii "))")))))
+  pub text : s ≡ didText process-digits count-digits label-digits
   pub values : (map value process-digits ≡ ps) × ((map value count-digits ≡ cs) × (map value label-digits ≡ ls))
   pub limits : InLimits true 0 processLimit ps × (InLimits false 0 countLimit cs × InLimits false 0 labelLimit ls)
   pub some : 1 ≤ length ps

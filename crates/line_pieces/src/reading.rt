@@ -5,7 +5,7 @@ use crate::number::byte_at;
 use crate::number::read_number;
 ghost use Prim.Native.Nat.{_≤_};
 ghost use mathlib.Core.Path.{_≡_};
-ghost use Rattle.line_pieces.specs.Reading.{valueOf, thenByte, thenBytes, headRead, thenNumber, thenEnd, thenLast};
+ghost use Rattle.line_pieces.specs.Reading.{valueOf, thenByte, thenBytes, headRead, thenNumber, thenEnd};
 ghost use Rattle.line_pieces.specs.Reading as readings;
 
 // The number read last.
@@ -111,7 +111,7 @@ pub fn limited(line: &[u8], r: Read) -> Read
 
 // A line's closing bracket and its end.
 pub fn then_last(line: &[u8], r: Read) -> Read
-    ensures { λ x. ⌜ x ≡ thenLast (now (line .entry)) r ⌝ }
+    ensures { λ x. ⌜ x ≡ readings.thenLast (now (line .entry)) r ⌝ }
 {
     limited(line, then_end(line, then_byte(line, b')', r)))
 }

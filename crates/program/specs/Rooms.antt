@@ -11,8 +11,8 @@ use Rattle.line_pieces.specs.declared.Read.the-variants.{At, Refused}
 use Rattle.lines.specs.declared.WatchLine.{WatchLine}
 use Rattle.lines.specs.declared.WatchLine.the-variants.{Watch, Refused as WatchRefused}
 use Rattle.line_pieces.specs.Number.{digits, value, numberOf, numberAt}
-use Rattle.line_pieces.specs.Reading.{lineLimit, thenByte, thenNumber, thenEnd, limited, headRead, valueOf}
-use Rattle.lines.specs.Lines.{thenLast, watchOf, watchLine, countLimit, roomLimit}
+use Rattle.line_pieces.specs.Reading.{lineLimit, thenByte, thenNumber, thenEnd, limited, headRead, valueOf, thenLast}
+use Rattle.lines.specs.Lines.{watchOf, watchLine, countLimit, roomLimit}
 
 -- A reading's number is at most so much.
 abbrev AtMost : ℕ → Read → Type 0

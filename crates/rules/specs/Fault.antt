@@ -104,3 +104,8 @@ ReaderAcceptsFaultless =
 -- A first fault stands below 1,024, however long the text is.
 abbrev pub FaultPlaceBelow1024 : Type 0
 FaultPlaceBelow1024 = (s : List ℕ) (k n i : ℕ) → readRule s k ≡ refused n i → i < 1024
+
+-- These bytes stand in a text from place i to before place j.
+pub record Span (s : List ℕ) (i : ℕ) (bs : List ℕ) (j : ℕ) : Type 0 where
+  pub stands : Stands s i bs
+  pub ends : j ≡ i + length bs

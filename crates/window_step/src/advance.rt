@@ -27,7 +27,8 @@ fn full_byte(t: bool) -> u8
     if t { 255 } else { 0 }
 }
 
-// Full bytes at the processes in a mask, empty ones at the others: a step makes them once, to choose by at each new frontier.
+// Full bytes at the processes in a mask, empty ones at the others: a step makes them once, to choose by at each new
+// frontier.
 pub fn full_bytes(mask: u8) -> [u8; 8]
     ensures { λ r. ⌜ r ≡ fullBytes mask ⌝ }
 {

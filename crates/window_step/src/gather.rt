@@ -10,7 +10,8 @@ ghost use Rattle.window.specs.Step.{Setting, gathered};
 ghost use Rattle.window.specs.Room.{RoomFor};
 ghost use Rattle.window_step.specs.Gathering.{soughtWith, gatheredOf};
 
-// Whether process p's last event may lead to a new frontier: it is not the event itself, and p is the first of its processes.
+// Whether process p's last event may lead to a new frontier: it is not the event itself, and p is the first of its
+// processes.
 fn is_sought(mask: u8, last: u8, p: u32) -> bool
     requires { ⌜ p < 8 ⌝ }
     ensures { λ r. ⌜ r ≡ soughtWith mask last p ⌝ }
@@ -25,8 +26,8 @@ fn is_sought(mask: u8, last: u8, p: u32) -> bool
     codec::lowest_bit(last) == p
 }
 
-// All of the k processes that are sought are considered, each looked up from its hint among the m frontiers laid down; the frontier that
-// g came from precedes it always.
+// All of the k processes that are sought are considered, each looked up from its hint among the m frontiers laid down;
+// the frontier that g came from precedes it always.
 pub fn gather(
     scratch: &[u8],
     w: usize,

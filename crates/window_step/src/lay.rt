@@ -28,7 +28,8 @@ pub fn lay_staying(window: &[u8], scratch: &mut [u8], w: usize, i: usize, m: usi
     frontiers::stored::lay_frontier(scratch, w, m, f);
 }
 
-// The event leads on from frontier j of the window: the new frontier is judged and laid down as number m. Gives where the next look-ups begin.
+// The event leads on from frontier j of the window: the new frontier is judged and laid down as number m. Gives where
+// the next look-ups begin.
 pub fn lay_fresh(
     window: &[u8],
     scratch: &mut [u8],

@@ -10,6 +10,7 @@ pub mod step;
 
 // What is fixed during a step: the width of a count, how many frontiers there are and how many are kept, the processes
 // and which of them are closed, the event, the taken counts with it, and the table's lines.
+// Its code goes by the marks: closed and reached only say what was marked.
 pub struct Stepping {
     pub w: usize,
     pub n: usize,

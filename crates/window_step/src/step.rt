@@ -24,7 +24,8 @@ fn left_over(w: usize, n: usize, m: usize) -> usize
     frontiers::place::frontier_place(w, n - m)
 }
 
-// The first m frontiers of the scratch take the place of the window's n; what is left of those and the scratch are cleared.
+// The first m frontiers of the scratch take the place of the window's n; what is left of those and the scratch are
+// cleared.
 pub fn copy_back(window: &mut [u8], scratch: &mut [u8], w: usize, n: usize, m: usize)
     requires { ⌜ Width w ⌝ }
     requires { ⌜ RoomFor w n (now window) ⌝ }

@@ -12,8 +12,7 @@ use lib.Seq.{getD-take, getD-append-add}
 use borrow.Author.Tests.{ltb-true, ltb-false, lt-ltb}
 use Rattle.clocks.specs.stored.BoundedLaws.{and-true}
 use Rattle.rules.specs.Text.{byteAt}
-use Rattle.rules.specs.Fault.{Stands}
-use Rattle.rules.specs.reading.WordLaws.{Span}
+use Rattle.rules.specs.Fault.{Stands, Span}
 use Rattle.rules.specs.grammar.FirstBytes.{Begun, begun-nil}
 use Rattle.line_pieces.specs.declared.Read.{Read}
 use Rattle.line_pieces.specs.declared.Read.the-variants.{At, Refused}

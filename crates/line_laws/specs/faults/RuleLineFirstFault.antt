@@ -144,13 +144,16 @@ module _ (s : List ℕ) (k : ℕ) where
         ltb-true lineLimit i (and-true (ltb lineLimit (length s)) (ltb lineLimit i) t .1),
         place,
       )))
-      (λ _. record { turn = 0; here = (number, record { within = omega (arith, place); before = rw place h; other = rw place (rw (zero-add j) at f) }); none-before = λ t m q y. absurd (omega arith) })
+      (λ _. record { turn = 0; here = (number, departs); none-before = λ t m q y. absurd (omega arith) })
     where
       number : n ≡ 1
       number = cc
 
       place : i ≡ j
       place = let z : i ≡ 0 + j = cc in omega arith
+
+      departs : Departs (ascii "(rule ") s i
+      departs = record { within = omega (arith, place); before = rw place h; other = rw place (rw (zero-add j) at f) }
 
   rule-answered : Answered s k (ruleLine s k)
   unfolding ruleLine

@@ -9,7 +9,7 @@ use lib.Dec.{leb, ltb, eqb}
 use lib.ListN.{length, length-append, drop}
 use borrow.Author.Tests.{eqb-true, eq-eqb, ltb-false, leb-false}
 use Rattle.rules.specs.Text.{byteAt}
-use Rattle.rules.specs.reading.WordLaws.{Span, span-nil, span-byte, span-append}
+use Rattle.rules.specs.reading.WordLaws.{span-nil, span-byte, span-append}
 use Rattle.line_pieces.specs.declared.Read.{Read}
 use Rattle.line_pieces.specs.declared.Read.the-variants.{At, Refused}
 use Rattle.line_pieces.specs.Number.{isDigit, digits, value, numberOf, numberAt}
@@ -21,6 +21,7 @@ use Rattle.line_laws.specs.pieces.NumberTextRead.{if-known}
 use Rattle.line_pieces.specs.Reading.{thenByte, thenNumber}
 use Rattle.line_pieces.specs.NumberList.{Listed, afterNumber, numbersAt, thenList, thenSpacedList, thenClose}
 use Rattle.line_laws.specs.pieces.PieceBegun.{digits-all}
+use Rattle.rules.specs.Fault.{Span}
 
 -- Two faults, or a fault and a place, are not the same.
 not-ten : (i j : ℕ) → Refused 1 i ≡ Refused 10 j → ⊥

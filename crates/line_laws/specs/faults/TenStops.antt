@@ -11,8 +11,8 @@ use lib.Dec.{leb}
 use lib.ListN.{length, length-append, drop}
 use borrow.Author.Tests.{eq-eqb, ne-eqb, lt-leb}
 use Rattle.rules.specs.Text.{byteAt}
-use Rattle.rules.specs.Fault.{Stands}
-use Rattle.rules.specs.reading.WordLaws.{Span, span-byte, span-append}
+use Rattle.rules.specs.Fault.{Stands, Span}
+use Rattle.rules.specs.reading.WordLaws.{span-byte, span-append}
 use Rattle.line_pieces.specs.declared.Read.{Read}
 use Rattle.line_pieces.specs.declared.Read.the-variants.{At, Refused}
 use Rattle.line_pieces.specs.Number.{isDigit, digits, value, numberOf, numberAt}

@@ -26,6 +26,9 @@ use Rattle.lines.specs.declared.StartLine.the-variants.{Refused as StartRefused
 use Rattle.lines.specs.declared.DidLine.the-variants.{Refused as DidRefused}
 use Rattle.lines.specs.declared.RuleLine.the-variants.{Refused as RuleRefused}
 
+front-of : (s : List ℕ) → enough ≤ length s → Front s (take enough s)
+front-of s h = record { long = h; size = length-take-le enough s h; bytes = λ i k. getD-take enough s i 256 k }
+
 -- A line over the limit is turned back.
 over-refused : (s : List ℕ) (r : Read) → lineLimit < length s → (n : ℕ) × (i : ℕ) × (limited s r ≡ Refused n i)
 unfolding limited
@@ -127,8 +130,7 @@ did-enough s k = go (leb (length s) enough) refl
     go false e =
         let long = leb-false (length s) enough e in
         let enough-long : enough ≤ length s = omega (arith, long) in
-        let f : Front s (take enough s) =
-        record { long = enough-long; size = length-take-le enough s enough-long; bytes = λ i h. getD-take enough s i 256 h } in
+        let f = front-of s enough-long in
         let w = over-refused s (lineRead s (didPieces k (named s))) (omega (arith, long)) in
         did-refuses k (take enough s) (w .0) (w .1) (sym (did-front s (take enough s) k f) ∙ w .2)
         ∙ sym (did-refuses k s (w .0) (w .1) (w .2))
@@ -155,8 +157,7 @@ rule-enough s k = go (leb (length s) enough) refl
     go false e =
         let long = leb-false (length s) enough e in
         let enough-long : enough ≤ length s = omega (arith, long) in
-        let f : Front s (take enough s) =
-        record { long = enough-long; size = length-take-le enough s enough-long; bytes = λ i h. getD-take enough s i 256 h } in
+        let f = front-of s enough-long in
         let h = headRead s (ascii "(rule ") in
         let g = headRead (take enough s) (ascii "(rule ") in
         let near : Same h g =

@@ -10,8 +10,8 @@ use lib.ListN.{length, drop}
 use lib.Seq.{ext-getD}
 use borrow.Author.Tests.{ltb-false, eqb-true}
 use Rattle.rules.specs.Text.{ascii, byteAt}
-use Rattle.rules.specs.Fault.{Stands}
-use Rattle.rules.specs.reading.WordLaws.{Span, span-nil, span-byte, span-append}
+use Rattle.rules.specs.Fault.{Stands, Span}
+use Rattle.rules.specs.reading.WordLaws.{span-nil, span-byte, span-append}
 use Rattle.line_pieces.specs.declared.Read.{Read}
 use Rattle.line_pieces.specs.declared.Read.the-variants.{At, Refused}
 use Rattle.line_pieces.specs.Number.{digits, value}

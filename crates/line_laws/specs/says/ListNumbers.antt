@@ -8,7 +8,7 @@ use lib.ListN.{length, length-append, drop}
 use borrow.Author.Tests.{eqb-true, leb-true}
 use Rattle.clocks.specs.stored.BoundedLaws.{and-true}
 use Rattle.rules.specs.Text.{byteAt}
-use Rattle.rules.specs.reading.WordLaws.{Span, span-nil, span-byte, span-append}
+use Rattle.rules.specs.reading.WordLaws.{span-nil, span-byte, span-append}
 use Rattle.line_pieces.specs.declared.Read.{Read}
 use Rattle.line_pieces.specs.declared.Read.the-variants.{At, Refused}
 use Rattle.line_pieces.specs.Number.{digits, value, numberAt}
@@ -18,6 +18,7 @@ use Rattle.line_laws.specs.Grammar.{Numeral, Numerals, spaced, between}
 use Rattle.line_laws.specs.LineSays.{InLimits}
 use Rattle.line_laws.specs.pieces.NumberTextRead.{if-known}
 use Rattle.line_laws.specs.faults.TenIsFault.{not-at, Judged, number-judged}
+use Rattle.rules.specs.Fault.{Span}
 
 -- ---- Numbers from a place on
 
@@ -122,7 +123,14 @@ said-spaced s most j i n ns (Refused m k) b e x = absurd (not-at i n m k (sym e)
 said-spaced s most j i n ns (At k m) b e (d, ds, (a, (p, (v, (c, l))))) =
     let y : k ≡ i = cc in
     let z : m ≡ n = cc in
-    record { list-digits = d ∷ ds; numerals = a; stands = span-append (span-byte s j 32 b) (rw y at p); values = sym v; many = sym c ∙ z; limits = rw v l }
+    record {
+      list-digits = d ∷ ds;
+      numerals = a;
+      stands = span-append (span-byte s j 32 b) (rw y at p);
+      values = sym v;
+      many = sym c ∙ z;
+      limits = rw v l;
+    }
 
 -- An empty list.
 none-said : (text : List (List ℕ) → List ℕ) (s : List ℕ) (ascending : Bool) (most j i n : ℕ) → text [] ≡ []

@@ -10,10 +10,10 @@ use lib.Seq.{getD-take, getD-drop, take-append-seam}
 use borrow.Author.Tests.{ltb-false, le-ltb}
 use Rattle.rules.specs.Formula.{Formula, atom, constant, unary, binary}
 use Rattle.rules.specs.Text.{ascii, byteAt, textOf}
-use Rattle.rules.specs.Fault.{Stands}
+use Rattle.rules.specs.Fault.{Stands, Span}
 use Rattle.rules.specs.Reader.{Reading, formed, refused, readRule}
 use Rattle.rules.specs.reading.ReaderAccepts.{reader-accepts}
-use Rattle.rules.specs.reading.WordLaws.{Span, span-byte, span-append, if-byte}
+use Rattle.rules.specs.reading.WordLaws.{span-byte, span-append, if-byte}
 use Rattle.line_pieces.specs.declared.Read.{Read}
 use Rattle.line_pieces.specs.declared.Read.the-variants.{At, Refused}
 use Rattle.line_pieces.specs.Reading.{headRead, lineLimit, limited}
@@ -56,7 +56,17 @@ accepted s k start end h = go (headRead s (ascii "(rule ")) refl h
         (Rule 6 (length s - 1)) (RuleRefused 1 (length s - 1))
         (λ b w. let y : 6 ≡ start = cc in
         let z : length s - 1 ≡ end = cc in
-        record { head-place = i; head-value = v; head = e; short = short; form-end = j; form = g; read = f; last = b; places = (sym y, sym z) })
+        record {
+          head-place = i;
+          head-value = v;
+          head = e;
+          short = short;
+          form-end = j;
+          form = g;
+          read = f;
+          last = b;
+          places = (sym y, sym z);
+        })
         (λ _ w. absurd (not-rule start end 1 (length s - 1) (sym w))) q
 
     go : (r : Read) → headRead s (ascii "(rule ") ≡ r → ruleOf s k (limited s r) ≡ Rule start end

@@ -9,10 +9,9 @@ use lib.Dec.{T, ltb}
 use lib.ListN.{length}
 use lib.Seq.{take-append-le, take-take}
 use borrow.Author.Tests.{ltb-true, ltb-false}
-use Rattle.rules.specs.reading.WordLaws.{Span}
 use Rattle.rules.specs.Text.{byteAt}
 use Rattle.rules.specs.reading.ReaderLaws.{Digit}
-use Rattle.rules.specs.Fault.{Fault2, Fault3, Stands, Fault4, Fault1, Fault, FirstFault}
+use Rattle.rules.specs.Fault.{Fault2, Fault3, Stands, Fault4, Fault1, Fault, FirstFault, Span}
 use Rattle.rules.specs.grammar.PlainBytes.{every, plain, and-left, and-right, plain-e}
 use Rattle.rules.specs.grammar.FirstBytes.{Begun, begun-inside}
 use Rattle.rules.specs.grammar.OpenForms.{Viable}

@@ -11,9 +11,8 @@ use lib.ListN.{length, take, length-append, length-take}
 use lib.Seq.{take-suc, append-snoc}
 use borrow.Author.Tests.{ltb-false}
 use Rattle.rules.specs.Text.{byteAt}
-use Rattle.rules.specs.Fault.{Stands}
+use Rattle.rules.specs.Fault.{Stands, Span}
 use Rattle.rules.specs.reading.TextLaws.{byteAt-behind}
-use Rattle.rules.specs.reading.WordLaws.{Span}
 use Rattle.rules.specs.grammar.PlainBytes.{every, small, and-left, and-right}
 
 -- A text's first bytes, up to before place i, are these.

@@ -12,10 +12,10 @@ use borrow.Author.Tests.{ltb-true, ltb-false, leb-true, leb-false}
 use Rattle.rules.specs.grammar.OpenForms.{Frame, before, closedLines, FramesGrammatical, Viable, form-closed, viable-text, viable-part, viable-inside, before-count, viable-at}
 use Rattle.rules.specs.grammar.FaultLaws.{Clean, first-over, Over, fault4-digit, clean-next}
 use Rattle.rules.specs.Line.{lineCount}
-use Rattle.rules.specs.reading.WordLaws.{Span, span-byte, span-append, if-byte}
+use Rattle.rules.specs.reading.WordLaws.{span-byte, span-append, if-byte}
 use Rattle.rules.specs.Text.{byteAt, textOf, Grammatical, ascii}
 use Rattle.rules.specs.reading.ReaderLaws.{Digit}
-use Rattle.rules.specs.Fault.{count, Fault2, linesClosed, Fault3, Fault, FirstFault, Fault4}
+use Rattle.rules.specs.Fault.{count, Fault2, linesClosed, Fault3, Fault, FirstFault, Fault4, Span}
 use Rattle.rules.specs.Formula.{Formula}
 use Rattle.rules.specs.grammar.PlainBytes.{every, small, every-left, text-small}
 use Rattle.rules.specs.grammar.FirstBytes.{Begun, begun-span, begun-next}

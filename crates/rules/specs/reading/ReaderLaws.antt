@@ -16,7 +16,8 @@ use Rattle.rules.specs.Formula.{Formula, atom, constant, unary, binary, 
 use Rattle.rules.specs.Line.{lineCount}
 use Rattle.rules.specs.Text.{ascii, byteAt, constantLetters, unaryLetters, binaryLetters, textOf, Grammatical, depth}
 use Rattle.rules.specs.Reader.{wordAt, Reading, formed, refused, andThen, expect, expectDigit, closeAt, atomAt, innerWith, unaryWith, binaryWith, bodyWith, formAt, readOf}
-use Rattle.rules.specs.reading.WordLaws.{Span, span-next, span-byte, span-append, WordSpan, wordAt-span, if-byte}
+use Rattle.rules.specs.reading.WordLaws.{span-next, span-byte, span-append, WordSpan, wordAt-span, if-byte}
+use Rattle.rules.specs.Fault.{Span}
 
 -- A reading that came to a form, step by step
 

@@ -13,14 +13,9 @@ use Rattle.rules.specs.declared.WordRead.{WordRead}
 use Rattle.rules.specs.declared.WordRead.the-variants.{AtWord, ConstantWord, UnaryWord, BinaryWord, NoWord}
 use Rattle.rules.specs.Text.{ascii, byteAt, constantLetters, unaryLetters, binaryLetters}
 use Rattle.rules.specs.Reader.{restAt, aWordAt, eWordAt, wordAt}
-use Rattle.rules.specs.Fault.{Stands}
+use Rattle.rules.specs.Fault.{Stands, Span}
 
 -- Bytes from place to place
-
--- These bytes stand in a text from place i to before place j.
-pub record Span (s : List ℕ) (i : ℕ) (bs : List ℕ) (j : ℕ) : Type 0 where
-  pub stands : Stands s i bs
-  pub ends : j ≡ i + length bs
 
 pub span-nil : (s : List ℕ) (i : ℕ) → Span s i [] i
 unfolding Stands

@@ -66,7 +66,10 @@ loop-less c = let h =
     number-after (c .before .before .before .before .before .before .before .before .before .before .args .line .now)
     _ _ _ _ _ (sym (c .before .before .before .before .before .before .before .read-number .ensures)
     ∙ c .before .before .before .before .before .found2 .given .1) in
-    let p = inside (c .before .before .before .before .before .before .before .before .before .before .args .line .now) (c .before .before .before .before .before .found2 .given .0 .0) (omega (arith, c .before .before .byte-at .ensures, c .before .if1 .left)) in
+    let p = inside
+    (c .before .before .before .before .before .before .before .before .before .before .args .line .now)
+    (c .before .before .before .before .before .found2 .given .0 .0)
+    (omega (arith, c .before .before .byte-at .ensures, c .before .if1 .left)) in
     omega (arith, p, h .behind)
 
 loop-again : tie.Need-loop-again Inv-loop μ-loop

@@ -46,21 +46,28 @@ then-close-requires-3 c κs = search needs
 then-last-requires : tie.Need-then-last-requires
 then-last-requires c κs = search needs
 
+-- The places in the walk: the whole line, the labels, the counts, and the number of processes read.
 did-of-requires : tie.Need-did-of-requires
 did-of-requires c κs =
-    rw (c .before .before .before .before .before .before .before .before .before .before .before .before .value-of .ensures) (c .before .before .before .before .before .before .before .before .before .before .before .before .before .then-close .ensures .1)
+    let labelled = c .before .before .before .before in
+    let counted = labelled .before .before .before .before in
+    let valued = counted .before .before .before .before in
+    rw (valued .value-of .ensures) (valued .before .then-close .ensures .1)
 
 returns : tie.Need-returns
-returns c = let a = c .before .before .before .before .before .before .before .before .before .before .before .before .before .before .before .before .before .before .before .args in
-    did-made (a .line .now) (a .k) _
-    (rw (c .before .before .before .before .before .before .before .before .before .before .before .before .before .value-of .ensures) (c .before .before .before .before .before .before .before .before .before .before .before .before .before .before .then-close .ensures .1)) (c .before .before .before .before .before .before .before .before .before .before .before .before .before .before .before .before .head .ensures) (c .before .before .before .before .before .before .before .before .before .before .before .before .before .before .before .then-list .ensures) (c .before .before .before .before .before .before .before .before .before .before .before .before .before .before .then-close .ensures .0) (c .before .before .before .before .before .before .before .before .before .before .before .before .before .value-of .ensures)
-    (c .before .before .before .before .before .before .before .before .before .before .before .then-bytes .ensures)
-    (c .before .before .before .before .before .before .before .before .before .before .then-list2 .ensures)
-    (c .before .before .before .before .before .before .before .before .before .then-close2 .ensures .0)
-    (c .before .before .before .before .before .before .before .then-bytes2 .ensures)
-    (c .before .before .before .before .before .before .then-list3 .ensures)
-    (c .before .before .before .before .before .then-close3 .ensures .0)
-    (c .before .before .before .before .then-last .ensures) (c .did-of .ensures)
+returns c =
+    let whole = c .before .before .before .before in
+    let labelled = whole .before in
+    let counted = labelled .before .before .before .before in
+    let valued = counted .before .before .before .before in
+    let named = valued .before in
+    let a = named .before .before .before .before .before .args in
+    did-made (a .line .now) (a .k) _ (rw (valued .value-of .ensures) (named .then-close .ensures .1))
+    (named .before .before .head .ensures) (named .before .then-list .ensures) (named .then-close .ensures .0)
+    (valued .value-of .ensures) (counted .before .before .then-bytes .ensures) (counted .before .then-list2 .ensures)
+    (counted .then-close2 .ensures .0) (labelled .before .before .then-bytes2 .ensures)
+    (labelled .before .then-list3 .ensures) (labelled .then-close3 .ensures .0) (whole .then-last .ensures)
+    (c .did-of .ensures)
 
 pub read-did-spec : {M : Type 1} → statement M
 read-did-spec =
