@@ -1,4 +1,5 @@
-// Offer (01, The calls): an event is added to the pending ones, in its place by lowest process and count; or it is turned back.
+// Offer (01, The calls): an event is added to the pending ones, in its place by lowest process and count; or it is
+// turned back.
 
 use clocks::Event;
 use numbers::limit::FRONTIERS;

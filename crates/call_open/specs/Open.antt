@@ -1,4 +1,5 @@
--- Open (01, The calls): reads a rule's text, the number of processes and the start labels, and writes record and window.
+-- Open (01, The calls): reads a rule's text, the number of processes and the start labels, and writes record and
+-- window.
 use Prim.Native.Nat.{ℕ, _-_, _*_}
 use mathlib.Core.Bool.{cond, _||_}
 use mathlib.Core.List.{List, [], _∷_, _++_}

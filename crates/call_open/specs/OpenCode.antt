@@ -1,4 +1,5 @@
--- What the code of open keeps to: the number that it is turned back with before its text is read, and the first frontier.
+-- What the code of open keeps to: the number that it is turned back with before its text is read, and the first
+-- frontier.
 use Prim.Native.Nat.{ℕ}
 use mathlib.Core.List.{List, _∷_, []}
 use mathlib.Core.Bool.{cond, _||_}

@@ -1,4 +1,5 @@
-// Open (01, The calls): reads a rule's text, the number of processes and the start labels, and writes record and window.
+// Open (01, The calls): reads a rule's text, the number of processes and the start labels, and writes record and
+// window.
 
 use answers::state_word;
 use answers::turned_word;

@@ -18,7 +18,8 @@ use Rattle.call_take.specs.Take.{Decision, undecided, false-clock, chose
 use Rattle.call_take.specs.TrialLaws.{Outcome, outcome, none-decides, falsifies, chooses}
 use Rattle.call_take.specs.TakeCode.{choiceFor}
 
--- Of an event that is taken: it is pending and ready, and so many frontiers, at least one and no more than are allowed, are kept.
+-- Of an event that is taken: it is pending and ready, and so many frontiers, at least one and no more than are allowed,
+-- are kept.
 pub record Taking (w : ℕ) (s : List ℕ) (allowed : ℕ) (fs : List Frontier) (i kept : ℕ) : Type 0 where
   pub pending : i < pendingCount s
   pub ready : T (readyIn w s (pendingAt w s i))

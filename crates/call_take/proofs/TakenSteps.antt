@@ -1,4 +1,5 @@
--- What the code of a taken event cites: its bytes fit, what its removal leaves, the last frontier's values, the step's setting.
+-- What the code of a taken event cites: its bytes fit, what its removal leaves, the last frontier's values, the step's
+-- setting.
 use Prim.Native.Nat.{ℕ, _+_, _-_, _*_, _^_, _≤_, _<_}
 use native.Mathlib.Decide.{decLt}
 use native.Mathlib.Omega.{arith}

@@ -1,4 +1,5 @@
--- Take's trial one pending event at a time, as a loop goes through them, and the setting of its step by what a record's bytes give.
+-- Take's trial one pending event at a time, as a loop goes through them, and the setting of its step by what a record's
+-- bytes give.
 use Prim.Native.Nat.{ℕ, _+_, _-_, _≤_, _<_, _*_}
 use native.Mathlib.Omega.{arith}
 use mathlib.Core.Path.{_≡_, sym, ap}

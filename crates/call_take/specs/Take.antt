@@ -1,5 +1,5 @@
--- Take (01, The calls): goes through the ready pending events from the lowest process up and stops at the first that has a false clock or
--- whose window fits.
+-- Take (01, The calls): goes through the ready pending events from the lowest process up and stops at the first that
+-- has a false clock or whose window fits.
 use Prim.Native.Nat.{ℕ, _+_, _-_}
 use mathlib.Core.Bool.{Bool, true, false, not, cond, _||_}
 use mathlib.Core.List.{List, [], _∷_}

@@ -1,4 +1,5 @@
--- What the code of take keeps to: the number that it is turned back with, its choice of an event, and the marks that go with it.
+-- What the code of take keeps to: the number that it is turned back with, its choice of an event, and the marks that go
+-- with it.
 use Prim.Native.Nat.{ℕ, _-_}
 use mathlib.Core.Path.{_≡_}
 use mathlib.Core.List.{List}

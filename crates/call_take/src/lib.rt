@@ -1,4 +1,5 @@
-// Take (01, The calls): the ready pending events are tried in their order; the first that is decided is taken or leaves.
+// Take (01, The calls): the ready pending events are tried in their order; the first that is decided is taken or
+// leaves.
 
 use answers::state_word;
 use clocks::Event;
@@ -40,8 +41,8 @@ ghost use Rattle.answers.specs.Answer.{turnedBack, nothingReady, replyWord};
 ghost use Rattle.call_take.specs.Take.{settingIn, tried, chosen, decided, takeWithin, takeCall};
 ghost use Rattle.call_take.specs.TakeCode.{choiceFor, MarkedFor, takeFault};
 
-// What take decides on: nothing (was some event ready?), a pending event that has a false clock, or one that is taken and the frontiers that are
-// kept then.
+// What take decides on: nothing (was some event ready?), a pending event that has a false clock, or one that is taken
+// and the frontiers that are kept then.
 pub enum Choice {
     Undecided { seen: bool },
     Falsified { place: usize },
@@ -189,7 +190,8 @@ fn count_event(record: &mut [u8], w: usize, i: usize, e: Event, kept: u32)
     count_taken(record, w, e, kept);
 }
 
-// Takes pending event number i, with which so many frontiers are kept: the reply, and the bytes of the three buffers after it.
+// Takes pending event number i, with which so many frontiers are kept: the reply, and the bytes of the three buffers
+// after it.
 fn take_event(
     record: &mut [u8],
     w: usize,
@@ -230,7 +232,8 @@ fn undecided_word(seen: bool) -> u64
     if seen { NO_ROOM } else { 0 }
 }
 
-// Takes an event where at most so many frontiers of the window may be used: the reply, and the bytes of the three buffers after it.
+// Takes an event where at most so many frontiers of the window may be used: the reply, and the bytes of the three
+// buffers after it.
 pub fn take_within(
     w: usize,
     allowed: usize,

@@ -4,7 +4,8 @@ use mathlib.Core.List.{List, [], _∷_}
 use lib.ListN.{getD}
 use Rattle.clocks.specs.Event.{Cut}
 
--- The cut of a list of counts: process p's is the p-th, and 0 past the end (01, Clocks and cuts: a clock of eight counts; the taken counts).
+-- The cut of a list of counts: process p's is the p-th, and 0 past the end (01, Clocks and cuts: a clock of eight
+-- counts; the taken counts).
 abbrev pub at : List ℕ → Cut
 at l p = getD l p 0
 
@@ -13,7 +14,7 @@ unfoldable pub listOf : {A : Type 0} → ℕ → (ℕ → A) → List A
 listOf zero f = []
 listOf (suc n) f = f 0 ∷ listOf n (λ p. f (suc p))
 
--- One clock for each process, as a list of lists of counts (01, Clocks and cuts: the clock of each process's last event, eight counts for each
--- of eight).
+-- One clock for each process, as a list of lists of counts (01, Clocks and cuts: the clock of each process's last
+-- event, eight counts for each of eight).
 abbrev pub rows : List (List ℕ) → ℕ → Cut
 rows ls p = at (getD ls p [])

@@ -36,7 +36,8 @@ clockOf ts p n q = ofEvent 0 (λ e. count e q) (event ts p n)
 unfoldable pub maskOf : List Event → ℕ → ℕ → ℕ
 maskOf ts p n = ofEvent 0 (λ e. e .mask) (event ts p n)
 
--- The propositions that hold at process p after its event number n; its start labels where there is none (01, The window: labels).
+-- The propositions that hold at process p after its event number n; its start labels where there is none (01, The
+-- window: labels).
 unfoldable pub labelOf : Cut → List Event → ℕ → ℕ → ℕ
 labelOf start ts p n = ofEvent (start p) (λ e. getD (e .labels) p 0) (event ts p n)
 

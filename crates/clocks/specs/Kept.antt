@@ -17,8 +17,8 @@ use Rattle.clocks.specs.Tested.{ready}
 abbrev pub Complete : ℕ → (ℕ → Bool) → List Event → Cut → Type 0
 Complete k opened ts S = (p : ℕ) × (p < k) × T (opened p) × (S p ≡ taken ts p)
 
--- The cut is kept: such a process is there, or it is the largest cut. (01 drops a cut when every process has a taken event
--- beyond it; a set of open processes leaves room for closed ones, 02 [5].)
+-- The cut is kept: such a process is there, or it is the largest cut. (01 drops a cut when every process has a taken
+-- event beyond it; a set of open processes leaves room for closed ones, 02 [5].)
 abbrev pub Kept : ℕ → (ℕ → Bool) → List Event → Cut → Type 0
 Kept k opened ts S = Complete k opened ts S ⊎ (S ≡ taken ts)
 
@@ -41,8 +41,8 @@ Dropped k ts S = (p : ℕ) → p < k → S p < taken ts p
 unfoldable pub served : ℕ → List Event → Cut → Bool
 served k ts S = allBelow k (λ p. anyOf (λ f. involved f p && ready k f S) ts)
 
--- The source's sufficient condition for dropping, followed at most d events ahead: every process is served, or an enabled
--- event leads to a cut that meets the condition.
+-- The source's sufficient condition for dropping, followed at most d events ahead: every process is served, or an
+-- enabled event leads to a cut that meets the condition.
 unfoldable pub redundantWithin : ℕ → ℕ → List Event → Cut → Bool
 redundantWithin zero k ts S = served k ts S
 redundantWithin (suc d) k ts S = served k ts S || anyOf (λ f. ready k f S && redundantWithin d k ts (apply f S)) ts

@@ -9,11 +9,13 @@ use Rattle.clocks.specs.declared.Event.{Event}
 use Rattle.clocks.specs.declared.Key.{Key}
 use Rattle.clocks.specs.Counts.{at}
 
--- The lowest process that takes part: the lowest bit set in the mask, and 8 where none is (01, Clocks and cuts: an event's lowest process).
+-- The lowest process that takes part: the lowest bit set in the mask, and 8 where none is (01, Clocks and cuts: an
+-- event's lowest process).
 unfoldable pub lowest : Event → ℕ
 lowest e = trailingZeros 8 (e .mask)
 
--- An event's place in the order: its lowest process and the count there. (Past the end of a clock of eight, the count is 0.)
+-- An event's place in the order: its lowest process and the count there. (Past the end of a clock of eight, the count
+-- is 0.)
 unfoldable pub keyOf : Event → Key
 keyOf e = record { process = lowest e; count = at (e .clock) (lowest e) }
 

@@ -1,4 +1,5 @@
--- What an event or start labels are turned back for, each condition in 01's words (01, Turned back, from the input: 7, 8, 9).
+-- What an event or start labels are turned back for, each condition in 01's words (01, Turned back, from the input: 7,
+-- 8, 9).
 use Prim.Native.Nat.{ℕ, _<_}
 use mathlib.Core.Path.{_≡_}
 use mathlib.Core.Bool.{Bool, true, false, cond, not, _&&_, _||_}

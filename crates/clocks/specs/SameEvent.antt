@@ -1,4 +1,5 @@
--- Equality of events as a test: by mask, eight counts and eight labels (01, The calls: each event, by mask, clock and labels).
+-- Equality of events as a test: by mask, eight counts and eight labels (01, The calls: each event, by mask, clock and
+-- labels).
 use Prim.Native.Nat.{ℕ}
 use mathlib.Core.Bool.{Bool, _&&_}
 use lib.Dec.{eqb}

@@ -1,4 +1,5 @@
--- Valid clocks: the base's rule by the join of the last clocks, and what any such rule must grant (01, Clocks and cuts: true).
+-- Valid clocks: the base's rule by the join of the last clocks, and what any such rule must grant (01, Clocks and cuts:
+-- true).
 use Prim.Native.Nat.{ℕ, zero, suc, _+_, _≤_, max}
 use mathlib.Core.Path.{_≡_}
 use mathlib.Core.Bool.{Bool, false, cond}
@@ -12,8 +13,8 @@ unfoldable pub joinTo : ℕ → (ℕ → Bool) → (ℕ → Cut) → Cut
 joinTo zero member last q = 0
 joinTo (suc p) member last q = cond (member p) (max (last p q) (joinTo p member last q)) (joinTo p member last q)
 
--- The base's rule: the clock is the largest of the last clocks of the processes that take part, plus 1 at those processes
--- (01: its clock is true). The processes are the first n.
+-- The base's rule: the clock is the largest of the last clocks of the processes that take part, plus 1 at those
+-- processes (01: its clock is true). The processes are the first n.
 pub record Joined (n : ℕ) (ts : List Event) (e : Event) : Type 0 where
   pub each : (q : ℕ) → count e q ≡ joinTo n (involved e) (lastClock ts) q + one (involved e q)
 
@@ -34,8 +35,8 @@ abbrev pub History : ℕ → (List Event → Event → Type 0) → List Event �
 History k valid [] = Unit {0}
 History k valid (e ∷ ts) = Takeable k valid ts e × History k valid ts
 
--- All that the theory knows of a rule for valid clocks: what a takeable event knows of is a consistent cut, and whether a
--- ready event's clock is valid depends only on the events inside that cut.
+-- All that the theory knows of a rule for valid clocks: what a takeable event knows of is a consistent cut, and whether
+-- a ready event's clock is valid depends only on the events inside that cut.
 pub record ClockRule (k : ℕ) (valid : List Event → Event → Type 0) : Type 0 where
   pub sound : (ts : List Event) (e : Event) → History k valid ts → Takeable k valid ts e → Consistent ts (lowered e)
   pub local : (ts us : List Event) (e : Event) → History k valid ts → History k valid us → Ready e (taken ts) → Ready e (taken us)

@@ -1,4 +1,5 @@
--- Laws of `bit`: of the lowest bit and the rest, of `bitOr` and `bitAnd`, of bounds, and that the bits determine the mask.
+-- Laws of `bit`: of the lowest bit and the rest, of `bitOr` and `bitAnd`, of bounds, and that the bits determine the
+-- mask.
 use Prim.Native.Nat.{ℕ, zero, suc, _+_, _*_, _/_, _%_, _^_, _≤_, _<_, zero-le, suc-le-suc, min, max}
 use native.Mathlib.Nat.{div-one, pow-succ', pow-suc, div-div-eq-div-mul, div-eq-of-lt, lt-of-lt-of-le, le-of-suc-le-suc, add-div-right, zero-add}
 use native.Mathlib.Decide.{decLt}

@@ -45,6 +45,7 @@ framed w (f ∷ fs) = frontierBytes w f ++ framed w fs
 unfoldable pub windowBytes : ℕ → ℕ → List Frontier → List ℕ
 windowBytes w total fs = framed w fs ++ replicate (total - length fs * frontierLength w) 0
 
--- A window in which others stand in place of its first n frontiers: zeros where there were more of them, and the rest as it was.
+-- A window in which others stand in place of its first n frontiers: zeros where there were more of them, and the rest
+-- as it was.
 unfoldable pub replaced : ℕ → List ℕ → ℕ → List Frontier → List ℕ
 replaced w s n fs = sets (sets s 0 (framed w fs)) (length fs * frontierLength w) (replicate ((n - length fs) * frontierLength w) 0)

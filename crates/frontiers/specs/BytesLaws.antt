@@ -1,4 +1,5 @@
--- Frontiers and their bytes go back and forth: laws of `frontierBytes`, `frontierFrom`, `frontiers`, `framed` and `windowBytes`, over the width.
+-- Frontiers and their bytes go back and forth: laws of `frontierBytes`, `frontierFrom`, `frontiers`, `framed` and
+-- `windowBytes`, over the width.
 use Prim.Native.Nat.{ℕ, zero, suc, _+_, _*_, _^_, _≤_, _<_}
 use native.Mathlib.Nat.{suc-mul, mul-le-mul-right, zero-mul, le-of-suc-le-suc, zero-add, add-assoc, add-zero}
 use native.Mathlib.Omega.{arith}

@@ -1,4 +1,5 @@
--- Laws of the order of counts: `same` is equality, `before` is a strict total order on lists of one length, and ascending lists.
+-- Laws of the order of counts: `same` is equality, `before` is a strict total order on lists of one length, and
+-- ascending lists.
 use Prim.Native.Nat.{ℕ, suc-le-suc, _<_, zero, suc, _+_, _≤_}
 use native.Mathlib.Omega.{arith}
 use native.Mathlib.Decide.{decLt}

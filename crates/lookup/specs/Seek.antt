@@ -1,5 +1,6 @@
--- The look-up of a cut among frontiers in ascending order, from a hint: it gallops up from the hint, or goes down from it, and then
--- halves what is left. It ends where the cut stands; where it stands nowhere, at the number of the frontiers.
+-- The look-up of a cut among frontiers in ascending order, from a hint: it gallops up from the hint, or goes down from
+-- it, and then halves what is left. It ends where the cut stands; where it stands nowhere, at the number of the
+-- frontiers.
 use Prim.Native.Nat.{ℕ, zero, suc, _+_, _-_, _*_, _/_}
 use mathlib.Core.Bool.{true, false, cond}
 use mathlib.Core.List.{List, [], map}

@@ -1,4 +1,5 @@
-// Limits (01, Clocks and cuts; The rule; The window). Lengths in bytes go by the width of a count: see frontiers Bytes, records Record.
+// Limits (01, Clocks and cuts; The rule; The window). Lengths in bytes go by the width of a count: see frontiers Bytes,
+// records Record.
 
 // Processes of a watch.
 pub const PROCESSES: u64 = 8;

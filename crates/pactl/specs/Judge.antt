@@ -1,6 +1,6 @@
--- Judging one frontier: the truth of each table line there, as bits of a word (01, The rule: kinds 0 to 5; The window: values). It
--- is made from the frontier's labels and from the words of the cuts that precede it: their OR, `any`, their AND, `all`, and whether there is
--- one, `preceded`.
+-- Judging one frontier: the truth of each table line there, as bits of a word (01, The rule: kinds 0 to 5; The window:
+-- values). It is made from the frontier's labels and from the words of the cuts that precede it: their OR, `any`, their
+-- AND, `all`, and whether there is one, `preceded`.
 use Prim.Native.Nat.{ℕ, _+_, _^_}
 use mathlib.Core.Bool.{Bool, not, cond, _&&_, _||_}
 use mathlib.Core.List.{List, [], _∷_}

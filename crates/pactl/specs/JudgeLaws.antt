@@ -1,4 +1,5 @@
--- Laws of judging: a frontier's word has a bit for each line, and bit i is what line i's clause says of the word itself.
+-- Laws of judging: a frontier's word has a bit for each line, and bit i is what line i's clause says of the word
+-- itself.
 use Prim.Native.Nat.{ℕ, zero, suc, _+_, _^_, _≤_, _<_, _-_}
 use native.Mathlib.Omega.{arith}
 use native.Mathlib.Nat.{add-zero, zero-add, pow-suc}

@@ -1,5 +1,5 @@
--- Judging is right: from the labels at a cut and the OR and the AND of right words at the preceding cuts, the word judged has PaCTL's
--- truth of each line.
+-- Judging is right: from the labels at a cut and the OR and the AND of right words at the preceding cuts, the word
+-- judged has PaCTL's truth of each line.
 use Prim.Native.Nat.{ℕ, zero, suc, _+_, _<_, _≤_}
 use native.Mathlib.Omega.{arith}
 use native.Mathlib.Decide.{decLt}
@@ -26,7 +26,8 @@ use Rattle.pactl.specs.Line.{line}
 
 -- ---- Statement
 
--- What is gathered from the cuts that precede a cut S: bit i of `any` says that some of them has line i, bit i of `all` that all have it (where there is one).
+-- What is gathered from the cuts that precede a cut S: bit i of `any` says that some of them has line i, bit i of `all`
+-- that all have it (where there is one).
 pub record Preceding (M : Model) (ls : List Line) (S : Cut) (any all : ℕ) (preceded : Bool) : Type 0 where
   pub some-has : (i : ℕ) → i < length ls → T (bit any i) ↔ ((S′ : Cut) × Leads M S′ S × T (lineTruth M ls i S′))
   pub all-have : T preceded → (i : ℕ) → i < length ls → T (bit all i) ↔ ((S′ : Cut) → Leads M S′ S → T (lineTruth M ls i S′))

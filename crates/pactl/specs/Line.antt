@@ -2,7 +2,8 @@
 use Prim.Native.Nat.{ℕ}
 use Rattle.pactl.specs.declared.Line.{Line}
 
--- The six kinds of line (01, The rule: kinds 0 to 5). In the first the numbers are a process and a proposition, in the others lines.
+-- The six kinds of line (01, The rule: kinds 0 to 5). In the first the numbers are a process and a proposition, in the
+-- others lines.
 abbrev pub line : ℕ → ℕ → ℕ → Line
 line kind a b = record { kind = kind; a = a; b = b }
 

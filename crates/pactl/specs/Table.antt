@@ -10,8 +10,8 @@ unfoldable pub tableBytes : List Line → List ℕ
 tableBytes [] = []
 tableBytes (l ∷ ls) = l .kind ∷ l .a ∷ l .b ∷ tableBytes ls
 
--- Line i is good, with k processes (01, Turned back, from the state: 34): its kind is at most 5, its process below k and its
--- proposition at most 7, the lines it names are earlier, an unused b is 0.
+-- Line i is good, with k processes (01, Turned back, from the state: 34): its kind is at most 5, its process below k
+-- and its proposition at most 7, the lines it names are earlier, an unused b is 0.
 unfoldable pub goodLine : ℕ → ℕ → Line → Bool
 goodLine k i l =
     cond (eqb (l .kind) 0) (ltb (l .a) k && leb (l .b) 7)

@@ -1,4 +1,5 @@
--- Laws of a table read from its bytes: it gives back the lines whose bytes they are, and its line i is line i of the bytes.
+-- Laws of a table read from its bytes: it gives back the lines whose bytes they are, and its line i is line i of the
+-- bytes.
 use Prim.Native.Nat.{ℕ, zero, suc, _+_, _-_, _*_, _<_, _≤_}
 use native.Mathlib.Numerals.{add-one}
 use native.Mathlib.Omega.{arith}

@@ -1,5 +1,5 @@
--- PaCTL's truth at a cut of a history (source 000, section 2: semantics; 01, The rule). It is made from what precedes what, the
--- labels and the formula alone.
+-- PaCTL's truth at a cut of a history (source 000, section 2: semantics; 01, The rule). It is made from what precedes
+-- what, the labels and the formula alone.
 use Prim.Native.Nat.{ℕ, zero, suc, _+_}
 use mathlib.Core.Bool.{Bool, true, false, not, _&&_, _||_, cond}
 use mathlib.Core.List.{List, [], _∷_, _++_}
@@ -92,7 +92,8 @@ holds M (allSince f g) = asHolds M (holds M f) (holds M g)
 abbrev pub never : Property
 never S = false
 
--- The property of a line, from those of the earlier lines (01, The rule: kinds 0 to 5). No line of another kind is good.
+-- The property of a line, from those of the earlier lines (01, The rule: kinds 0 to 5). No line of another kind is
+-- good.
 unfoldable pub lineHolds : Model → List Property → Line → Property
 lineHolds M earlier l =
     let a = getD earlier (l .a) never in

@@ -1,5 +1,6 @@
--- Locality of truth: at a consistent cut every formula and every table line is as true in one history as in another that has the
--- same events inside the cut. So one more event changes nothing, and neither does another order of the same events.
+-- Locality of truth: at a consistent cut every formula and every table line is as true in one history as in another
+-- that has the same events inside the cut. So one more event changes nothing, and neither does another order of the
+-- same events.
 use Prim.Native.Nat.{ℕ, zero, suc, _<_}
 use native.Mathlib.Omega.{arith}
 use mathlib.Core.Path.{_≡_, sym, ap, ap₂, subst, subst⁻¹, _∙_, refl}

@@ -107,7 +107,8 @@ fn with_bit(v: u64, i: u32, t: bool) -> u64
     v + ((t as u64) << i)
 }
 
-// A frontier's word: bit i is line i's truth there. The words of the cuts that precede it go in by their OR and their AND.
+// A frontier's word: bit i is line i's truth there. The words of the cuts that precede it go in by their OR and their
+// AND.
 pub fn judge(table: &[u8], lines: u32, labels: [u8; 8], any: u64, all: u64, preceded: bool) -> u64
     requires { ⌜ (lines ≤ 64) × (3 * lines ≤ length (now table)) ⌝ }
     ensures { λ r. ⌜ r ≡ judged labels any all preceded (linesOf (now (table .entry)) lines) ⌝ }

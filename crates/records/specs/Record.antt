@@ -1,4 +1,5 @@
--- The record's bytes (01, The window: the record), for counts of w bytes: where each field stands, how it is read and how it is set.
+-- The record's bytes (01, The window: the record), for counts of w bytes: where each field stands, how it is read and
+-- how it is set.
 use Prim.Native.Nat.{ℕ, zero, suc, _+_, _-_, _*_}
 use mathlib.Core.Bool.{Bool, cond}
 use mathlib.Core.List.{List, _∷_, _++_}

@@ -1,4 +1,5 @@
--- The conditions of the refusals that a record, a window or the state of a watch meets, each in 01's words (01, Turned back).
+-- The conditions of the refusals that a record, a window or the state of a watch meets, each in 01's words (01, Turned
+-- back).
 use Prim.Native.Nat.{ℕ, _*_, _/_, _%_}
 use mathlib.Core.Bool.{Bool, not, _&&_, _||_}
 use mathlib.Core.List.{List}
@@ -26,8 +27,8 @@ roomOf w n = n / frontierLength w
 unfoldable pub badProcesses : ℕ → Bool
 badProcesses k = eqb k 0 || ltb 8 k
 
--- 34: k not 1 to 8, more than 32 pending, lines not 1 to 64, kept not 1 to 1,024 or above the room, or a bad table line. (Offer is lent no
--- window: there the room is 1,024.)
+-- 34: k not 1 to 8, more than 32 pending, lines not 1 to 64, kept not 1 to 1,024 or above the room, or a bad table
+-- line. (Offer is lent no window: there the room is 1,024.)
 unfoldable pub badState : ℕ → ℕ → List ℕ → Bool
 badState w room s =
     badProcesses (processCount s)

@@ -1,5 +1,5 @@
--- The reader's definition as the code takes it, for forms: by the byte, the nesting that is left and the word, and then by what the forms
--- inside gave. From the code's answers back to readings, and to the table that they leave.
+-- The reader's definition as the code takes it, for forms: by the byte, the nesting that is left and the word, and then
+-- by what the forms inside gave. From the code's answers back to readings, and to the table that they leave.
 use Prim.Native.Nat.{ℕ, zero, suc, _+_, _-_, _*_, _≤_}
 use native.Mathlib.Omega.{arith}
 use mathlib.Core.Path.{_≡_, refl, sym, subst, _∙_}

@@ -1,4 +1,5 @@
--- The faults of a rule's text, apart from any reader (01, Turned back, from the input: 1 to 4), and what is to be shown of the reader.
+-- The faults of a rule's text, apart from any reader (01, Turned back, from the input: 1 to 4), and what is to be shown
+-- of the reader.
 use Prim.Native.Nat.{ℕ, _+_, _<_, _≤_}
 use mathlib.Core.Path.{_≡_}
 use mathlib.Core.Logic.{_⊎_, _↔_}
@@ -14,7 +15,8 @@ use Rattle.rules.specs.Line.{constantWeight, unaryWeight, binaryWeight}
 use Rattle.rules.specs.Text.{ascii, byteAt, constantLetters, unaryLetters, binaryLetters, textOf, Grammatical, Within}
 use Rattle.rules.specs.Reader.{formed, refused, readRule}
 
--- 1: no text of the grammar begins with the bytes up to and with this one; or the text ends here and is no whole text of the grammar.
+-- 1: no text of the grammar begins with the bytes up to and with this one; or the text ends here and is no whole text
+-- of the grammar.
 unfoldable pub Fault1 : List ℕ → ℕ → Type 0
 Fault1 s i =
     ((i < length s) × ((f : Formula) → Grammatical f → take (i + 1) (textOf f) ≡ take (i + 1) s → ⊥))
@@ -55,7 +57,8 @@ weightOf (w ∷ ws) s = cond (begins (w .0) s) (w .1) (weightOf ws s)
 unfoldable pub openedAfter : List ℕ → ℕ → List ℕ → List ℕ
 openedAfter opened c s = cond (eqb c 40) (weightOf words s ∷ opened) (cond (eqb c 41) (drop 1 opened) opened)
 
--- The lines of the forms closed in a text, each counted with its weight, where forms of these weights are open before it.
+-- The lines of the forms closed in a text, each counted with its weight, where forms of these weights are open before
+-- it.
 unfoldable pub linesClosed : List ℕ → List ℕ → ℕ
 linesClosed opened [] = 0
 linesClosed opened (c ∷ s) = cond (eqb c 41) (getD opened 0 0) 0 + linesClosed (openedAfter opened c s) s
@@ -69,7 +72,8 @@ unfoldable pub Stands : List ℕ → ℕ → List ℕ → Type 0
 Stands s i [] = Unit {0}
 Stands s i (b ∷ bs) = (byteAt s i ≡ b) × Stands s (i + 1) bs
 
--- 4: a digit in p's place of an (at p b) that is not below k, or one in b's place that is above 7; the bracket stands at q.
+-- 4: a digit in p's place of an (at p b) that is not below k, or one in b's place that is above 7; the bracket stands
+-- at q.
 unfoldable pub Fault4 : List ℕ → ℕ → ℕ → Type 0
 Fault4 s k i =
     ((q d : ℕ) × Stands s q (ascii "(at " ++ (48 + d) ∷ []) × (d ≤ 9) × (k ≤ d) × (i ≡ q + 4))

@@ -22,7 +22,8 @@ use Rattle.rules.specs.Reader.{Reading, formed, refused, readOf}
 unfoldable pub lay : List ℕ → ℕ → List Line → List ℕ
 lay bytes n ls = sets bytes (3 * n) (tableBytes ls)
 
--- What is answered where lines are laid down from line n on: the number of lines that are laid down then. It is at most so many more.
+-- What is answered where lines are laid down from line n on: the number of lines that are laid down then. It is at most
+-- so many more.
 pub record Laid (n most : ℕ) (ls : List Line) (old new : List ℕ) (r : ℕ) : Type 0 where
   pub count : r ≡ n + length ls
   pub few : r ≤ n + most

@@ -78,7 +78,8 @@ expectDigit s i bound next =
     (cond (ltb (byteAt s i - 48) bound) next (refused 4 i))
     (refused 1 i)
 
--- The closing bracket of a form, where `closed` lines were those of the forms closed before this one began: 3 if they are over 64 then.
+-- The closing bracket of a form, where `closed` lines were those of the forms closed before this one began: 3 if they
+-- are over 64 then.
 unfoldable pub closeAt : List ℕ → ℕ → ℕ → Formula → Reading
 closeAt s closed i f = expect s i 41 (cond (leb (closed + lineCount f) 64) (formed (i + 1) f) (refused 3 i))
 
@@ -124,7 +125,8 @@ unfoldable pub readRule : List ℕ → ℕ → Reading
 readRule s k =
     andThen (formAt 32 s k 0 0) (λ i f. cond (ltb i (length s)) (refused 1 i) (formed i f))
 
--- A reading in the numbers that the code answers with, where `laid` lines were laid down and `closed` closed before the form.
+-- A reading in the numbers that the code answers with, where `laid` lines were laid down and `closed` closed before the
+-- form.
 unfoldable pub readOf : ℕ → ℕ → Reading → Read
 readOf laid closed (formed i f) = Form i (laid + lineCount f) (closed + lineCount f)
 readOf laid closed (refused n i) = Refused n i

@@ -1,5 +1,5 @@
--- What reading a rule answers and leaves: the number of lines and the table, or the fault and the table as it was (01, Turned back, from the
--- input: 1 to 4, and 6 for a table of a wrong length).
+-- What reading a rule answers and leaves: the number of lines and the table, or the fault and the table as it was (01,
+-- Turned back, from the input: 1 to 4, and 6 for a table of a wrong length).
 use Prim.Native.Nat.{ℕ, _-_, _*_}
 use mathlib.Core.Bool.{cond}
 use mathlib.Core.List.{List, _++_}

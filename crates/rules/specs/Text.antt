@@ -1,4 +1,5 @@
--- The text of a form, byte by byte, and the limits on a rule (01, The rule: a form; Turned back, from the input: 1 to 4).
+-- The text of a form, byte by byte, and the limits on a rule (01, The rule: a form; Turned back, from the input: 1 to
+-- 4).
 use Prim.Native.Nat.{ℕ, suc, _+_, _≤_, max}
 use Prim.Native.Char.{code}
 use Prim.Native.String.{String, [] as none, _∷_ as more}
@@ -60,7 +61,8 @@ depth (constant w) = 1
 depth (unary w f) = suc (depth f)
 depth (binary w f g) = suc (max (depth f) (depth g))
 
--- A form is within the limits of a rule with k processes: 32 nested brackets, 64 lines, processes below k, propositions 0 to 7.
+-- A form is within the limits of a rule with k processes: 32 nested brackets, 64 lines, processes below k, propositions
+-- 0 to 7.
 pub record Within (k : ℕ) (f : Formula) : Type 0 where
   pub shallow : depth f ≤ 32
   pub short : lineCount f ≤ 64

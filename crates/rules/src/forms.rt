@@ -210,8 +210,8 @@ fn read_binary(
     }
 }
 
-// The form at a place, with brackets nested at most as deep as the allowance. `laid` lines are laid down so far, and `closed` are those of the
-// forms closed so far.
+// The form at a place, with brackets nested at most as deep as the allowance. `laid` lines are laid down so far, and
+// `closed` are those of the forms closed so far.
 pub fn read_form(
     text: &[u8],
     k: u32,

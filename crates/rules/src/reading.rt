@@ -19,7 +19,8 @@ fn copy_table(from: &[u8], table: &mut [u8])
     }
 }
 
-// Reads a rule's text for k processes: its table is left in `table`, which has 192 bytes. On a refusal nothing is written.
+// Reads a rule's text for k processes: its table is left in `table`, which has 192 bytes. On a refusal nothing is
+// written.
 pub fn read_rule(text: &[u8], k: u32, table: &mut [u8]) -> RuleRead
     ensures { λ r. ⌜ r ≡ ruleAnswer (now (text .entry)) k (now (table .entry)) ⌝ }
     ensures { λ r. ⌜ now (table .exit) ≡ ruleTable (now (text .entry)) k (now (table .entry)) ⌝ }

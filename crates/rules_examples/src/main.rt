@@ -1,5 +1,5 @@
-// Reads lines of standard input: a digit k and a rule's text. Prints for each what the reader answers: the fault and its place, or the
-// table's lines, whether the check of tables passes them, and words judged by the table.
+// Reads lines of standard input: a digit k and a rule's text. Prints for each what the reader answers: the fault and
+// its place, or the table's lines, whether the check of tables passes them, and words judged by the table.
 
 ghost use Prim.Native.Nat.{_+_, _≤_};
 ghost use lib.ListN.{length};
@@ -39,7 +39,8 @@ fn print_table(bytes: &[u8]) {
     }
 }
 
-// A frontier with these labels judged with nothing before it, and with cuts before it that have every second line or all but a few.
+// A frontier with these labels judged with nothing before it, and with cuts before it that have every second line or
+// all but a few.
 fn print_judged(table: &[u8], lines: u32, labels: [u8; 8]) {
     if lines > 64 {
         return;

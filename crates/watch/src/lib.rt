@@ -28,8 +28,8 @@ pub extern "C" fn watch_open(
     call_open::open(2, rule, k, bytes, record, window)
 }
 
-// Offers an event. Its clock is in two words, process p's count at bits 16p of the first or 16(p - 4) of the second; its labels are the
-// bytes of a word.
+// Offers an event. Its clock is in two words, process p's count at bits 16p of the first or 16(p - 4) of the second;
+// its labels are the bytes of a word.
 #[no_mangle]
 pub extern "C" fn watch_offer(mask: u64, low: u64, high: u64, labels: u64, record: &mut [u8]) -> u64
     ensures reply { λ r. ⌜ r ≡ replyWord (offerCall 2 mask (unpackCounts low high) (unpackLabels labels) (now («record» .entry)) .answer) ⌝ }

@@ -31,8 +31,8 @@ fn print(state: &[u8], k: u64, reply: Reply, offered: bool) -> bool
     io::write_all(OUT, &out[..end])
 }
 
-// A proved loop has to end, and nothing says that the input does: so turns are counted down from a number that no run reaches, or to 0 if there is
-// none to follow.
+// A proved loop has to end, and nothing says that the input does: so turns are counted down from a number that no run
+// reaches, or to 0 if there is none to follow.
 pub(crate) fn turns(left: u64, again: bool) -> u64
     requires { ⌜ 0 < left ⌝ }
     ensures { λ r. ⌜ r < left ⌝ }
@@ -53,8 +53,8 @@ fn take_all(first: bool, k: u64, state: &mut [u8], window: &mut [u8], scratch: &
     }
 }
 
-// Answers a line, with a window cut to the room that the first line gave. The rule's text waits in the scratch, which no take needs before the
-// watch is open. A first state that cannot be written ends the program.
+// Answers a line, with a window cut to the room that the first line gave. The rule's text waits in the scratch, which
+// no take needs before the watch is open. A first state that cannot be written ends the program.
 pub(crate) fn respond(
     session: Session,
     line: &[u8],

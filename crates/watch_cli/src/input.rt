@@ -20,7 +20,8 @@ pub(crate) struct Line {
     pub(crate) rest: Input,
 }
 
-// The input with bytes in the chunk, or over: the chunk is read anew if its bytes are used. A read that fails ends the input too.
+// The input with bytes in the chunk, or over: the chunk is read anew if its bytes are used. A read that fails ends the
+// input too.
 fn refill(input: Input, chunk: &mut [u8]) -> Input
     requires { ⌜ input .end ≤ length (now chunk) ⌝ }
     ensures { λ r. ⌜ r .end ≤ length (now (chunk .exit)) ⌝ }
@@ -37,8 +38,9 @@ fn refill(input: Input, chunk: &mut [u8]) -> Input
     }
 }
 
-// The next line, without its line feed. Bytes that `line` has no room for are passed over. Bytes behind the last line feed are a line. A
-// proved loop has to end, and nothing says that the input does: so the chunks are counted down, from a number that no input has.
+// The next line, without its line feed. Bytes that `line` has no room for are passed over. Bytes behind the last line
+// feed are a line. A proved loop has to end, and nothing says that the input does: so the chunks are counted down, from
+// a number that no input has.
 pub(crate) fn next_line(input: Input, chunk: &mut [u8], line: &mut [u8]) -> Line
     requires { ⌜ input .end ≤ length (now chunk) ⌝ }
     ensures { λ r. ⌜ r .length ≤ length (now (line .exit)) ⌝ }

@@ -1,5 +1,6 @@
-// The program watch (01, Examples: the program): reads lines of standard input, and prints answers. What is answered to a line, with which
-// text, and what follows from it stands in the crate `program`; here are the reading, the writing and the loops around them.
+// The program watch (01, Examples: the program): reads lines of standard input, and prints answers. What is answered to
+// a line, with which text, and what follows from it stands in the crate `program`; here are the reading, the writing
+// and the loops around them.
 
 // Standard input, from chunks of any size to lines.
 mod input;

@@ -1,4 +1,5 @@
--- The marks of a step: one byte for each frontier that says what comes of it, left by the counting and read by the merge.
+-- The marks of a step: one byte for each frontier that says what comes of it, left by the counting and read by the
+-- merge.
 use Prim.Native.Nat.{ℕ, _+_, _*_, _<_}
 use native.Mathlib.Omega.{arith}
 use native.Mathlib.Decide.{decLt}

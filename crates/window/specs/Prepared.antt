@@ -10,8 +10,8 @@ use Rattle.clocks.specs.Counts.{listOf}
 
 -- ---- To test a frontier's counts by
 
--- The lowest and the highest count of a process at which an event with count n there may be taken; the lowest is above the highest where
--- no count will do. (A count has four bytes.)
+-- The lowest and the highest count of a process at which an event with count n there may be taken; the lowest is above
+-- the highest where no count will do. (A count has four bytes.)
 abbrev pub lowest : Bool → ℕ → ℕ
 lowest b n = cond b (cond (eqb n 0) 1 (n - 1)) n
 

@@ -1,5 +1,5 @@
--- The step of a window for an event (01, The window; source 000, section 3): the frontiers that stay and the advanced ones, merged by
--- counts, each new one judged from the frontiers laid down before it.
+-- The step of a window for an event (01, The window; source 000, section 3): the frontiers that stay and the advanced
+-- ones, merged by counts, each new one judged from the frontiers laid down before it.
 use Prim.Native.Nat.{ℕ, zero, suc, _+_}
 use mathlib.Core.Bool.{Bool, not, cond, _&&_, _||_, true}
 use mathlib.Core.List.{List, [], _∷_, map, _++_}
@@ -19,8 +19,8 @@ use Rattle.frontiers.specs.declared.Frontier.{Frontier}
 use Rattle.lookup.specs.Seek.{seek, keysOf}
 use Rattle.lookup.specs.Order.{before}
 
--- What a step is taken in: how many processes are stored, how many there are, which are closed, the rule's table, the event, and the
--- taken counts with it.
+-- What a step is taken in: how many processes are stored, how many there are, which are closed, the rule's table, the
+-- event, and the taken counts with it.
 pub record Setting : Type 0 where
   pub stored : ℕ
   pub processes : ℕ
@@ -81,13 +81,15 @@ slots s fs = merge slotCounts (map staying (filtered (stays s) fs)) (map (λ f. 
 
 -- ---- Judging a new frontier
 
--- What is gathered from the cuts that precede: the OR and the AND of their values, and where each process's next look-up begins.
+-- What is gathered from the cuts that precede: the OR and the AND of their values, and where each process's next
+-- look-up begins.
 pub record Gathered : Type 0 where
   pub ors : ℕ
   pub ands : ℕ
   pub hints : List ℕ
 
--- Process p's last event in the new frontier g may lead to it: it is not the event itself, and p is the first of its processes.
+-- Process p's last event in the new frontier g may lead to it: it is not the event itself, and p is the first of its
+-- processes.
 unfoldable pub sought : Setting → Frontier → ℕ → Bool
 sought s g p = not (involved (s .event) p) && (not (eqb (getD (g .masks) p 0) 0) && eqb (trailingZeros (s .stored) (getD (g .masks) p 0)) p)
 
@@ -99,7 +101,8 @@ withoutLast s g p = listOf (s .stored) (minus (getD (g .masks) p 0) (at (g .coun
 abbrev pub valuesAt : List Frontier → ℕ → ℕ
 valuesAt laid i = getD (map (λ f. f .values) laid) i 0
 
--- Process p is considered: looked up from its hint, and counted in where it is found; its next look-up begins behind that place.
+-- Process p is considered: looked up from its hint, and counted in where it is found; its next look-up begins behind
+-- that place.
 unfoldable pub consider : Setting → List Frontier → Frontier → ℕ → Gathered → Gathered
 consider s laid g p w =
     let place = seek (keysOf laid) (withoutLast s g p) (getD (w .hints) p 0) in

@@ -1,4 +1,5 @@
--- What the code of a step looks at: the setting made of its parameters, and the tests of one frontier by its counts alone.
+-- What the code of a step looks at: the setting made of its parameters, and the tests of one frontier by its counts
+-- alone.
 use Prim.Native.Nat.{ℕ, _+_, _^_, _<_}
 use mathlib.Core.Bool.{Bool, not, _&&_, _||_}
 use mathlib.Core.List.{List}

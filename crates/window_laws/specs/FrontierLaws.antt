@@ -1,4 +1,5 @@
--- A cut's frontier after one more event: an old cut's is what it was; a new one's counts, labels and masks are the advanced ones.
+-- A cut's frontier after one more event: an old cut's is what it was; a new one's counts, labels and masks are the
+-- advanced ones.
 use Prim.Native.Nat.{ℕ, zero, suc, _^_, _≤_, _<_}
 use native.Mathlib.Omega.{arith}
 use native.Mathlib.Decide.{decLt}

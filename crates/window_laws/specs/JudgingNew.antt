@@ -1,5 +1,5 @@
--- Judging a new frontier: what is gathered from the frontiers laid down before it is gathered from exactly the cuts that precede it,
--- so the judged frontier is the cut's own.
+-- Judging a new frontier: what is gathered from the frontiers laid down before it is gathered from exactly the cuts
+-- that precede it, so the judged frontier is the cut's own.
 use Prim.Native.Nat.{ℕ, _≤_, _<_, suc, zero}
 use native.Mathlib.Omega.{arith}
 use native.Mathlib.Decide.{decLt}

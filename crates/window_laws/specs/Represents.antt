@@ -1,5 +1,5 @@
--- What a window holds: exactly the kept cuts of a history, each once, in ascending order, each with its labels, the masks of its last
--- events, and the truth of every line (01, The window; demand 2).
+-- What a window holds: exactly the kept cuts of a history, each once, in ascending order, each with its labels, the
+-- masks of its last events, and the truth of every line (01, The window; demand 2).
 use Prim.Native.Nat.{ℕ, zero, suc, _≤_, _<_}
 use mathlib.Core.Path.{_≡_}
 use mathlib.Core.Bool.{Bool, true, not}
@@ -21,8 +21,8 @@ use Rattle.frontiers.specs.declared.Frontier.{Frontier}
 use Rattle.window.specs.Step.{Setting}
 use Rattle.lookup.specs.Order.{before}
 
--- What does not change while a watch runs: how many processes are stored and how many there are, which are closed, the start labels,
--- the rule's table.
+-- What does not change while a watch runs: how many processes are stored and how many there are, which are closed, the
+-- start labels, the rule's table.
 pub record World : Type 0 where
   pub stored : ℕ
   pub processes : ℕ

@@ -1,5 +1,6 @@
--- Demand 2 for one step: if a list of frontiers is exactly the kept cuts of a history, each once, ascending, with labels, masks and
--- PaCTL's truth of every line, then so is the stepped list for the history with one more event that could be taken.
+-- Demand 2 for one step: if a list of frontiers is exactly the kept cuts of a history, each once, ascending, with
+-- labels, masks and PaCTL's truth of every line, then so is the stepped list for the history with one more event that
+-- could be taken.
 use Prim.Native.Nat.{ℕ, _≤_, _<_}
 use native.Mathlib.Omega.{arith}
 use native.Mathlib.Decide.{decLt}

@@ -1,5 +1,5 @@
--- A history's window is one list: strictly ascending lists with the same members are equal, and histories with the same events keep
--- the same cuts with the same frontiers.
+-- A history's window is one list: strictly ascending lists with the same members are equal, and histories with the same
+-- events keep the same cuts with the same frontiers.
 use Prim.Native.Nat.{ℕ, _<_}
 use mathlib.Core.Path.{_≡_, refl, sym, ap₂, subst, _∙_}
 use mathlib.Core.List.{List, [], _∷_, map, List·Memᴰ, List·Memᴰ·head, List·Memᴰ·tail, List·Memᴰ·cases-cons, List·Memᴰ·not-nil}

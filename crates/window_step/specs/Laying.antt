@@ -1,4 +1,5 @@
--- How far the merge of a step has come: what is laid down, what is left of the frontiers that stay and of those the event leads on from.
+-- How far the merge of a step has come: what is laid down, what is left of the frontiers that stay and of those the
+-- event leads on from.
 use Prim.Native.Nat.{ℕ, _+_, _≤_, _<_}
 use mathlib.Core.Path.{_≡_}
 use mathlib.Core.Bool.{Bool, true, false, cond}

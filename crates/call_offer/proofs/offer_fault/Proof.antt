@@ -8,14 +8,14 @@ use mathlib.Core.List.{List}
 use lib.Dec.{eqb, leb}
 use lib.ListN.{length}
 use borrow.Author.Needs.{needs}
-use borrow.Author.Tests.{le-leb, lt-leb, eq-eqb, ne-eqb}
+use borrow.Author.Tests.{eq-eqb, ne-eqb}
 use denote.Ref.{now}
 use Rattle.clocks.specs.Counts.{at}
 use Rattle.clocks.specs.Refusal.{eventFault}
 use Rattle.clocks.specs.declared.Event.{Event}
 use Rattle.call_offer.proofs.offer_fault.Statement.{statement}
 use Rattle.refusals.specs.RefusalLaws.{right-length, state-within}
-use Rattle.records.specs.Record.{processCount, pendingCount, takenCounts, pendingEvents}
+use Rattle.records.specs.Record.{processCount, takenCounts, pendingEvents}
 use Rattle.refusals.specs.Refusals.{badRecordLength, badState, alreadyTaken, conflicting}
 use Rattle.call_offer.specs.Offer.{offeredEvent}
 use Rattle.call_offer.specs.OfferCode.{offerFault}

@@ -1,4 +1,5 @@
--- Every pending event passed has a key before the event's; the first that has not stands in its place: the laws `place-further`, `place-here`, `place-last`.
+-- Every pending event passed has a key before the event's; the first that has not stands in its place: the laws
+-- `place-further`, `place-here`, `place-last`.
 use Rattle.call_offer.proofs.place_among.Tie as tie
 use Prim.Native.Nat.{_-_, _≤_}
 use native.Mathlib.Omega.{arith}

@@ -1,4 +1,5 @@
--- Turned back before the text, by the text, or opened with its table: the laws `open-turned`, `open-refused` and `open-accepted`.
+-- Turned back before the text, by the text, or opened with its table: the laws `open-turned`, `open-refused` and
+-- `open-accepted`.
 use Rattle.call_open.proofs.open.Tie as tie
 use Prim.Native.Nat.{_≤_}
 use native.Mathlib.Omega.{arith}

@@ -1,4 +1,5 @@
--- No event before i decided, and `seen` says whether one of them was ready: the laws `tried-pass`, `-full`, `-false`, `-fits` and `-end`.
+-- No event before i decided, and `seen` says whether one of them was ready: the laws `tried-pass`, `-full`, `-false`,
+-- `-fits` and `-end`.
 use Rattle.call_take.proofs.decide.Tie as tie
 use Prim.Native.Nat.{ℕ, _-_, _+_, _≤_}
 use native.Mathlib.Omega.{arith}

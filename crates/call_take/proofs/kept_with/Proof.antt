@@ -1,4 +1,5 @@
--- The counts that the event leads to are the setting's, and the table does not matter for how many frontiers are kept, nor for their marks.
+-- The counts that the event leads to are the setting's, and the table does not matter for how many frontiers are kept,
+-- nor for their marks.
 use Rattle.call_take.proofs.kept_with.Tie as tie
 use native.Mathlib.Omega.{arith}
 use mathlib.Core.Path.{_≡_, ap, _∙_}

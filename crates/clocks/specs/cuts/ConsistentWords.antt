@@ -1,5 +1,5 @@
--- A consistent cut is what 01 says, word for word: no count above taken, and for each process with a count above 0 the clock
--- of that process's event of that number is nowhere above the cut.
+-- A consistent cut is what 01 says, word for word: no count above taken, and for each process with a count above 0 the
+-- clock of that process's event of that number is nowhere above the cut.
 
 -- ---- Statement
 

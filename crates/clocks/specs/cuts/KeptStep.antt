@@ -1,5 +1,5 @@
--- The step theorem for kept cuts; a cut once dropped stays dropped; with all processes open a cut is kept exactly if some
--- process has all its taken events in it.
+-- The step theorem for kept cuts; a cut once dropped stays dropped; with all processes open a cut is kept exactly if
+-- some process has all its taken events in it.
 
 -- ---- with all processes open
 use Prim.Native.Nat.{ℕ, _<_}

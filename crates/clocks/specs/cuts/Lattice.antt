@@ -1,4 +1,5 @@
--- The consistent cuts are a lattice: zeros, count-by-count maximum and minimum; an event's clock is one of them; clocks grow along a process.
+-- The consistent cuts are a lattice: zeros, count-by-count maximum and minimum; an event's clock is one of them; clocks
+-- grow along a process.
 use Prim.Native.Nat.{ℕ, suc, _≤_, min, max}
 use native.Mathlib.Omega.{arith}
 use native.Mathlib.Decide.{decLe}

@@ -1,4 +1,5 @@
--- What precedes a cut after one more event: for an old cut what it was, for a new one the cut it came from and new ones.
+-- What precedes a cut after one more event: for an old cut what it was, for a new one the cut it came from and new
+-- ones.
 use Prim.Native.Nat.{ℕ, _≤_}
 use native.Mathlib.Omega.{arith}
 use mathlib.Core.Path.{_≡_, refl, sym, ap}

@@ -1,4 +1,5 @@
--- The same events in another order: the same counts, events by number, last clocks, consistent cuts, and what precedes what.
+-- The same events in another order: the same counts, events by number, last clocks, consistent cuts, and what precedes
+-- what.
 use Prim.Native.Nat.{ℕ, _≤_}
 use native.Mathlib.Omega.{arith}
 use native.Mathlib.Decide.{decLe}

@@ -1,5 +1,5 @@
--- Source 000's condition for dropping is sufficient: where it holds, every process has a taken event beyond the cut. It is not
--- necessary: a starred example of 01 has a cut that is dropped here and not there.
+-- Source 000's condition for dropping is sufficient: where it holds, every process has a taken event beyond the cut. It
+-- is not necessary: a starred example of 01 has a cut that is dropped here and not there.
 
 use Prim.Native.Nat.{ℕ, zero, suc, _<_}
 use native.Mathlib.Omega.{arith}

@@ -1,5 +1,5 @@
--- The step theorem: the consistent cuts of a history with one more event are the old ones, and those that the event leads to
--- from an old one at which it is enabled. Such an old one has all taken events of the event's processes.
+-- The step theorem: the consistent cuts of a history with one more event are the old ones, and those that the event
+-- leads to from an old one at which it is enabled. Such an old one has all taken events of the event's processes.
 use Prim.Native.Nat.{ℕ, suc, _≤_}
 use native.Mathlib.Omega.{arith}
 use native.Mathlib.Nat.{le-trans}

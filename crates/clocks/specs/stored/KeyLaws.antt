@@ -1,4 +1,5 @@
--- The order of keys is a strict order in which any two different keys compare; a key's process is the lowest that takes part.
+-- The order of keys is a strict order in which any two different keys compare; a key's process is the lowest that takes
+-- part.
 use Prim.Native.Nat.{ℕ, _^_, _<_, _≤_}
 use native.Mathlib.Omega.{arith}
 use native.Mathlib.Decide.{decLt}

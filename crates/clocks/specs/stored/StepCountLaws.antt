@@ -1,4 +1,5 @@
--- What an event does to counts, without adding: the next count by a difference, a ready event's own counts, its clock less its mask.
+-- What an event does to counts, without adding: the next count by a difference, a ready event's own counts, its clock
+-- less its mask.
 use Prim.Native.Nat.{ℕ, _+_, _-_, _<_}
 use native.Mathlib.Omega.{arith}
 use mathlib.Core.Path.{_≡_, refl}

@@ -1,5 +1,6 @@
--- Exchange: two events taken one right after the other, with no common process and neither's clock counting the other, may be
--- taken either way round, with the same counts, last clocks, consistent cuts and what precedes what (01, Clocks and cuts; 02, [2]).
+-- Exchange: two events taken one right after the other, with no common process and neither's clock counting the other,
+-- may be taken either way round, with the same counts, last clocks, consistent cuts and what precedes what (01, Clocks
+-- and cuts; 02, [2]).
 
 -- ---- Definitions
 
@@ -75,7 +76,8 @@ swapped-same e f ts = record { there = swap e f; back = swap f e }
         go (inr k) = deep (List·Memᴰ·cases-cons k)
 
 -- ---- Theorem: under any rule for valid clocks
--- the two orders have the same events (swapped-same), so SameEvents gives the same counts, last clocks, consistent cuts and what precedes what
+-- the two orders have the same events (swapped-same), so SameEvents gives the same counts, last clocks, consistent cuts
+-- and what precedes what
 pub exchange : (k : ℕ) (valid : List Event → Event → Type 0) → ClockRule k valid → (e f : Event) (ts : List Event) → History k valid (f ∷ e ∷ ts) → Apart e f → (Counts f e → ⊥)
     → History k valid (e ∷ f ∷ ts)
 exchange k valid r e f ts h a n =

@@ -1,4 +1,5 @@
--- The join is the largest: at least each member's clock, and no more than any bound on them; it looks at the members' clocks only.
+-- The join is the largest: at least each member's clock, and no more than any bound on them; it looks at the members'
+-- clocks only.
 
 use Prim.Native.Nat.{ℕ, zero, suc, _+_, _≤_, _<_}
 use native.Mathlib.Omega.{arith}

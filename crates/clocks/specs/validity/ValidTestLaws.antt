@@ -1,4 +1,5 @@
--- The test of a valid clock says what the base's rule says, for a history of k processes, and looks at the first n clocks only.
+-- The test of a valid clock says what the base's rule says, for a history of k processes, and looks at the first n
+-- clocks only.
 use Prim.Native.Nat.{ℕ, _+_, _≤_, _<_}
 use native.Mathlib.Omega.{arith}
 use native.Mathlib.Decide.{decLt}

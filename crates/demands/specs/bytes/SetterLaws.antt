@@ -1,4 +1,5 @@
--- What the calls store in a record's bytes is the record that they lead to: kept frontiers, counts and clocks, and a new watch.
+-- What the calls store in a record's bytes is the record that they lead to: kept frontiers, counts and clocks, and a
+-- new watch.
 use Prim.Native.Nat.{ℕ, _+_, _*_, _≤_, _<_, zero, suc, _-_}
 use native.Mathlib.Omega.{arith}
 use native.Mathlib.Decide.{ℕ-discrete, decLt}

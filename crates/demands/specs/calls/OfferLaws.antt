@@ -1,4 +1,5 @@
--- What an offer does to a watch written by calls only: turned back it changes nothing, accepted it adds the event to the pending ones.
+-- What an offer does to a watch written by calls only: turned back it changes nothing, accepted it adds the event to
+-- the pending ones.
 use Prim.Native.Nat.{ℕ, _+_, _%_, _^_, _<_, zero, suc, _≤_}
 use native.Mathlib.Omega.{arith}
 use mathlib.Core.Path.{_≡_, refl, sym, ap, subst, _∙_}

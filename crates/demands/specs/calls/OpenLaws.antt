@@ -1,4 +1,5 @@
--- What an open leaves: turned back it changes nothing, accepted it leaves a watch of the empty history with the lines of the text's form.
+-- What an open leaves: turned back it changes nothing, accepted it leaves a watch of the empty history with the lines
+-- of the text's form.
 use Prim.Native.Nat.{ℕ, zero, suc, _+_, _≤_, _<_, _*_, _%_}
 use native.Mathlib.Omega.{arith}
 use mathlib.Core.Path.{_≡_, refl, sym, ap, ap₂, subst, _∙_, fun-ext}

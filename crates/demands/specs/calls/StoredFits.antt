@@ -1,5 +1,5 @@
--- What a watch stores fits its bytes: the counts, clocks and frontiers made from events that fit; and what the invariant
--- says at once.
+-- What a watch stores fits its bytes: the counts, clocks and frontiers made from events that fit; and what the
+-- invariant says at once.
 use Prim.Native.Nat.{ℕ, _^_, _≤_, _<_}
 use native.Mathlib.Omega.{arith}
 use native.Mathlib.Decide.{decLt}

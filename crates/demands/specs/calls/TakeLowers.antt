@@ -1,5 +1,5 @@
--- A take that answers neither "nothing ready" nor 6, 34 or 36 lowers the number of pending events by exactly 1 (01, The calls: take), so that takes one after
--- the other come to an end. In a watch written by calls 34 never comes.
+-- A take that answers neither "nothing ready" nor 6, 34 or 36 lowers the number of pending events by exactly 1 (01, The
+-- calls: take), so that takes one after the other come to an end. In a watch written by calls 34 never comes.
 use Prim.Native.Nat.{ℕ, _+_, _<_}
 use native.Mathlib.Omega.{arith}
 use mathlib.Core.Path.{_≡_, refl, ap, _∙_}

@@ -1,5 +1,5 @@
--- What the bytes of a watch that was written by calls only say: they are never turned back by 34, and ready, valid and the step as read
--- from them are those of the taken events.
+-- What the bytes of a watch that was written by calls only say: they are never turned back by 34, and ready, valid and
+-- the step as read from them are those of the taken events.
 use Prim.Native.Nat.{ℕ, _≤_, _<_, _+_, _-_, _*_}
 use native.Mathlib.Omega.{arith}
 use mathlib.Core.Path.{_≡_, ap, _∙_}

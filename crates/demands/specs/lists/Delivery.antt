@@ -1,4 +1,5 @@
--- Order of arrival makes no difference: two settled ledgers of the same accepted events took the same events and have the same pending.
+-- Order of arrival makes no difference: two settled ledgers of the same accepted events took the same events and have
+-- the same pending.
 use Prim.Native.Nat.{ℕ, _≤_, _<_}
 use native.Mathlib.Omega.{arith}
 use native.Mathlib.Decide.{decLt}

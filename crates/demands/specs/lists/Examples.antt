@@ -1,4 +1,5 @@
--- The starred examples of 01 as one list, on the calls' definitions: from a rule's text and the bytes that open is lent.
+-- The starred examples of 01 as one list, on the calls' definitions: from a rule's text and the bytes that open is
+-- lent.
 use Prim.Native.Nat.{ℕ, zero, suc}
 use mathlib.Core.Path.{_≡_, refl, sym, ap, _∙_}
 use mathlib.Core.Bool.{true, false, not, _&&_}
@@ -117,15 +118,18 @@ abbrev pub answersBA : List Answer
 answersBA = state (eight 2 1 0) true 4 ∷ held 1 ∷ state (eight 1 1 0) true 3 ∷ held 1 ∷ state (eight 0 1 0) false 2 ∷ held 1 ∷ state (eight 0 0 0) false 1 ∷ []
 
 pub record StarredExamples : Type 0 where
-  -- a1, a2, b1 end at (2 1): yes, 4 kept. The cut (1 1), which makes it so, is one of them, though the watch never stood there.
+  -- a1, a2, b1 end at (2 1): yes, 4 kept. The cut (1 1), which makes it so, is one of them, though the watch never
+  -- stood there.
   pub arrival : watch 2 someOrder (a1 ++ a2 ++ b1) .answers ≡ answersAB
   pub arrival-cuts : keptCuts (watch 2 someOrder (a1 ++ a2 ++ b1)) ≡ (eight 0 1 0 ∷ eight 1 1 0 ∷ eight 2 0 0 ∷ eight 2 1 0 ∷ [])
-  -- b1, a1, a2: no at (0 1), yes at (1 1) and (2 1), with 2, 3 and 4 kept; in the end the window is the same, byte for byte.
+  -- b1, a1, a2: no at (0 1), yes at (1 1) and (2 1), with 2, 3 and 4 kept; in the end the window is the same, byte for
+  -- byte.
   pub other-order : watch 2 someOrder (b1 ++ a1 ++ a2) .answers ≡ answersBA
   pub same-window : watch 2 someOrder (a1 ++ a2 ++ b1) .window ≡ watch 2 someOrder (b1 ++ a1 ++ a2) .window
   -- then an event of both processes, with clock (3 2): yes, 1 kept.
   pub then-both : watch 2 someOrder (b1 ++ a1 ++ a2 ++ both) .answers ≡ state (eight 3 2 0) true 1 ∷ held 1 ∷ answersBA
-  -- at (2 1), an event of process 0 alone: with clock (3 1) it gives 35; with (3 0), right away or after that, it is taken, 5 kept.
+  -- at (2 1), an event of process 0 alone: with clock (3 1) it gives 35; with (3 0), right away or after that, it is
+  -- taken, 5 kept.
   pub alone-false : watch 2 someOrder (a1 ++ a2 ++ b1 ++ a3-false ++ a3) .answers
       ≡ state (eight 3 1 0) true 5 ∷ held 1 ∷ turnedBack 35 0 ∷ held 1 ∷ answersAB
   pub alone : watch 2 someOrder (a1 ++ a2 ++ b1 ++ a3) .answers ≡ state (eight 3 1 0) true 5 ∷ held 1 ∷ answersAB
@@ -138,7 +142,8 @@ pub record StarredExamples : Type 0 where
   -- ey after a1 and b1: yes at (1 1), no at (1 0).
   pub ey-next : watch 2 (ascii "(ey (at 0 0))") (a1 ++ b1) .answers
       ≡ (state (eight 1 1 0) true 3 ∷ held 1 ∷ state (eight 1 0 0) false 2 ∷ held 1 ∷ state (eight 0 0 0) false 1 ∷ [])
-  -- three processes: 2 kept at the end, (1 1 0) and (1 2 1); by the source's condition the cut of zeros would be kept too.
+  -- three processes: 2 kept at the end, (1 1 0) and (1 2 1); by the source's condition the cut of zeros would be kept
+  -- too.
   pub three : watch 3 someOrder (comes first ++ comes second) .answers
       ≡ (state (eight 1 2 1) false 2 ∷ held 1 ∷ state (eight 1 1 0) false 2 ∷ held 1 ∷ state (eight 0 0 0) false 1 ∷ [])
   pub three-cuts : keptCuts (watch 3 someOrder (comes first ++ comes second)) ≡ (eight 1 1 0 ∷ eight 1 2 1 ∷ [])

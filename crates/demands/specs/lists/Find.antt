@@ -1,5 +1,5 @@
--- Find after a list of calls: the window's frontiers are those of the kept cuts, and bit i of a frontier's values is the
--- truth of line i.
+-- Find after a list of calls: the window's frontiers are those of the kept cuts, and bit i of a frontier's values is
+-- the truth of line i.
 use Prim.Native.Nat.{ℕ, suc, _≤_, _<_}
 use native.Mathlib.Omega.{arith}
 use mathlib.Core.Path.{_≡_, refl, sym, ap, subst, _∙_}

@@ -1,5 +1,5 @@
--- What the answers of a list of calls say: every verdict is true for good, and "nothing ready" is the last answer only where no pending
--- event is ready.
+-- What the answers of a list of calls say: every verdict is true for good, and "nothing ready" is the last answer only
+-- where no pending event is ready.
 use Prim.Native.Nat.{ℕ, _+_, _-_, _<_}
 use native.Mathlib.Omega.{arith}
 use mathlib.Core.Path.{_≡_, sym, refl}

@@ -1,5 +1,5 @@
--- What the next take of a watch written by calls comes to: its trial of the pending events as the bytes have it, said of
--- the taken events; and that a take stops at one event.
+-- What the next take of a watch written by calls comes to: its trial of the pending events as the bytes have it, said
+-- of the taken events; and that a take stops at one event.
 use Prim.Native.Nat.{ℕ, _<_, _+_, _-_, suc}
 use native.Mathlib.Omega.{arith}
 use mathlib.Core.Path.{_≡_, sym, ap, subst, _∙_, subst⁻¹, refl}

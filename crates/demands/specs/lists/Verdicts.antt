@@ -1,5 +1,5 @@
--- Every verdict that a list of calls reports is PaCTL's, by source 000, of the formula whose text was opened, at the cut of the counts
--- beside it, over all consistent cuts of the events taken by the list's end.
+-- Every verdict that a list of calls reports is PaCTL's, by source 000, of the formula whose text was opened, at the
+-- cut of the counts beside it, over all consistent cuts of the events taken by the list's end.
 use Prim.Native.Nat.{ℕ, _-_, _<_}
 use native.Mathlib.Omega.{arith}
 use mathlib.Core.Path.{_≡_, ap, _∙_}

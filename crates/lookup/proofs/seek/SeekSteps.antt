@@ -1,5 +1,5 @@
--- The comparison of a frontier's counts with a key as the code makes it, process by process from the bytes; and the look-up's turns
--- among the frontiers of a window.
+-- The comparison of a frontier's counts with a key as the code makes it, process by process from the bytes; and the
+-- look-up's turns among the frontiers of a window.
 use Prim.Native.Nat.{ℕ, _+_, _-_, _*_, _/_, _≤_, _<_}
 use native.Mathlib.Omega.{arith}
 use mathlib.Core.Path.{_≡_, sym, _∙_}

@@ -1,4 +1,5 @@
--- No pending event passed conflicts; the first that does decides: the laws `conflict-next`, `conflict-here` and `conflict-none`.
+-- No pending event passed conflicts; the first that does decides: the laws `conflict-next`, `conflict-here` and
+-- `conflict-none`.
 use Rattle.refusals.proofs.conflicting.Tie as tie
 use Prim.Native.Nat.{_-_, _≤_}
 use native.Mathlib.Omega.{arith}

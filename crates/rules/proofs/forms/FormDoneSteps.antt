@@ -18,9 +18,7 @@ use Rattle.rules.specs.declared.Read.the-variants.{Refused}
 use Rattle.rules.specs.Line.{linesBefore, linesAfter, linesBetween, linesAfterBoth, lineCount}
 use Rattle.rules.proofs.LayingSteps.{done-refused, done-close}
 use Rattle.rules.specs.Laying.{Laid, closeRead, Done, Room}
-use Rattle.rules.proofs.FormSteps.{Opened, formAt-word, InnerDone, fault-done}
-use Rattle.rules.proofs.FormSteps.{unary-fault, unary-form, unary-laid}
-use Rattle.rules.proofs.FormSteps.{binary-fault, binary-second-fault, binary-form, binary-laid}
+use Rattle.rules.proofs.FormSteps.{Opened, formAt-word, InnerDone, fault-done, unary-fault, unary-form, unary-laid, binary-fault, binary-second-fault, binary-form, binary-laid}
 use Rattle.rules.specs.Formula.{unary, binary}
 use Rattle.rules.specs.lines.LineLaws.{length-unary, length-binary}
 use Rattle.rules.specs.Reader.{innerWith, unaryWith, binaryWith, bodyWith, formAt}

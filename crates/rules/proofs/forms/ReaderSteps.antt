@@ -1,4 +1,5 @@
--- The reader's definition, step by step as the code takes it: a byte met or not, a digit, a form by the word behind its bracket.
+-- The reader's definition, step by step as the code takes it: a byte met or not, a digit, a form by the word behind its
+-- bracket.
 use Prim.Native.Nat.{ℕ, _-_, _≤_}
 use native.Mathlib.Omega.{arith}
 use mathlib.Core.Path.{_≡_, refl, ap}

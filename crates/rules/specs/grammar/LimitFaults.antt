@@ -1,5 +1,5 @@
--- Where the reader answers a form it has passed no fault by 2, 3 or 4; where it refuses by one of these, that is the text's first fault;
--- where it refuses by 1, the bytes before can still go on.
+-- Where the reader answers a form it has passed no fault by 2, 3 or 4; where it refuses by one of these, that is the
+-- text's first fault; where it refuses by 1, the bytes before can still go on.
 use Prim.Native.Nat.{ℕ, _+_, _-_, _≤_, _<_}
 use native.Mathlib.Omega.{arith}
 use mathlib.Core.Path.{_≡_, refl, subst}

@@ -19,7 +19,8 @@ use Rattle.rules.specs.declared.Constant.{Constant}
 
 -- Definition
 
--- An open form at the place of an inner form: of a word with one, the first of a word with two, the second behind the first.
+-- An open form at the place of an inner form: of a word with one, the first of a word with two, the second behind the
+-- first.
 pub data Frame : Type 0 where
   inOne : Unary → Frame
   inFirst : Binary → Frame

@@ -1,4 +1,5 @@
--- Tests of every byte of a text: bytes at all, and plain ones, which are no bracket and no digit; words have plain letters.
+-- Tests of every byte of a text: bytes at all, and plain ones, which are no bracket and no digit; words have plain
+-- letters.
 use Prim.Native.Nat.{ℕ, _+_, _≤_, _<_}
 use native.Mathlib.Omega.{arith}
 use mathlib.Core.Path.{_≡_, refl}

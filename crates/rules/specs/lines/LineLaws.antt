@@ -1,4 +1,5 @@
--- Laws of the lines laid down for a form: how many they are, that each is good in its place, and that laying them down further on raises them.
+-- Laws of the lines laid down for a form: how many they are, that each is good in its place, and that laying them down
+-- further on raises them.
 use Prim.Native.Nat.{ℕ, _+_, _-_, _<_, _≤_}
 use native.Mathlib.Nat.{add-assoc, add-zero, add-suc, suc-add}
 use native.Mathlib.Numerals.{add-one}

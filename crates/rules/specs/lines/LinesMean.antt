@@ -1,5 +1,5 @@
--- The lines laid down for a form mean the form: at its last line the table's truth is, at every cut, the truth by source 000 of the
--- formula that the form stands for (01, The rule: defined as in source 000).
+-- The lines laid down for a form mean the form: at its last line the table's truth is, at every cut, the truth by
+-- source 000 of the formula that the form stands for (01, The rule: defined as in source 000).
 use Prim.Native.Nat.{ℕ, _+_, _<_, _-_, _≤_}
 use native.Mathlib.Omega.{arith}
 use mathlib.Core.Path.{_≡_, refl, ap, ap₂, fun-ext, _∙_, sym}

@@ -1,4 +1,5 @@
--- Laws of what reading a rule answers and leaves, by the answer for its form; and the table's bytes out of the lines laid down.
+-- Laws of what reading a rule answers and leaves, by the answer for its form; and the table's bytes out of the lines
+-- laid down.
 use Prim.Native.Nat.{ℕ, zero, suc, _+_, _-_, _*_, _≤_, _<_}
 use native.Mathlib.Nat.{suc-add, zero-add}
 use native.Mathlib.Omega.{arith}

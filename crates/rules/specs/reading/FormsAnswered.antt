@@ -1,4 +1,5 @@
--- Where a form's text stands up to some place, the reader answers that form or a limit that it passes, or answers at or behind that place.
+-- Where a form's text stands up to some place, the reader answers that form or a limit that it passes, or answers at or
+-- behind that place.
 use Prim.Native.Nat.{ℕ, suc, _+_, _≤_, _<_, _-_, zero}
 use native.Mathlib.Omega.{arith}
 use mathlib.Core.Path.{_≡_, refl, subst, sym, ap, ap₂, subst₂}

@@ -1,4 +1,5 @@
--- A fault's place is below 1,024, however long the text is: each closed form has at most 9 bytes a line, each open one at most 8.
+-- A fault's place is below 1,024, however long the text is: each closed form has at most 9 bytes a line, each open one
+-- at most 8.
 use Prim.Native.Nat.{ℕ, zero, suc, _+_, _-_, _*_, _≤_}
 use native.Mathlib.Omega.{arith}
 use mathlib.Core.Path.{_≡_, refl, subst}

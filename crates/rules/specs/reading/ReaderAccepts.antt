@@ -71,7 +71,8 @@ accepts s k f e digits within = go (formAt 32 s k 0 0) refl (start-met m s k f d
     go (refused n j) q (inl h) by = absurd (omega arith)
     go (refused n j) q (inr h) by = absurd (h .1 (within .shallow) (omega (arith, within .short)) (within .below))
 
--- The reader accepts a text exactly if that is the text of a form of the grammar within the limits, and reads that form.
+-- The reader accepts a text exactly if that is the text of a form of the grammar within the limits, and reads that
+-- form.
 pub reader-accepts : ReaderAcceptsForms
 reader-accepts s k i f = (
   (λ h.

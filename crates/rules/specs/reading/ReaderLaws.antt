@@ -1,4 +1,5 @@
--- What the reader reads is a form's own text: a form read from one place to another stands there, byte by byte, and is within the limits.
+-- What the reader reads is a form's own text: a form read from one place to another stands there, byte by byte, and is
+-- within the limits.
 use Prim.Native.Nat.{ℕ, zero, suc, _+_, _-_, _<_, _≤_}
 use native.Mathlib.Omega.{arith}
 use mathlib.Core.Path.{_≡_, refl, sym, ap, subst}

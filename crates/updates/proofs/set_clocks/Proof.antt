@@ -1,4 +1,5 @@
--- The clocks of the processes passed are stored; the next is stored or passed over: the laws `clocks-next` and `clocks-skip`.
+-- The clocks of the processes passed are stored; the next is stored or passed over: the laws `clocks-next` and
+-- `clocks-skip`.
 use Rattle.updates.proofs.set_clocks.Tie as tie
 use Prim.Native.Nat.{_+_, _-_, _*_, _≤_, ℕ}
 use native.Mathlib.Omega.{arith}

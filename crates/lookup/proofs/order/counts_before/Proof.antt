@@ -1,5 +1,4 @@
 -- At the first difference the counts there decide; without one nothing stands before.
-use native.Mathlib.Omega.{arith}
 use mathlib.Core.Path.{sym, _∙_}
 use borrow.Author.Needs.{needs}
 use Rattle.lookup.specs.OrderLaws.{before-drop-other, before-drop-end}

@@ -1,5 +1,4 @@
 -- The counts are the same where there is no difference.
-use native.Mathlib.Omega.{arith}
 use mathlib.Core.Path.{sym, _∙_}
 use borrow.Author.Needs.{needs}
 use Rattle.lookup.specs.OrderLaws.{same-drop-other, same-drop-end}

@@ -1,6 +1,7 @@
 -- The readers of a form, of what stands behind its word and of a form inside call each other. Three times the allowance
 -- is the measure, one more for the form inside, two more behind a word. Each return follows the reader's definition: by
--- the byte, the allowance and the word, then by what the forms inside answered. Short answers stand in the closing list.
+-- the byte, the allowance and the word, then by what the forms inside answered. Short answers stand in the closing
+-- list.
 use Prim.Native.Nat.{ℕ, _<_, _+_, _*_}
 use native.Mathlib.Omega.{arith}
 use mathlib.Core.Path.{_≡_, sym, _∙_}
@@ -12,9 +13,7 @@ use Rattle.rules.specs.Reader.{bodyWith, innerWith}
 use Rattle.rules.proofs.LayingSteps.{done-refused}
 use Rattle.rules.proofs.FormSteps.{Opened, formAt-other, formAt-deep, InnerDone, inner-done}
 use Rattle.rules.proofs.forms.ReaderSteps.{expect-met, expect-other}
-use Rattle.rules.proofs.forms.FormDoneSteps.{WordRoom, word-room, word-done, Ended, ended-first, ended-second}
-use Rattle.rules.proofs.forms.FormDoneSteps.{unary-fault-done, unary-done}
-use Rattle.rules.proofs.forms.FormDoneSteps.{binary-fault-done, binary-second-fault-done, binary-done}
+use Rattle.rules.proofs.forms.FormDoneSteps.{WordRoom, word-room, word-done, Ended, ended-first, ended-second, unary-fault-done, unary-done, binary-fault-done, binary-second-fault-done, binary-done}
 use Rattle.rules.proofs.forms.read_binary.Reads as binary-reads
 use Rattle.rules.proofs.forms.read_binary.Kinds as binary-kinds
 use Rattle.rules.proofs.forms.+read_binary+read_form+read_inner+read_unary.Lts-read_binary as binary

@@ -1,7 +1,7 @@
 -- Each return is the definition `atomAt` under the bytes and digits met; the last one closes a form of one line.
 use Prim.Native.Nat.{_+_}
 use native.Mathlib.Omega.{arith}
-use mathlib.Core.Path.{_≡_, refl, sym, _∙_}
+use mathlib.Core.Path.{_≡_, sym, _∙_}
 use Rattle.rules.specs.Line.{lineCount, linesAt}
 use Rattle.rules.specs.Formula.{atom}
 use Rattle.rules.specs.Text.{byteAt}

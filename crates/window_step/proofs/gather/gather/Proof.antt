@@ -1,4 +1,5 @@
--- Each turn considers one more process: the laws `gathered-more`, `consider-passed`, `consider-missing` and `consider-found`.
+-- Each turn considers one more process: the laws `gathered-more`, `consider-passed`, `consider-missing` and
+-- `consider-found`.
 use Prim.Native.Nat.{ℕ, _≤_, _-_, _+_}
 use native.Mathlib.Omega.{arith}
 use mathlib.Core.Path.{_≡_, refl, sym, ap, _∙_}
