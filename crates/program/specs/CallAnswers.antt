@@ -1,21 +1,35 @@
--- What the calls answer is within the parts of a reply word.
-use Prim.Native.Nat.{ℕ, _≤_}
+-- What the calls answer is within the parts of a reply word, and possible with the record that they leave.
+use Prim.Native.Nat.{ℕ, _+_, _≤_, _<_}
 use native.Mathlib.Omega.{arith}
-use mathlib.Core.Path.{_≡_, refl}
+use mathlib.Core.Path.{_≡_, refl, sym}
 use mathlib.Core.Logic.{inl, inr}
-use mathlib.Core.Bool.{Bool, true, false, cond, _||_}
+use mathlib.Core.Bool.{Bool, true, false, not, cond, _||_}
 use mathlib.Core.List.{List}
-use lib.Dec.{leb}
-use lib.ListN.{length}
-use borrow.Author.Tests.{leb-false}
+use lib.Dec.{T, ltb, leb, eqb, leb→le}
+use lib.ListN.{length, getD}
+use borrow.Author.Tests.{leb-false, ltb-true}
+use Rattle.codec.specs.Little.{Bytes}
+use Rattle.rules.specs.Line.{linesAt}
+use Rattle.clocks.specs.declared.Event.{Event}
+use Rattle.clocks.specs.cuts.EventLaws.{T-true}
+use Rattle.clocks.specs.stored.BoundedLaws.{and-l, and-r, or-false-e}
+use Rattle.clocks.specs.stored.CountsLaws.{length-listOf, getD-listOf}
+use Rattle.frontiers.specs.declared.Frontier.{Frontier}
+use Rattle.frontiers.specs.Bytes.{frontiers}
+use Rattle.window.specs.Step.{fits, keptAfter}
+use Rattle.window.specs.SteppedCount.{stepped-many}
+use Rattle.refusals.specs.RefusalLaws.{right-length, room-few}
+use Rattle.call_take.specs.Take.{Taken, settingIn, undecided, false-clock, chosen as takes, tried, decided, takeWithin, takeCall}
+use Rattle.call_take.specs.TrialLaws.{Outcome, outcome, none-decides, falsifies, chooses}
+use Rattle.program.specs.TakenCountsLaws.{first-taken, counted-taken}
 use Rattle.rules.specs.Fault.{Fault}
 use Rattle.rules.specs.grammar.GrammarTheorem.{reader-first-fault}
 use Rattle.rules.specs.reading.PlaceLaws.{fault-place}
 use Rattle.rules.specs.Reader.{Reading, readRule, formed, refused}
 use Rattle.clocks.specs.Refusal.{badStart, badMask, badClock, badLabels}
-use Rattle.clocks.specs.Counts.{at}
-use Rattle.records.specs.Record.{processCount, pendingCount, takenCounts, pendingEvents}
-use Rattle.refusals.specs.Refusals.{badRecordLength, badWindowLength, badProcesses, badState, alreadyTaken, conflicting}
+use Rattle.clocks.specs.Counts.{at, listOf}
+use Rattle.records.specs.Record.{recordLength, processCount, pendingCount, keptCount, takenCounts, pendingAt, pendingEvents, readyIn}
+use Rattle.refusals.specs.Refusals.{badRecordLength, badWindowLength, roomOf, badProcesses, badState, alreadyTaken, conflicting}
 use Rattle.answers.specs.Answer.{turnedBack}
 use Rattle.call_open.specs.Open.{Opened, openTable, openRead, openCall}
 use Rattle.call_offer.specs.Offer.{Offered, offeredEvent, offerCall}
@@ -23,7 +37,7 @@ use Rattle.answers.specs.Answer.{stateOf}
 use Rattle.program.specs.Replies.{Fits, Possible}
 
 -- A rule's fault has a number of 1 to 4.
-rule-number : (n : ℕ) (s : List ℕ) (k i : ℕ) → Fault n s k i → (1 ≤ n) × (n ≤ 4)
+pub rule-number : (n : ℕ) (s : List ℕ) (k i : ℕ) → Fault n s k i → (1 ≤ n) × (n ≤ 4)
 unfolding Fault
 rule-number n s k i (inl h) = (omega arith, omega arith)
 rule-number n s k i (inr (inl h)) = (omega arith, omega arith)
@@ -51,6 +65,26 @@ open-fits w text k labels s window =
     go (refused n i) e =
         let h = rule-number n text k i (reader-first-fault text k n i .0 e .here) in
         (h .0, omega (arith, h .1), omega (arith, fault-place text k n i e))
+
+-- What open answers is possible with the record that it leaves.
+abbrev OpenTold : Opened → Type 0
+OpenTold o = Possible false (takenCounts 2 (o .bytes)) (o .answer)
+
+-- A watch is opened with one frontier and the counts that stand in its record, or refused.
+pub open-possible : (text : List ℕ) (k : ℕ) (labels s window : List ℕ)
+    → let r = openCall 2 text k labels s window in Possible false (takenCounts 2 (r .bytes)) (r .answer)
+unfolding openCall openRead openTable stateOf
+open-possible text k labels s window =
+    let by = chosen OpenTold in
+    let turned : ℕ → Opened = λ n. record { answer = turnedBack n 0; bytes = s; window = window } in
+    by (badRecordLength 2 (length s) || badWindowLength 2 (length window)) (turned 6) _ (omega arith) λ _.
+    by (badProcesses k) (turned 5) _ (omega arith) λ _.
+    by (badStart k labels) (turned 9) _ (omega arith) λ _.
+    go (readRule text k) refl
+  where
+    go : (r : Reading) → readRule text k ≡ r → OpenTold (openRead 2 k labels s window r)
+    go (formed i f) e = (refl, sym (first-taken k (linesAt 0 f)), omega arith)
+    go (refused n i) e = rule-number n text k i (reader-first-fault text k n i .0 e .here) .0
 
 pub offer-fits : (w mask : ℕ) (clock labels s : List ℕ) → Fits (offerCall w mask clock labels s .answer)
 unfolding offerCall
@@ -84,3 +118,74 @@ offer-possible w mask clock labels s counts =
     by (conflicting e (pendingEvents w s)) (turned 32) _ (omega arith) λ _.
     by (leb 32 (pendingCount s)) (turned 33) _ (omega arith) λ few.
     (refl, omega arith)
+
+-- ---- Take
+
+-- What a take answers is within the parts of a reply word, and possible with the record that it leaves.
+abbrev pub TakeTold : ℕ → Taken → Type 0
+TakeTold w o = Fits (o .answer) × Possible false (takenCounts w (o .bytes)) (o .answer)
+
+module _ (w room : ℕ) (s window : List ℕ) (b : Bytes s) (long : length s ≡ recordLength w) (few : room ≤ 1024) where
+  abbrev kept : List Frontier
+  kept = frontiers w window (keptCount s)
+
+  -- A taken event leaves 1 to 1,024 frontiers, and the counts that it leads to stand in the record.
+  taken-told : (i : ℕ) → T (readyIn w s (pendingAt w s i)) → T (fits (settingIn w s (pendingAt w s i)) room kept)
+      → TakeTold w (decided w s window kept (takes i))
+  unfolding decided stateOf fits
+  taken-told i r f =
+      let n = keptAfter (settingIn w s (pendingAt w s i)) kept in
+      let many = stepped-many (settingIn w s (pendingAt w s i)) kept in
+      let some : 1 ≤ n = ltb-true 0 n (T-true (ltb 0 n) (and-l (ltb 0 n) (leb n room) f)) in
+      let most : n ≤ room = leb→le n room (and-r (ltb 0 n) (leb n room) f) in
+      (omega arith, (refl, sym (counted-taken w s i _ b long r), omega arith))
+
+  -- Nothing is ready, or there is no room.
+  none-told : (seen : Bool) → TakeTold w (decided w s window kept (undecided seen))
+  unfolding decided
+  none-told true = ((omega arith, omega arith, omega arith), omega arith)
+  none-told false = (tt, refl)
+
+  -- The clock of a ready one is false.
+  falsified-told : (i : ℕ) → TakeTold w (decided w s window kept (false-clock i))
+  unfolding decided
+  falsified-told i = ((omega arith, omega arith, omega arith), omega arith)
+
+  -- The ready pending events are gone through.
+  within-told : TakeTold w (takeWithin w room s window)
+  unfolding takeWithin pendingEvents
+  within-told = go (outcome w s room kept first 0 false pending)
+    where
+      first : Event
+      first = pendingAt w s 0
+
+      pending : List Event
+      pending = listOf (pendingCount s) (pendingAt w s)
+
+      many : length pending ≡ pendingCount s
+      many = length-listOf (pendingCount s) (pendingAt w s)
+
+      go : Outcome w s room kept 0 false pending first
+          → TakeTold w (decided w s window kept (tried w s room kept 0 false pending))
+      go (none-decides after t u o) = rw t (none-told after)
+      go (falsifies j l t r n u) = rw t (falsified-told (0 + j))
+      go (chooses j l t r a f u) =
+          let z : 0 + j ≡ j = omega arith in
+          let e : getD pending j first ≡ pendingAt w s j =
+          getD-listOf (pendingCount s) (pendingAt w s) j first (omega (arith, l, many)) in
+          rw (t, z) (taken-told j (rw e at r) (rw e at f))
+
+-- A take of whatever bytes.
+pub take-told : (w : ℕ) (s window scratch : List ℕ) → Bytes s → TakeTold w (takeCall w s window scratch)
+unfolding takeCall
+take-told w s window scratch bytes =
+    let by = chosen (TakeTold w) in
+    let turned : ℕ → Taken = λ n. record { answer = turnedBack n 0; bytes = s; window = window; scratch = scratch } in
+    let room = roomOf w (length window) in
+    let back : (n : ℕ) → 1 ≤ n → n < 256 → TakeTold w (turned n) = λ n l m. ((l, m, omega arith), l) in
+    let wrong = badWindowLength w (length window) || not (eqb (length scratch) (length window)) in
+    by (badRecordLength w (length s) || wrong) (turned 6) _ (back 6 (omega arith) (omega arith)) λ right.
+    by (badState w room s) (turned 34) _ (back 34 (omega arith) (omega arith)) λ _.
+    let r = or-false-e (badRecordLength w (length s)) wrong right in
+    let few = room-few w (length window) (or-false-e (badWindowLength w (length window)) _ (r .1) .0) in
+    within-told w room s window bytes (right-length w (length s) (r .0)) few

@@ -6,7 +6,11 @@ pub mod Replies
 pub mod Following
 pub mod Split
 pub mod Stages
+pub mod Answered
 -- What is proved of it
 pub mod ReplyLaws
+pub mod TakenCountsLaws
 pub mod CallAnswers
+pub mod LineAnswers
+pub mod AnsweredTheorem
 pub mod Rooms
