@@ -30,10 +30,9 @@ use Rattle.clocks.specs.Refusal.{badStart, badMask, badClock, badLabels}
 use Rattle.clocks.specs.Counts.{at, listOf}
 use Rattle.records.specs.Record.{recordLength, processCount, pendingCount, keptCount, takenCounts, pendingAt, pendingEvents, readyIn}
 use Rattle.refusals.specs.Refusals.{badRecordLength, badWindowLength, roomOf, badProcesses, badState, alreadyTaken, conflicting}
-use Rattle.answers.specs.Answer.{turnedBack}
+use Rattle.answers.specs.Answer.{turnedBack, stateOf}
 use Rattle.call_open.specs.Open.{Opened, openTable, openRead, openCall}
 use Rattle.call_offer.specs.Offer.{Offered, offeredEvent, offerCall}
-use Rattle.answers.specs.Answer.{stateOf}
 use Rattle.program.specs.Replies.{Fits, Possible}
 
 -- A rule's fault has a number of 1 to 4.

@@ -13,8 +13,8 @@ refused (held n) = false
 refused (found i) = false
 refused absent = false
 
--- After an accepted offer the program takes until nothing is ready or 36: a take is followed by another exactly if an event was taken or left
--- with 35.
+-- After an accepted offer the program takes until nothing is ready or 36: a take is followed by another exactly if an
+-- event was taken or left with 35.
 unfoldable pub takesAgain : Answer → Bool
 takesAgain (turnedBack n place) = eqb n 35
 takesAgain (state counts truth kept) = true
@@ -32,7 +32,8 @@ accepted (held n) = true
 accepted (found i) = false
 accepted absent = false
 
--- The stages: the line that comes next is the watch line (0), the rule's (1), the start labels' (2) or an event's (3); or the program is over (4).
+-- The stages: the line that comes next is the watch line (0), the rule's (1), the start labels' (2) or an event's (3);
+-- or the program is over (4).
 abbrev pub watchStage : ℕ
 watchStage = 0
 
@@ -48,6 +49,7 @@ eventStage = 3
 abbrev pub overStage : ℕ
 overStage = 4
 
--- The stage after a line: once the watch is open it stays with events, refused or not; before, a refusal ends the program.
+-- The stage after a line: once the watch is open it stays with events, refused or not; before, a refusal ends the
+-- program.
 unfoldable pub nextStage : ℕ → Bool → ℕ
 nextStage stage refusal = cond (leb eventStage stage) stage (cond refusal overStage (stage + 1))

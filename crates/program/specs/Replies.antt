@@ -6,8 +6,8 @@ use mathlib.Core.List.{List}
 use Rattle.answers.specs.Answer.{Answer, turnedBack, state, nothingReady, held, found, absent}
 use Rattle.program.specs.declared.Reply.{Reply}
 
--- A refusal's number and place, both 0 where there is none; the rule's truth; the frontiers kept or the events pending. A state's counts stand in
--- the record.
+-- A refusal's number and place, both 0 where there is none; the rule's truth; the frontiers kept or the events pending.
+-- A state's counts stand in the record.
 unfoldable pub partsOf : Answer → Reply
 partsOf (turnedBack n place) = record { number = n; place = place; holds = false; value = 0 }
 partsOf (state counts truth kept) = record { number = 0; place = 0; holds = truth; value = kept }
@@ -25,8 +25,9 @@ Fits (held n) = n < 65536
 Fits (found i) = i < 65536
 Fits absent = Unit {0}
 
--- An answer to an offer (`true`), or to another line or a take (`false`), that left a record with these taken counts. A refusal's number is not
--- 0, a state's counts are the record's and some frontier is kept, after an accepted offer an event is pending. Find is never asked.
+-- An answer to an offer (`true`), or to another line or a take (`false`), that left a record with these taken counts. A
+-- refusal's number is not 0, a state's counts are the record's and some frontier is kept, after an accepted offer an
+-- event is pending. Find is never asked.
 abbrev pub Possible : Bool → List ℕ → Answer → Type 0
 Possible offered counts (turnedBack n place) = 1 ≤ n
 Possible offered counts (state taken truth kept) = (offered ≡ false) × (taken ≡ counts) × (1 ≤ kept)

@@ -18,8 +18,8 @@ unfoldable pub hasFeed : List ℕ → Bool
 hasFeed [] = false
 hasFeed (b ∷ s) = cond (eqb b 10) true (hasFeed s)
 
--- What is found in bytes that were read, where the line has `kept` bytes so far: the bytes up to the line feed and that one are used, and go behind
--- the line's, as many as there is room for.
+-- What is found in bytes that were read, where the line has `kept` bytes so far: the bytes up to the line feed and that
+-- one are used, and go behind the line's, as many as there is room for.
 pub record Scanned (bytes line : List ℕ) (kept : ℕ) (after : List ℕ) (r : Scan) : Type 0 where
   pub ended : r .feed ≡ hasFeed bytes
   pub passed : r .used ≡ length (upToFeed bytes) + flag (hasFeed bytes)

@@ -1,4 +1,5 @@
--- What each line is answered with, and what it leaves (01, Examples: the program; Turned back, from the input: 5, in its own line).
+-- What each line is answered with, and what it leaves (01, Examples: the program; Turned back, from the input: 5, in
+-- its own line).
 use Prim.Native.Nat.{ℕ, _≤_}
 use mathlib.Core.Path.{_≡_}
 use mathlib.Core.Bool.{true, false, cond}
@@ -23,8 +24,8 @@ use Rattle.program.specs.declared.Session.{Session}
 use Rattle.program.specs.Replies.{partsOf, Fits}
 use Rattle.program.specs.Following.{refused, watchStage, ruleStage, startStage, nextStage}
 
--- What the program knows between two lines, and its answer to the last: the next line's stage, the processes, the room in frontiers, the rule's
--- text, the record and the window.
+-- What the program knows between two lines, and its answer to the last: the next line's stage, the processes, the room
+-- in frontiers, the rule's text, the record and the window.
 pub record Standing : Type 0 where
   pub answer : Answer
   pub stage : ℕ

@@ -40,7 +40,8 @@ verdictText holds = cond holds (ascii ") yes ") (ascii ") no ")
 unfoldable pub stateText : List ℕ → ℕ → Bool → ℕ → List ℕ
 stateText counts k holds kept = ascii "(state (" ++ countsText counts k ++ verdictText holds ++ numeral kept ++ (41 ∷ 10 ∷ [])
 
--- What is printed for an answer, where there are k processes. Nothing ready prints nothing; the program asks for no place.
+-- What is printed for an answer, where there are k processes. Nothing ready prints nothing; the program asks for no
+-- place.
 unfoldable pub answerText : ℕ → Answer → List ℕ
 answerText k (turnedBack n place) = refusedText n place
 answerText k (state counts truth kept) = stateText counts k truth kept

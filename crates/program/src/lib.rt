@@ -1,4 +1,5 @@
-// The program without its input and output: what it answers to each line, the answers' text, and what follows from an answer.
+// The program without its input and output: what it answers to each line, the answers' text, and what follows from an
+// answer.
 
 // Lines out of the bytes that were read.
 pub mod split;
@@ -16,7 +17,8 @@ pub struct Scan {
     pub feed: bool,
 }
 
-// An answer's parts: a refusal's number and place, both 0 where there is none; the rule's truth; the frontiers kept or the events pending.
+// An answer's parts: a refusal's number and place, both 0 where there is none; the rule's truth; the frontiers kept or
+// the events pending.
 pub struct Reply {
     pub number: u64,
     pub place: u64,
@@ -24,7 +26,8 @@ pub struct Reply {
     pub value: u64,
 }
 
-// Where the program stands after a line: the stage of the next line, the processes, the room in frontiers, the length of the rule's text, and the reply to the line.
+// Where the program stands after a line: the stage of the next line, the processes, the room in frontiers, the length
+// of the rule's text, and the reply to the line.
 pub struct Session {
     pub stage: u64,
     pub k: u64,

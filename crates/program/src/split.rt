@@ -5,7 +5,8 @@ ghost use Prim.Native.Nat.{_≤_};
 ghost use lib.ListN.{length};
 ghost use Rattle.program.specs.Split.{Scanned};
 
-// Adds the bytes up to the first line feed, or all, to a line's bytes so far. Those that the line has no room for are passed over.
+// Adds the bytes up to the first line feed, or all, to a line's bytes so far. Those that the line has no room for are
+// passed over.
 pub fn scan(bytes: &[u8], line: &mut [u8], start: usize) -> Scan
     requires { ⌜ start ≤ length (now line) ⌝ }
     ensures { λ r. ⌜ Scanned (now (bytes .entry)) (now (line .entry)) start (now (line .exit)) r ⌝ }

@@ -1,4 +1,5 @@
-// What each line is answered with (01, Examples: the program): the lines come in their order, and each is judged when it is read.
+// What each line is answered with (01, Examples: the program): the lines come in their order, and each is judged when
+// it is read.
 
 use crate::Reply;
 use crate::Session;

@@ -1,7 +1,7 @@
 // The answers' text, laid into a lent buffer piece by piece: each piece goes behind the text so far.
 
 use crate::Reply;
-ghost use Prim.Native.Nat.{ℕ, _+_, _*_, _≤_};
+ghost use Prim.Native.Nat.{_+_, _≤_};
 ghost use mathlib.Core.Path.{_≡_};
 ghost use mathlib.Core.List.{_++_};
 ghost use lib.ListN.{length, take};
@@ -69,8 +69,8 @@ fn put_counts(out: &mut [u8], counts: [u32; 8], k: usize) -> usize
     at
 }
 
-// Lays the text of an answer, given as its parts and the record that the call left: the text's length. `offered` tells an offer's answer from
-// those to other lines and of takes.
+// Lays the text of an answer, given as its parts and the record that the call left: the text's length. `offered` tells
+// an offer's answer from those to other lines and of takes.
 pub fn answer_text(state: &[u8], k: u64, reply: Reply, offered: bool, out: &mut [u8]) -> usize
     requires { ⌜ k ≤ 8 ⌝ }
     requires { ⌜ length (now state) ≡ 1368 ⌝ }

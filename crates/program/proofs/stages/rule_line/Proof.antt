@@ -1,11 +1,10 @@
 -- The reader says where the rule stands within its line, and what stands there is the rule's text (`rule-lies`).
 use native.Mathlib.Omega.{arith}
-use mathlib.Core.Path.{_∙_}
+use mathlib.Core.Path.{_∙_, subst}
 use lib.ListN.{length}
 use Rattle.program.proofs.StageSteps.{rule-refused, rule-stands}
 use Rattle.program.proofs.KeptRule.{part-fits, Lies, rule-lies}
 use Rattle.lines.specs.Lines.{RuleWithin}
-use mathlib.Core.Path.{subst}
 use borrow.Author.Needs.{needs}
 use Rattle.program.proofs.stages.rule_line.Statement.{statement}
 use Rattle.program.proofs.stages.rule_line.Tie as tie

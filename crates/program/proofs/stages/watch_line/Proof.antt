@@ -1,9 +1,9 @@
--- Each way is one of the definition's; the room was at most 1,024, or the line would have been turned back (`room-within`); k was tested.
-use mathlib.Core.Path.{sym, _∙_}
+-- Each way is one of the definition's; the room was at most 1,024, or the line would have been turned back
+-- (`room-within`); k was tested.
+use mathlib.Core.Path.{sym, _∙_, subst}
 use Rattle.program.proofs.StageSteps.{watch-bad, watch-refused, watch-stands}
 use Rattle.program.specs.Rooms.{RoomWithin, room-within}
 use Rattle.refusals.specs.RefusalLaws.{processes-within}
-use mathlib.Core.Path.{subst}
 use borrow.Author.Needs.{needs}
 use Rattle.program.proofs.stages.watch_line.Statement.{statement}
 use Rattle.program.proofs.stages.watch_line.Tie as tie

@@ -1,4 +1,5 @@
--- Before process p the counts below p are laid, at most 21 bytes for each: 20 digits and a space, and no space before the first.
+-- Before process p the counts below p are laid, at most 21 bytes for each: 20 digits and a space, and no space before
+-- the first.
 use native.Mathlib.Omega.{arith}
 use mathlib.Core.Path.{_≡_, refl, sym, _∙_}
 use Prim.Native.Nat.{_≤_, _-_, _+_, _*_}
