@@ -7,33 +7,15 @@ use mathlib.Core.List.{List}
 use lib.Dec.{eqb}
 use lib.ListN.{take}
 use Rattle.codec.specs.Little.{Bytes}
-use Rattle.records.specs.Record.{takenCounts}
 use Rattle.answers.specs.Answer.{Answer, replyWord}
 use Rattle.call_take.specs.Take.{takeCall}
 use Rattle.program.specs.declared.Reply.{Reply}
 use Rattle.program.specs.declared.Session.{Session}
 use Rattle.program.specs.Texts.{answerText}
-use Rattle.program.specs.Replies.{partsOf, Fits, Possible}
+use Rattle.program.specs.Replies.{partsOf}
 use Rattle.program.specs.Following.{accepted, takesAgain, eventStage, overStage}
 use Rattle.program.specs.Stages.{Standing, lineRead, Stands}
-
--- ---- What the code's functions promise, each for every answer that is possible
-
--- answer_text: the text, with k processes, of a reply that left this record.
-abbrev pub TextPromised : ℕ → Bool → List ℕ → Reply → List ℕ → Type 0
-TextPromised k offered bytes reply text =
-    (a : Answer) → Possible offered (takenCounts 2 bytes) a → reply ≡ partsOf a → text ≡ answerText k a
-
--- decode: the parts of a reply word.
-abbrev pub PartsPromised : ℕ → Reply → Type 0
-PartsPromised word reply = (a : Answer) → Fits a → word ≡ replyWord a → reply ≡ partsOf a
-
--- takes and takes_again: whether a take follows.
-abbrev pub FollowPromised : (Answer → Bool) → Bool → Reply → Bool → Type 0
-FollowPromised follows offered reply again =
-    (counts : List ℕ) (a : Answer) → Possible offered counts a → reply ≡ partsOf a → again ≡ follows a
-
--- ---- What holds of them
+use Rattle.program.specs.Promises.{TextPromised, PartsPromised, FollowPromised}
 
 -- What the program knows by its session and buffers, where the last line's answer is a.
 unfoldable pub known : Answer → Session → List ℕ → List ℕ → List ℕ → Standing

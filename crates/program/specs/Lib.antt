@@ -6,6 +6,7 @@ pub mod Replies
 pub mod Following
 pub mod Split
 pub mod Stages
+pub mod Promises
 pub mod Answered
 -- What is proved of it
 pub mod ReplyLaws

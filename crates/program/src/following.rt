@@ -1,17 +1,14 @@
 // What follows from an answer (01, Examples: the program).
 
 use crate::Reply;
-ghost use Prim.Native.Nat.{ℕ};
 ghost use mathlib.Core.Path.{_≡_};
 ghost use mathlib.Core.Bool.{false};
-ghost use mathlib.Core.List.{List};
-ghost use Rattle.answers.specs.Answer.{Answer, replyWord};
-ghost use Rattle.program.specs.Replies.{partsOf, Fits, Possible};
 ghost use Rattle.program.specs.Following.{accepted, takesAgain, nextStage};
+ghost use Rattle.program.specs.Promises.{PartsPromised, FollowPromised};
 
 // An answer's parts, out of its reply word.
 pub fn decode(word: u64) -> Reply
-    ensures { λ r. ⌜ ((a : Answer) → Fits a → word ≡ replyWord a → r ≡ partsOf a) ⌝ }
+    ensures { λ r. ⌜ PartsPromised word r ⌝ }
 {
     Reply {
         number: word % 256,
@@ -23,14 +20,14 @@ pub fn decode(word: u64) -> Reply
 
 // Whether takes follow a line: after an offer that was accepted.
 pub fn takes(offered: bool, reply: Reply) -> bool
-    ensures { λ r. ⌜ ((counts : List ℕ) (a : Answer) → Possible offered counts a → reply ≡ partsOf a → r ≡ accepted a) ⌝ }
+    ensures { λ r. ⌜ FollowPromised accepted offered reply r ⌝ }
 {
     offered & (reply.number == 0)
 }
 
 // Whether a take is followed by another.
 pub fn takes_again(reply: Reply) -> bool
-    ensures { λ r. ⌜ ((counts : List ℕ) (a : Answer) → Possible false counts a → reply ≡ partsOf a → r ≡ takesAgain a) ⌝ }
+    ensures { λ r. ⌜ FollowPromised takesAgain false reply r ⌝ }
 {
     (reply.number == 35) | ((reply.number == 0) & (reply.value != 0))
 }

@@ -113,11 +113,11 @@ fn start_line(
     session: Session,
     line: &[u8],
     rule: &[u8],
-    state: &mut [u8],
+    record: &mut [u8],
     window: &mut [u8],
 ) -> Session
     requires { ⌜ Within (length (now rule)) session ⌝ }
-    ensures { λ r. ⌜ ((t : Standing) → Stands t session (now (rule .entry)) (now (state .entry)) (now (window .entry)) → Stands (startRead t (startLine (now (line .entry)) (t .k))) r (now (rule .entry)) (now (state .exit)) (now (window .exit))) ⌝ }
+    ensures { λ r. ⌜ ((t : Standing) → Stands t session (now (rule .entry)) (now («record» .entry)) (now (window .entry)) → Stands (startRead t (startLine (now (line .entry)) (t .k))) r (now (rule .entry)) (now («record» .exit)) (now (window .exit))) ⌝ }
     ensures { λ r. ⌜ Within (length (now (rule .entry))) r ⌝ }
 {
     let k = session.k;
@@ -127,14 +127,14 @@ fn start_line(
         StartLine::Refused { number, place } => refuse(session, number, place),
         StartLine::Start { labels } => replied(
             session,
-            watch_open(&rule[..text], k, labels, state, window),
+            watch_open(&rule[..text], k, labels, record, window),
         ),
     }
 }
 
 // Any further line: an event.
-fn did_line(session: Session, line: &[u8], state: &mut [u8]) -> Session
-    ensures { λ r. ⌜ ((t : Standing) (rule window : List ℕ) → Stands t session rule (now (state .entry)) window → Stands (didRead t (didLine (now (line .entry)) (t .k))) r rule (now (state .exit)) window) ⌝ }
+fn did_line(session: Session, line: &[u8], record: &mut [u8]) -> Session
+    ensures { λ r. ⌜ ((t : Standing) (rule window : List ℕ) → Stands t session rule (now («record» .entry)) window → Stands (didRead t (didLine (now (line .entry)) (t .k))) r rule (now («record» .exit)) window) ⌝ }
     ensures { λ r. ⌜ ((n : ℕ) → Within n session → Within n r) ⌝ }
 {
     let read = lines::did::read_did(line, session.k);
@@ -145,7 +145,7 @@ fn did_line(session: Session, line: &[u8], state: &mut [u8]) -> Session
             low,
             high,
             labels,
-        } => replied(session, watch_offer(mask, low, high, labels, state)),
+        } => replied(session, watch_offer(mask, low, high, labels, record)),
     }
 }
 
@@ -154,12 +154,12 @@ pub fn answer(
     session: Session,
     line: &[u8],
     rule: &mut [u8],
-    state: &mut [u8],
+    record: &mut [u8],
     window: &mut [u8],
 ) -> Session
     requires { ⌜ length (now line) ≤ length (now rule) ⌝ }
     requires { ⌜ Within (length (now rule)) session ⌝ }
-    ensures { λ r. ⌜ ((t : Standing) → Stands t session (now (rule .entry)) (now (state .entry)) (now (window .entry)) → Stands (lineRead t (now (line .entry))) r (now (rule .exit)) (now (state .exit)) (now (window .exit))) ⌝ }
+    ensures { λ r. ⌜ ((t : Standing) → Stands t session (now (rule .entry)) (now («record» .entry)) (now (window .entry)) → Stands (lineRead t (now (line .entry))) r (now (rule .exit)) (now («record» .exit)) (now (window .exit))) ⌝ }
     ensures { λ r. ⌜ Within (length (now (rule .exit))) r ⌝ }
 {
     let stage = session.stage;
@@ -170,7 +170,7 @@ pub fn answer(
         return rule_line(session, line, rule);
     }
     if stage == 2 {
-        return start_line(session, line, rule, state, window);
+        return start_line(session, line, rule, record, window);
     }
-    did_line(session, line, state)
+    did_line(session, line, record)
 }

@@ -6,10 +6,8 @@ ghost use mathlib.Core.Path.{_≡_};
 ghost use mathlib.Core.List.{_++_};
 ghost use lib.ListN.{length, take};
 ghost use Rattle.rules.specs.Text.{ascii};
-ghost use Rattle.records.specs.Record.{takenCounts};
-ghost use Rattle.answers.specs.Answer.{Answer};
-ghost use Rattle.program.specs.Replies.{partsOf, Possible};
-ghost use Rattle.program.specs.Texts.{numeralOf, numeral, countsText, answerText};
+ghost use Rattle.program.specs.Texts.{numeralOf, numeral, countsText};
+ghost use Rattle.program.specs.Promises.{TextPromised};
 
 // Lays bytes from a place on: the place behind them.
 pub fn put(out: &mut [u8], at: usize, bytes: &[u8]) -> usize
@@ -71,12 +69,12 @@ fn put_counts(out: &mut [u8], counts: [u32; 8], k: usize) -> usize
 
 // Lays the text of an answer, given as its parts and the record that the call left: the text's length. `offered` tells
 // an offer's answer from those to other lines and of takes.
-pub fn answer_text(state: &[u8], k: u64, reply: Reply, offered: bool, out: &mut [u8]) -> usize
+pub fn answer_text(record: &[u8], k: u64, reply: Reply, offered: bool, out: &mut [u8]) -> usize
     requires { ⌜ k ≤ 8 ⌝ }
-    requires { ⌜ length (now state) ≡ 1368 ⌝ }
+    requires { ⌜ length (now «record») ≡ 1368 ⌝ }
     requires { ⌜ 256 ≤ length (now out) ⌝ }
     ensures { λ r. ⌜ r ≤ length (now (out .exit)) ⌝ }
-    ensures { λ r. ⌜ ((a : Answer) → Possible offered (takenCounts 2 (now (state .entry))) a → reply ≡ partsOf a → take r (now (out .exit)) ≡ answerText k a) ⌝ }
+    ensures { λ r. ⌜ TextPromised k offered (now («record» .entry)) reply (take r (now (out .exit))) ⌝ }
 {
     if reply.number != 0 {
         let first = piece(out, 0, b"(refused ", reply.number);
@@ -90,7 +88,7 @@ pub fn answer_text(state: &[u8], k: u64, reply: Reply, offered: bool, out: &mut 
         let first = piece(out, 0, b"(held ", reply.value);
         return put(out, first, b")\n");
     }
-    let counts = records::fields::taken_counts(state, 2);
+    let counts = records::fields::taken_counts(record, 2);
     let first = put_counts(out, counts, k as usize);
     if reply.holds {
         let second = piece(out, first, b") yes ", reply.value);

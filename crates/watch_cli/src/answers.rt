@@ -22,12 +22,12 @@ pub(crate) struct Turn {
 }
 
 // Prints an answer's text, whole, so that it is out before the next line is waited for; whether it was written.
-fn print(state: &[u8], k: u64, reply: Reply, offered: bool) -> bool
+fn print(record: &[u8], k: u64, reply: Reply, offered: bool) -> bool
     requires { ⌜ k ≤ 8 ⌝ }
-    requires { ⌜ length (now state) ≡ 1368 ⌝ }
+    requires { ⌜ length (now «record») ≡ 1368 ⌝ }
 {
     let mut out = [0u8; 256];
-    let end = answer_text(state, k, reply, offered, &mut out);
+    let end = answer_text(record, k, reply, offered, &mut out);
     io::write_all(OUT, &out[..end])
 }
 
@@ -41,14 +41,14 @@ pub(crate) fn turns(left: u64, again: bool) -> u64
 }
 
 // Takes and prints, as long as another take is to follow.
-fn take_all(first: bool, k: u64, state: &mut [u8], window: &mut [u8], scratch: &mut [u8])
+fn take_all(first: bool, k: u64, record: &mut [u8], window: &mut [u8], scratch: &mut [u8])
     requires { ⌜ k ≤ 8 ⌝ }
-    requires { ⌜ length (now state) ≡ 1368 ⌝ }
+    requires { ⌜ length (now «record») ≡ 1368 ⌝ }
 {
     let mut left = turns(u64::MAX, first);
     while left > 0 {
-        let reply = decode(watch_take(state, window, scratch));
-        let written = print(state, k, reply, false);
+        let reply = decode(watch_take(record, window, scratch));
+        let written = print(record, k, reply, false);
         left = turns(left, written & takes_again(reply));
     }
 }
@@ -58,23 +58,23 @@ fn take_all(first: bool, k: u64, state: &mut [u8], window: &mut [u8], scratch: &
 pub(crate) fn respond(
     session: Session,
     line: &[u8],
-    state: &mut [u8],
+    record: &mut [u8],
     window: &mut [u8],
     scratch: &mut [u8],
 ) -> Turn
     requires { ⌜ Within 40960 session ⌝ }
-    requires { ⌜ (length (now line) ≤ 40960) × (length (now state) ≡ 1368) × (length (now scratch) ≡ 40960) ⌝ }
+    requires { ⌜ (length (now line) ≤ 40960) × (length (now «record») ≡ 1368) × (length (now scratch) ≡ 40960) ⌝ }
     ensures { λ r. ⌜ Within 40960 (r .session) ⌝ }
 {
     let bytes = 40 * session.room;
     let offered = session.stage == 3;
-    let next = answer(session, line, scratch, state, window);
+    let next = answer(session, line, scratch, record, window);
     let reply = next.reply;
-    let written = print(state, next.k, reply, offered);
+    let written = print(record, next.k, reply, offered);
     take_all(
         takes(offered, reply),
         next.k,
-        state,
+        record,
         window,
         &mut scratch[..bytes],
     );

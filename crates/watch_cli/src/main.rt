@@ -18,7 +18,7 @@ use program::Session;
 fn main() {
     let mut chunk = [0u8; 4096];
     let mut line = [0u8; 4104];
-    let mut state = [0u8; 1368];
+    let mut record = [0u8; 1368];
     let mut window = [0u8; 40960];
     let mut scratch = [0u8; 40960];
     let mut session = Session {
@@ -50,7 +50,7 @@ fn main() {
         let turn = respond(
             session,
             &line[..n],
-            &mut state,
+            &mut record,
             &mut window[..bytes],
             &mut scratch,
         );

@@ -66,7 +66,7 @@ loop-less c = c .turns .ensures
 loop-again : tie.Need-loop-again Inv-loop μ-loop
 loop-again c = let l = c .before .before .before .before .before .before .before .before .before .before .before .before .before .before .before .before .before .before .before .before .loop in
     let n = c .before .before .before .before .before .before .before .before .before .before .before .before .before .before .before .before .next-line in
-    (omega (arith, n .ensures .1, c .before .before .before .before .before .before .before .before .before .before .before .before .before .before .before .chunk2 .given), c .before .before .before .before .before .respond .ensures, omega (arith, c .before .before .before .before .before .before .before .before .before .before .before .before .before .before .before .chunk2 .given), omega (arith, c .before .before .before .before .before .before .before .before .before .before .before .before .before .before .line2 .given), omega (arith, c .before .before .before .before .state2 .given, l .inv .4), length-front (l .window) (c .before .before .before .before .before .respond .last .1 .1 .1 .0) (40 * l .session .room) (c .before .before .before .window2 .given) ∙ l .inv .5, omega (arith, c .before .before .scratch2 .given, l .inv .6))
+    (omega (arith, n .ensures .1, c .before .before .before .before .before .before .before .before .before .before .before .before .before .before .before .chunk2 .given), c .before .before .before .before .before .respond .ensures, omega (arith, c .before .before .before .before .before .before .before .before .before .before .before .before .before .before .before .chunk2 .given), omega (arith, c .before .before .before .before .before .before .before .before .before .before .before .before .before .before .line2 .given), omega (arith, c .before .before .before .before .record2 .given, l .inv .4), length-front (l .window) (c .before .before .before .before .before .respond .last .1 .1 .1 .0) (40 * l .session .room) (c .before .before .before .window2 .given) ∙ l .inv .5, omega (arith, c .before .before .scratch2 .given, l .inv .6))
 
 returns-2 : tie.Need-returns-2 Inv-loop μ-loop
 returns-2 c = search needs

@@ -15,7 +15,7 @@ returns c = let r = c .watch-line in
     let test = c .before in
     let start = test .before .before .before .before .before in
     let a = start .args in (
-      λ t h. rw (eq-eqb (t .stage) 0 (sym (h .stage) ∙ test .if1 .taken)) (r .ensures .0 t (a .rule .now) (a .state .now) (a .window .now) h),
+      λ t h. rw (eq-eqb (t .stage) 0 (sym (h .stage) ∙ test .if1 .taken)) (r .ensures .0 t (a .rule .now) (a .«record» .now) (a .window .now) h),
       r .ensures .1 _ (start .pre .1),
     )
 
@@ -31,7 +31,7 @@ returns-2 c = let r = c .before .before .rule-line in
     let test = c .before .before .before .before in
     let start = test .before .before .before .before .before .before in
     let a = start .args in (
-      λ t h. rw (ne-eqb (t .stage) 0 (λ e. test .before .if1 .left (h .stage ∙ e)), eq-eqb (t .stage) 1 (sym (h .stage) ∙ test .if2 .taken)) (r .ensures .0 t (a .state .now) (a .window .now) h),
+      λ t h. rw (ne-eqb (t .stage) 0 (λ e. test .before .if1 .left (h .stage ∙ e)), eq-eqb (t .stage) 1 (sym (h .stage) ∙ test .if2 .taken)) (r .ensures .0 t (a .«record» .now) (a .window .now) h),
       r .ensures .1,
     )
 

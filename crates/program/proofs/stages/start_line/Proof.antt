@@ -31,8 +31,8 @@ returns : tie.Need-returns
 returns c = let known = c .before .before in
     let start = known .before .before .before .before .before .before .before in
     let a = start .args in (
-      λ t h. rw (start-refused t (a .session) (a .rule .now) (a .state .now) (a .window .now) h (a .line .now) _ (known .before .before .read-start .ensures) _ _ (known .read .given .1))
-          (c .refuse .ensures .0 t (a .rule .now) (a .state .now) (a .window .now) h),
+      λ t h. rw (start-refused t (a .session) (a .rule .now) (a .«record» .now) (a .window .now) h (a .line .now) _ (known .before .before .read-start .ensures) _ _ (known .read .given .1))
+          (c .refuse .ensures .0 t (a .rule .now) (a .«record» .now) (a .window .now) h),
       c .refuse .ensures .1 _ (start .pre),
     )
 
@@ -48,7 +48,7 @@ returns-2 c = let opened = c .before .before .before .before .before .watch-open
     let start = known .before .before .before .before .before .before .before in
     let a = start .args in
     let q = c .replied .ensures in (
-      λ t h. start-stands t (a .session) (a .rule .now) (a .state .now) (a .window .now) h (a .line .now) _ (known .before .before .read-start .ensures) _ _ _ _ _ (known .read2 .given .1) q (opened .ensures .0) (opened .ensures .1 .0) (opened .ensures .1 .1),
+      λ t h. start-stands t (a .session) (a .rule .now) (a .«record» .now) (a .window .now) h (a .line .now) _ (known .before .before .read-start .ensures) _ _ _ _ _ (known .read2 .given .1) q (opened .ensures .0) (opened .ensures .1 .0) (opened .ensures .1 .1),
       record { processes = rw (q .processes) (start .pre .processes); frontiers = rw (q .frontiers) (start .pre .frontiers); text = rw (q .text) (start .pre .text) },
     )
 

@@ -42,13 +42,13 @@ returns c = let put = c .before .before in
     let test = first .before .before .before in
     let a = test .before .before .before .before .args in (
       omega arith,
-      says-refused (a .offered) (takenCounts 2 (a .state .now)) (a .k) (a .reply) _ (test .if1 .taken)
+      says-refused (a .offered) (takenCounts 2 (a .«record» .now)) (a .k) (a .reply) _ (test .if1 .taken)
           (behind (41 ∷ 10 ∷ []) (behind (numeral _) (behind (32 ∷ []) (first .piece .ensures .1) refl) (second .piece2 .ensures .1)) (put .put .ensures .1)),
     )
 
 returns-2 : tie.Need-returns-2
 returns-2 c = let a = c .before .before .before .before .before .before .args in
-    (omega arith, says-nothing (a .offered) (takenCounts 2 (a .state .now)) (a .k) (a .reply) (c .before .before .if1 .left) (c .if2 .taken))
+    (omega arith, says-nothing (a .offered) (takenCounts 2 (a .«record» .now)) (a .k) (a .reply) (c .before .before .if1 .left) (c .if2 .taken))
 
 slice-aggregate-piece-3 : tie.Need-slice-aggregate-piece-3
 slice-aggregate-piece-3 c = search needs
@@ -73,7 +73,7 @@ returns-3 c = let put = c .before .before in
     let start = test .before .before .before .before .before .before .before in
     let a = start .args in (
       omega (arith, start .pre .1 .1),
-      says-held (a .offered) (takenCounts 2 (a .state .now)) (a .k) (a .reply) _ (test .before .before .before .if1 .left) (test .before .if2 .left) (test .if3 .taken)
+      says-held (a .offered) (takenCounts 2 (a .«record» .now)) (a .k) (a .reply) _ (test .before .before .before .if1 .left) (test .before .if2 .left) (test .if3 .taken)
           (behind (41 ∷ 10 ∷ []) (first .piece3 .ensures .1) (put .put2 .ensures .1)),
     )
 
@@ -107,7 +107,7 @@ returns-4 c = let put = c .before .before in
     let start = test .before .before .before .before .before .before .before in
     let a = start .args in (
       omega (arith, start .pre .1 .1),
-      says-state (a .offered) (takenCounts 2 (a .state .now)) (a .k) (a .reply) _ true (test .before .before .before .if1 .left) (test .before .if2 .left) (test .if3 .left) (second .before .before .before .if4 .taken)
+      says-state (a .offered) (takenCounts 2 (a .«record» .now)) (a .k) (a .reply) _ true (test .before .before .before .if1 .left) (test .before .if2 .left) (test .if3 .left) (second .before .before .before .if4 .taken)
           (behind (41 ∷ 10 ∷ []) (behind (numeral _) (behind (ascii ") yes ") (counts .put-counts .ensures .1 ∙ ap (λ (n : List ℕ). ascii "(state (" ++ countsText n (a .k)) (counts .before .before .taken-counts .ensures)) refl) (second .piece4 .ensures .1)) (put .put3 .ensures .1)),
     )
 
@@ -135,7 +135,7 @@ returns-5 c = let put = c .before .before in
     let start = test .before .before .before .before .before .before .before in
     let a = start .args in (
       omega (arith, start .pre .1 .1),
-      says-state (a .offered) (takenCounts 2 (a .state .now)) (a .k) (a .reply) _ false (test .before .before .before .if1 .left) (test .before .if2 .left) (test .if3 .left) (second .before .before .before .if4 .left)
+      says-state (a .offered) (takenCounts 2 (a .«record» .now)) (a .k) (a .reply) _ false (test .before .before .before .if1 .left) (test .before .if2 .left) (test .if3 .left) (second .before .before .before .if4 .left)
           (behind (41 ∷ 10 ∷ []) (behind (numeral _) (behind (ascii ") no ") (counts .put-counts .ensures .1 ∙ ap (λ (n : List ℕ). ascii "(state (" ++ countsText n (a .k)) (counts .before .before .taken-counts .ensures)) refl) (second .piece5 .ensures .1)) (put .put4 .ensures .1)),
     )
 

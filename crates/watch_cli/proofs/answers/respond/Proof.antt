@@ -25,7 +25,7 @@ slice-aggregate-take-all : tie.Need-slice-aggregate-take-all
 slice-aggregate-take-all c = let p = c .before .before .before .before .before .before .before .before .before .before .before .before .before .before .before .before .before .before .before .before .before .before .before .pre in sym (length-take-le _ _ (omega (arith, c .before .before .before .before .before .before .before .before .before .before .before .before .scratch .given, p .0 .frontiers, p .1 .2)))
 
 take-all-requires : tie.Need-take-all-requires
-take-all-requires c κs = let p = c .before .before .before .before .before .before .before .before .before .before .before .before .before .before .before .before .before .before .before .before .before .before .before .pre in (c .before .before .before .before .before .before .before .before .before .before .before .before .before .answer .ensures .1 .processes, omega (arith, c .before .before .before .before .before .before .before .before .before .before .state .given, p .1 .1))
+take-all-requires c κs = let p = c .before .before .before .before .before .before .before .before .before .before .before .before .before .before .before .before .before .before .before .before .before .before .before .pre in (c .before .before .before .before .before .before .before .before .before .before .before .before .before .answer .ensures .1 .processes, omega (arith, c .before .before .before .before .before .before .before .before .before .before .«record» .given, p .1 .1))
 
 same-length : tie.Need-same-length
 same-length c = search needs
