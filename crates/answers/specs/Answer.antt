@@ -1,5 +1,5 @@
--- The answers of the calls, with 01's numbers and values (01, The calls; Turned back), and the words that C
--- gets.
+-- The answers of the calls, with 01's numbers and values (01, The calls; Turned back; 02 [1]), and the words
+-- that C gets.
 use Prim.Native.Nat.{ℕ, _+_, _*_, _-_}
 use mathlib.Core.Bool.{Bool, true, false}
 use mathlib.Core.List.{List, map}
@@ -16,6 +16,8 @@ pub data Answer : Type 0 where
   nothingReady : Answer
   -- an offer accepted: the number of pending events (01: held)
   held : ℕ → Answer
+  -- an offer of an event that is pending already (02 [1]): neither a refusal nor accepted
+  again : Answer
   -- a kept frontier's place, or none
   found : ℕ → Answer
   absent : Answer
@@ -31,6 +33,7 @@ replyWord (turnedBack n place) = n + 4294967296 * place
 replyWord (state counts truth kept) = 256 * flag truth + 65536 * kept
 replyWord nothingReady = 0
 replyWord (held n) = 65536 * n
+replyWord again = 256
 replyWord (found i) = 256 + 65536 * i
 replyWord absent = 0
 

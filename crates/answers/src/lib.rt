@@ -4,6 +4,9 @@ ghost use Prim.Native.Nat.{_+_, _*_, _<_};
 ghost use mathlib.Core.Path.{_≡_};
 ghost use Rattle.answers.specs.Answer.{flag};
 
+// The word of an offer answered "again": the flag alone.
+pub const AGAIN: u64 = 256;
+
 // The word of an accepted open or take: the rule's truth and the frontiers kept.
 pub fn state_word(holds: bool, kept: u32) -> u64
     ensures { λ r. ⌜ r ≡ 256 * flag holds + 65536 * kept ⌝ }

@@ -1,5 +1,5 @@
--- Offer (01, The calls): an event is added to the pending ones, in its place by lowest process and count; or it is
--- turned back.
+-- Offer (01, The calls; 02 [1]): an event is added to the pending ones, in its place by lowest process and count; or it
+-- is one of them already, or turned back.
 use Prim.Native.Nat.{ℕ, suc, _+_, _%_}
 use mathlib.Core.Bool.{cond}
 use mathlib.Core.List.{List, [], _∷_}
@@ -11,7 +11,8 @@ use Rattle.clocks.specs.Counts.{at}
 use Rattle.clocks.specs.Refusal.{badMask, badClock, badLabels}
 use Rattle.records.specs.Record.{processCount, pendingCount, takenCounts, pendingEvents, inserted}
 use Rattle.refusals.specs.Refusals.{badRecordLength, badState, alreadyTaken, conflicting}
-use Rattle.answers.specs.Answer.{Answer, turnedBack, held}
+use Rattle.repeats.specs.Repeats.{repeated}
+use Rattle.answers.specs.Answer.{Answer, turnedBack, held, again}
 use Rattle.numbers.specs.Refusal.{clockNumber, conflictNumber, fullNumber, labelsNumber, lengthNumber, maskNumber, stateNumber, takenNumber}
 
 -- What a call that is lent the record answers and leaves there.
@@ -38,6 +39,7 @@ offerCall w mask clock labels s =
     (cond (badClock (processCount s) mask clock) (turned clockNumber)
     (cond (badLabels mask labels) (turned labelsNumber)
     (cond (alreadyTaken e (at (takenCounts w s))) (turned takenNumber)
+    (cond (repeated e (pendingEvents w s)) (record { answer = again; bytes = s })
     (cond (conflicting e (pendingEvents w s)) (turned conflictNumber)
     (cond (leb 32 (pendingCount s)) (turned fullNumber)
-    (record { answer = held (pendingCount s + 1); bytes = inserted w s (placeAmong e (pendingEvents w s)) e }))))))))
+    (record { answer = held (pendingCount s + 1); bytes = inserted w s (placeAmong e (pendingEvents w s)) e })))))))))

@@ -1,6 +1,7 @@
-// Offer (01, The calls): an event is added to the pending ones, in its place by lowest process and count; or it is
-// turned back.
+// Offer (01, The calls; 02 [1]): an event is added to the pending ones, in its place by lowest process and count; or it
+// is one of them already, or turned back.
 
+use answers::AGAIN;
 use clocks::Event;
 use numbers::limit::FRONTIERS;
 use numbers::limit::PENDING;
@@ -17,6 +18,7 @@ use refusals::already_taken;
 use refusals::bad_record_length;
 use refusals::bad_state;
 use refusals::conflicting;
+use repeats::repeated;
 use updates::insert_event;
 ghost use Prim.Native.Nat.{ℕ, _≤_, _<_, _^_};
 ghost use mathlib.Core.Path.{_≡_};
@@ -28,6 +30,8 @@ ghost use Rattle.records.specs.Record.{recordLength, pendingCount, pendingEvent
 ghost use Rattle.call_offer.specs.Offer.{placeAmong, offeredEvent, offerCall};
 ghost use Rattle.answers.specs.Answer.{replyWord};
 ghost use Rattle.call_offer.specs.OfferCode.{offerFault};
+ghost use Rattle.refusals.specs.Refusals as conditions;
+ghost use Rattle.repeats.specs.Repeats as repeats;
 
 // The event that an offer brings.
 fn offered_event(mask: u64, clock: [u32; 8], labels: [u8; 8]) -> Event
@@ -59,10 +63,28 @@ pub fn place_among(record: &[u8], w: usize, e: Event) -> usize
     i
 }
 
-// The number that the pending events turn an offer back with, in their order; 0 for none.
-fn pending_fault(conflict: bool, full: bool) -> u64
-    ensures { λ r. ⌜ r ≡ cond conflict 32 (cond full 33 0) ⌝ }
+// Whether a pending event is the same. Such a one conflicts, so that without a conflict there is none to look for.
+fn sent_again(conflict: bool, record: &[u8], w: usize, e: Event) -> bool
+    requires { ⌜ Width w ⌝ }
+    requires { ⌜ length (now «record») ≡ recordLength w ⌝ }
+    requires { ⌜ pendingCount (now «record») ≤ 32 ⌝ }
+    requires { ⌜ 0 < e .mask ⌝ }
+    requires { ⌜ conflict ≡ conditions.conflicting e (pendingEvents w (now «record»)) ⌝ }
+    ensures { λ r. ⌜ r ≡ repeats.repeated e (pendingEvents w (now («record» .entry))) ⌝ }
 {
+    if conflict {
+        return repeated(record, w, e);
+    }
+    false
+}
+
+// What the pending events say of an offer, in their order: again, or a refusal's number; 0 for neither.
+fn pending_fault(again: bool, conflict: bool, full: bool) -> u64
+    ensures { λ r. ⌜ r ≡ cond again 256 (cond conflict 32 (cond full 33 0)) ⌝ }
+{
+    if again {
+        return AGAIN;
+    }
     if conflict {
         return CONFLICT;
     }
@@ -72,7 +94,7 @@ fn pending_fault(conflict: bool, full: bool) -> u64
     0
 }
 
-// The number that an offer is turned back with, in their order; 0 for none.
+// The number that an offer is turned back with, or the word of "again", in their order; 0 for neither.
 pub fn offer_fault(w: usize, mask: u64, clock: [u32; 8], labels: [u8; 8], record: &[u8]) -> u64
     requires { ⌜ Width w ⌝ }
     ensures { λ r. ⌜ r ≡ offerFault w mask clock labels (now («record» .entry)) ⌝ }
@@ -92,8 +114,9 @@ pub fn offer_fault(w: usize, mask: u64, clock: [u32; 8], labels: [u8; 8], record
         return TAKEN;
     }
     let conflict = conflicting(record, w, e);
+    let again = sent_again(conflict, record, w, e);
     let full = PENDING <= pending_count(record);
-    pending_fault(conflict, full)
+    pending_fault(again, conflict, full)
 }
 
 // Offers an event: the reply, and the record's bytes after it.

@@ -6,7 +6,7 @@ pub mod refusal;
 pub mod step;
 // The join of clocks, and valid clocks.
 pub mod join;
-// The order of the pending events, and equality of events.
+// The order of the pending events.
 pub mod order;
 
 // An event as a process reports it (01, Clocks and cuts: event).

@@ -1,10 +1,9 @@
-// The order of the pending events, and equality of events (01, The window: held events; The calls: the same events).
+// The order of the pending events (01, The window: held events).
 
 use crate::Event;
 use crate::Key;
 ghost use mathlib.Core.Path.{_≡_};
 ghost use Rattle.clocks.specs.Key.{keyOf, keyBefore};
-ghost use Rattle.clocks.specs.SameEvent.{sameEvent};
 
 // An event's place in the order: its lowest process, and the count there.
 pub fn key(e: Event) -> Key
@@ -29,24 +28,4 @@ pub fn key_before(a: Key, b: Key) -> bool
         return a.count < b.count;
     }
     false
-}
-
-// Whether two events are the same, by mask, eight counts and eight labels.
-pub fn same_event(a: Event, b: Event) -> bool
-    ensures { λ r. ⌜ r ≡ sameEvent a b ⌝ }
-{
-    if a.mask != b.mask {
-        return false;
-    }
-    let mut p = 0;
-    while p < 8 {
-        if a.clock[p] != b.clock[p] {
-            return false;
-        }
-        if a.labels[p] != b.labels[p] {
-            return false;
-        }
-        p += 1;
-    }
-    true
 }

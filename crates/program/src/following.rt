@@ -18,11 +18,11 @@ pub fn decode(word: u64) -> Reply
     }
 }
 
-// Whether takes follow a line: after an offer that was accepted.
+// Whether takes follow a line: after an offer that was accepted, and so left an event pending.
 pub fn takes(offered: bool, reply: Reply) -> bool
     ensures { λ r. ⌜ FollowPromised accepted offered reply r ⌝ }
 {
-    offered & (reply.number == 0)
+    offered & (reply.value != 0)
 }
 
 // Whether a take is followed by another.

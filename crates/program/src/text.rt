@@ -82,6 +82,9 @@ pub fn answer_text(record: &[u8], k: u64, reply: Reply, offered: bool, out: &mut
         return put(out, second, b")\n");
     }
     if reply.value == 0 {
+        if reply.holds {
+            return put(out, 0, b"(again)\n");
+        }
         return 0;
     }
     if offered {

@@ -4,3 +4,4 @@
 pub mod Record
 -- What is proved of them
 pub mod RecordLaws
+pub mod PendingSearch

@@ -13,25 +13,6 @@ use Rattle.records.specs.Record.{lineTotal, pendingCount, tableLines, pendingAt
 use Rattle.refusals.specs.Refusals.{conflicts, conflicting}
 use Rattle.clocks.specs.stored.CountsLaws.{rest-next, rest-end}
 
--- ---- 32
-
--- Among the pending events from number i on.
-abbrev pub conflictingFrom : ℕ → List ℕ → Event → ℕ → Bool
-conflictingFrom w s e i = conflicting e (drop i (pendingEvents w s))
-
-module _ (w : ℕ) (s : List ℕ) (e : Event) (i : ℕ) where
-  pub conflict-here : i < pendingCount s → conflicts e (pendingAt w s i) ≡ true → conflictingFrom w s e i ≡ true
-  unfolding conflicting anyOf pendingEvents
-  conflict-here l h = rw (rest-next (pendingCount s) (pendingAt w s) i l, h)
-
-  pub conflict-next : i < pendingCount s → conflicts e (pendingAt w s i) ≡ false → conflictingFrom w s e i ≡ conflictingFrom w s e (i + 1)
-  unfolding conflicting anyOf pendingEvents
-  conflict-next l h = rw (rest-next (pendingCount s) (pendingAt w s) i l, h)
-
-  pub conflict-none : pendingCount s ≤ i → conflictingFrom w s e i ≡ false
-  unfolding conflicting anyOf pendingEvents
-  conflict-none l = rw (rest-end (pendingCount s) (pendingAt w s) i l)
-
 -- ---- 34
 
 -- The table that is lent is the record's from its place on.

@@ -1,20 +1,17 @@
 -- The test of equal events says that they are equal.
 use Prim.Native.Nat.{ℕ, _<_}
 use native.Mathlib.Omega.{arith}
-use mathlib.Core.Path.{_≡_, refl, sym, _∙_}
-use mathlib.Core.Bool.{Bool, true, false, _&&_}
+use mathlib.Core.Path.{_≡_, sym, _∙_}
 use mathlib.Core.List.{List}
 use mathlib.Core.Logic.{_↔_}
 use lib.Dec.{T, eqb, eqb→eq, eqb-refl}
 use lib.ListN.{length}
 use lib.Seq.{ext-getD}
-use borrow.Author.Tests.{eq-eqb, ne-eqb}
 use Rattle.clocks.specs.declared.Event.{Event}
 use Rattle.clocks.specs.Bounded.{allBelow}
 use Rattle.clocks.specs.stored.BoundedLaws.{and-i, and-l, and-r, all-i, all-e}
 use Rattle.clocks.specs.Counts.{at}
 use Rattle.clocks.specs.SameEvent.{sameAt, sameEvent}
-use Rattle.clocks.specs.stored.BoundedTurns.{all-stop}
 
 pub same-refl : (e : Event) → T (sameEvent e e)
 unfolding sameEvent
@@ -41,23 +38,6 @@ same-equal e f ec fc el fl t = λ i. record { mask = masks i; clock = clocks i; 
 
     labels : e .labels ≡ f .labels
     labels = same-eight (e .labels) (f .labels) el fl (λ p l. eqb→eq _ _ (and-r (eqb (at (e .clock) p) (at (f .clock) p)) (eqb (at (e .labels) p) (at (f .labels) p)) (each p l)))
-
--- ---- What a look at the two events, process by process, tells
-pub differ-mask : (e f : Event) → (e .mask ≡ f .mask → ⊥) → sameEvent e f ≡ false
-unfolding sameEvent
-differ-mask e f n = rw (ne-eqb (e .mask) (f .mask) n)
-
-pub differ-at : (e f : Event) (p : ℕ) → p < 8 → sameAt e f p ≡ false → sameEvent e f ≡ false
-unfolding sameEvent
-differ-at e f p l d = rw (all-stop 8 p (sameAt e f) l d) (and-false (eqb (e .mask) (f .mask)))
-  where
-    and-false : (b : Bool) → (b && false) ≡ false
-    and-false true = refl
-    and-false false = refl
-
-pub same-all : (e f : Event) → e .mask ≡ f .mask → allBelow 8 (sameAt e f) ≡ true → sameEvent e f ≡ true
-unfolding sameEvent
-same-all e f m a = rw (eq-eqb (e .mask) (f .mask) m) a
 
 -- ---- Theorem
 pub same-event-test : (e f : Event) → length (e .clock) ≡ 8 → length (f .clock) ≡ 8 → length (e .labels) ≡ 8 → length (f .labels) ≡ 8 → T (sameEvent e f) ↔ (e ≡ f)

@@ -1,5 +1,5 @@
--- No pending event passed conflicts; the first that does decides: the laws `conflict-next`, `conflict-here` and
--- `conflict-none`.
+-- No pending event passed conflicts; the first that does decides: the laws `search-next`, `search-here` and
+-- `search-none`.
 use Rattle.refusals.proofs.conflicting.Tie as tie
 use Prim.Native.Nat.{_-_, _≤_}
 use native.Mathlib.Omega.{arith}
@@ -9,10 +9,10 @@ use denote.Ref.{now}
 use Rattle.refusals.proofs.conflicting.Statement.{statement}
 use Rattle.records.specs.Record.{pendingAt, pendingEvents}
 use Rattle.refusals.specs.Refusals.{conflicts, conflicting}
-use Rattle.refusals.proofs.RefusalSteps.{conflictingFrom, conflict-here, conflict-next, conflict-none}
+use Rattle.records.specs.PendingSearch.{passesFrom, search-here, search-next, search-none}
 
 abbrev Inv-loop : tie.InvT-loop
-Inv-loop s w e n i₀ i = (i ≤ n) × (conflicting e (pendingEvents w s) ≡ conflictingFrom w s e i)
+Inv-loop s w e n i₀ i = (i ≤ n) × (conflicting e (pendingEvents w s) ≡ passesFrom w s (conflicts e) i)
 
 abbrev μ-loop : tie.MeasureT-loop
 μ-loop s w e n i₀ i = n - i
@@ -21,6 +21,7 @@ pending-count-requires : tie.Need-pending-count-requires Inv-loop μ-loop
 pending-count-requires c κs = search needs
 
 loop-holds : tie.Need-loop-holds Inv-loop μ-loop
+unfolding conflicting
 loop-holds c = (search needs, refl)
 
 pending-event-requires : tie.Need-pending-event-requires Inv-loop μ-loop
@@ -37,7 +38,7 @@ returns : tie.Need-returns Inv-loop μ-loop
 returns c =
     let a = c .before .before .before .before .before .before .before .args in
     let l = c .before .before .before .before .loop in
-    sym (l .inv .1 ∙ conflict-here (a .w) (now (a .«record»)) (a .e) (l .i) (omega arith) (here (c .before) ∙ c .if1 .taken))
+    sym (l .inv .1 ∙ search-here (a .w) (now (a .«record»)) (conflicts (a .e)) (l .i) (omega arith) (here (c .before) ∙ c .if1 .taken))
 
 add-i : tie.Need-add-i Inv-loop μ-loop
 add-i c = search needs
@@ -49,13 +50,13 @@ loop-again : tie.Need-loop-again Inv-loop μ-loop
 loop-again c =
     let a = c .before .before .before .before .before .before .before .args in
     let l = c .before .before .before .before .loop in
-    (search needs, l .inv .1 ∙ conflict-next (a .w) (now (a .«record»)) (a .e) (l .i) (omega arith) (here (c .before) ∙ c .if1 .left))
+    (search needs, l .inv .1 ∙ search-next (a .w) (now (a .«record»)) (conflicts (a .e)) (l .i) (omega arith) (here (c .before) ∙ c .if1 .left))
 
 returns-2 : tie.Need-returns-2 Inv-loop μ-loop
 returns-2 c =
     let a = c .before .before .before .before .args in
     let l = c .before .loop in
-    sym (l .inv .1 ∙ conflict-none (a .w) (now (a .«record»)) (a .e) (l .i) (omega arith))
+    sym (l .inv .1 ∙ search-none (a .w) (now (a .«record»)) (conflicts (a .e)) (l .i) (omega arith))
 
 pub conflicting-spec : {M : Type 1} → statement M
 conflicting-spec =

@@ -5,13 +5,13 @@ use mathlib.Core.Path.{_≡_, sym}
 use mathlib.Core.Bool.{true}
 use borrow.Author.Tests.{eq-eqb, ne-eqb}
 use borrow.Author.Needs.{needs}
 use Rattle.clocks.specs.Bounded.{allBelow}
 use Rattle.clocks.specs.Counts.{at}
 use Rattle.clocks.specs.SameEvent.{sameAt}
 use Rattle.clocks.specs.stored.BoundedTurns.{all-none, all-next}
-use Rattle.clocks.specs.stored.SameEventLaws.{differ-mask, differ-at, same-all}
-use Rattle.clocks.proofs.order.same_event.Statement.{statement}
-use Rattle.clocks.proofs.order.same_event.Tie as tie
+use Rattle.repeats.proofs.RepeatSteps.{differ-mask, differ-at, same-all}
+use Rattle.repeats.proofs.same_event.Statement.{statement}
+use Rattle.repeats.proofs.same_event.Tie as tie
 
 abbrev Inv-loop : tie.InvT-loop
 Inv-loop a b p₀ p = (p ≤ 8) × (a .mask ≡ b .mask) × (allBelow p (sameAt a b) ≡ true)

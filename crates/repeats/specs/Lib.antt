@@ -1,0 +1,6 @@
+-- Events that are sent again.
+
+-- What a reader has to believe
+pub mod Repeats
+-- What is proved
+pub mod RepeatLaws
