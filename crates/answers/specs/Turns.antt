@@ -25,6 +25,11 @@ abbrev pub Positive : Turns → Type 0
 Positive end = Unit
 Positive (turn b n ts) = (0 < n) × Positive ts
 
+-- What holds of a choice, by the test that decides it.
+pub by-test : {A : Type 0} (P : A → Type 0) (b : Bool) (x y : A) → (b ≡ true → P x) → (b ≡ false → P y) → P (cond b x y)
+by-test P true x y p q = p refl
+by-test P false x y p q = q refl
+
 -- The number alone decides.
 pub chosen-by : {A : Type 0} (ts : Turns) (f : ℕ → A) (x : A) → Positive ts → chosen ts f x ≡ cond (eqb (numberOf ts) 0) x (f (numberOf ts))
 chosen-by end f x p = refl

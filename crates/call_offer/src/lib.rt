@@ -64,15 +64,15 @@ pub fn place_among(record: &[u8], w: usize, e: Event) -> usize
 }
 
 // Whether a pending event is the same. Such a one conflicts, so that without a conflict there is none to look for.
-fn sent_again(conflict: bool, record: &[u8], w: usize, e: Event) -> bool
+fn sent_again(suspected: bool, record: &[u8], w: usize, e: Event) -> bool
     requires { ⌜ Width w ⌝ }
     requires { ⌜ length (now «record») ≡ recordLength w ⌝ }
     requires { ⌜ pendingCount (now «record») ≤ 32 ⌝ }
     requires { ⌜ 0 < e .mask ⌝ }
-    requires { ⌜ conflict ≡ conditions.conflicting e (pendingEvents w (now «record»)) ⌝ }
+    requires { ⌜ suspected ≡ conditions.conflicting e (pendingEvents w (now «record»)) ⌝ }
     ensures { λ r. ⌜ r ≡ repeats.repeated e (pendingEvents w (now («record» .entry))) ⌝ }
 {
-    if conflict {
+    if suspected {
         return repeated(record, w, e);
     }
     false
@@ -126,9 +126,9 @@ pub fn offer(w: usize, mask: u64, clock: [u32; 8], labels: [u8; 8], record: &mut
     ensures reply { λ r. ⌜ r ≡ replyWord (offerCall w mask clock labels (now («record» .entry)) .answer) ⌝ }
     ensures bytes { λ r. ⌜ now («record» .exit) ≡ offerCall w mask clock labels (now («record» .entry)) .bytes ⌝ }
 {
-    let fault = offer_fault(w, mask, clock, labels, record);
-    if fault != 0 {
-        return fault;
+    let reply = offer_fault(w, mask, clock, labels, record);
+    if reply != 0 {
+        return reply;
     }
     let e = offered_event(mask, clock, labels);
     let n = pending_count(record);

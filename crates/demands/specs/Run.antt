@@ -14,7 +14,7 @@ use Rattle.call_take.specs.Take.{Decision, tried, takeCall, undecided, false-cl
 use Rattle.records.specs.Record.{keptCount, pendingAt, pendingEvents}
 use Rattle.refusals.specs.Refusals.{roomOf}
 use Rattle.call_open.specs.Open.{Opened}
-use Rattle.answers.specs.Answer.{Answer, turnedBack, state, nothingReady, held, found, absent}
+use Rattle.answers.specs.Answer.{Answer, turnedBack, state, nothingReady, held, again, found, absent}
 use Rattle.call_offer.specs.Offer.{placeAmong, offeredEvent, offerCall}
 use Rattle.demands.specs.Ledger.{Ledger}
 use Rattle.demands.specs.Status.{insertAt, removeAt}
@@ -66,16 +66,18 @@ takenLedger w s i L (turnedBack n j) =
     L
 takenLedger w s i L nothingReady = L
 takenLedger w s i L (held n) = L
+takenLedger w s i L again = L
 takenLedger w s i L (found j) = L
 takenLedger w s i L absent = L
 
--- The ledger and the accepted events after an offer's answer.
+-- The ledger and the accepted events after an offer's answer: "again" is none that accepts.
 unfoldable pub offeredLedger : ℕ → List ℕ → Event → Ledger → Answer → Ledger
 offeredLedger w s e L (held n) = record {
   history = L .history;
   pending = insertAt (placeAmong e (pendingEvents w s)) e (L .pending);
   falsified = L .falsified;
 }
+offeredLedger w s e L again = L
 offeredLedger w s e L (turnedBack n i) = L
 offeredLedger w s e L (state c t k) = L
 offeredLedger w s e L nothingReady = L
@@ -84,6 +86,7 @@ offeredLedger w s e L absent = L
 
 unfoldable pub acceptedBy : Event → List Event → Answer → List Event
 acceptedBy e es (held n) = e ∷ es
+acceptedBy e es again = es
 acceptedBy e es (turnedBack n i) = es
 acceptedBy e es (state c t k) = es
 acceptedBy e es nothingReady = es

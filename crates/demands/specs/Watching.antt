@@ -61,6 +61,6 @@ pub record Watching (w k : ℕ) (table : List Line) (start : Cut) (L : Ledger) (
   pub right : Kept-right k Valid L
   pub ordered : Ordered (L .pending)
   pub clear : Clear (L .pending)
-  pub faultless : (e : Event) → List·Memᴰ e (L .pending) → Faultless k e
+  pub faultless : (e : Event) → List·Memᴰ e (L .history) ⊎ List·Memᴰ e (L .pending) → Faultless k e
   pub storable : (e : Event) → List·Memᴰ e (L .history) ⊎ List·Memᴰ e (L .pending) → Storable w e
   pub many : length (L .pending) ≤ 32

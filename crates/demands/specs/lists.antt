@@ -12,3 +12,5 @@ pub mod TakeAnswers
 pub mod WindowExact
 pub mod OrderIndependent
 pub mod Find
+pub mod WithoutAgains
+pub mod Again

@@ -4,3 +4,4 @@ pub mod OrderIndependent
 pub mod TakeAnswers
 pub mod Balance
 pub mod Find
+pub mod Again

@@ -12,5 +12,8 @@ returns-2 c = search needs
 returns-3 : tie.Need-returns-3
 returns-3 c = search needs
 
+returns-4 : tie.Need-returns-4
+returns-4 c = search needs
+
 pub pending-fault-spec : {M : Type 1} → statement M
-pending-fault-spec = tie.close (tie.spec returns returns-2 returns-3)
+pending-fault-spec = tie.close (tie.spec returns returns-2 returns-3 returns-4)

@@ -26,7 +26,8 @@ use Rattle.demands.specs.calls.WatchingLaws.{says-pending, lent-longer, 
 use Rattle.call_offer.specs.Offer.{offeredEvent}
 use Rattle.demands.specs.Ledger.{Ledger}
 use Rattle.demands.specs.Run.{Passed, Watch, offeredLedger, after, offers, Call, run, takes, finds, takenLedger, stoppedAt, trialOf}
-use Rattle.demands.specs.calls.OfferLaws.{OfferCase, offer-case, accepted-watching, turned, accepted}
+use Rattle.call_offer.specs.OfferCases.{OfferCase, offer-case, turned, repeats, accepted}
+use Rattle.demands.specs.calls.OfferLaws.{accepted-watching}
 use Rattle.call_take.specs.Take.{Decision, tried, decided, takeCall, settingIn, Taken}
 use Rattle.records.specs.Record.{readyIn, validIn, keptCount, removed}
 use Rattle.refusals.specs.Refusals.{badRecordLength, badWindowLength, roomOf, badState}
@@ -81,7 +82,8 @@ module _ (w k : ℕ) (table : List Line) (start : Cut) (R : Rule w k table start
       e = offeredEvent mask clock labels
 
       go : OfferCase w mask clock labels (W .bytes) → WatchRight w k table start (after w (offers mask clock labels) W)
-      go (turned n m q) = rw q X
+      go (turned n some small q) = rw q X
+      go (repeats h7 h q) = rw q X
       go (accepted h7 h8 h9 h31 h32 h33 q) =
           rw (q, says-pending w k table start R (W .ledger) (W .bytes) (W .window) X)
           (rw (says-pending w k table start R (W .ledger) (W .bytes) (W .window) X) at (accepted-watching w k table start R (W .ledger) (W .bytes) (W .window) X mask clock labels p h7 h8 h9 h31 h32 h33))

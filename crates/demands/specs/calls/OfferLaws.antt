@@ -1,5 +1,4 @@
--- What an offer does to a watch written by calls only: turned back it changes nothing, accepted it adds the event to
--- the pending ones.
+-- What an accepted offer does to a watch written by calls only: it adds the event to the pending ones.
 use Prim.Native.Nat.{ℕ, _+_, _%_, _^_, _<_, zero, suc, _≤_}
 use native.Mathlib.Omega.{arith}
 use mathlib.Core.Path.{_≡_, refl, sym, ap, subst, _∙_}
@@ -43,58 +42,6 @@ use Rattle.demands.specs.calls.StoredFits.{sized}
 use Rattle.demands.specs.World.{statusOf}
 use Rattle.demands.specs.bytes.Sized.{Storable}
 
--- ---- An offer comes to one of two things
-pub data OfferCase (w mask : ℕ) (clock labels s : List ℕ) : Type 0 where
-  -- ... and never by 35
-  turned : (n : ℕ) → eqb n 35 ≡ false → offerCall w mask clock labels s ≡ record { answer = turnedBack n 0; bytes = s } → OfferCase w mask clock labels s
-  accepted : badMask (processCount s) mask ≡ false → badClock (processCount s) mask clock ≡ false → badLabels mask labels ≡ false
-      → alreadyTaken (offeredEvent mask clock labels) (at (takenCounts w s)) ≡ false → conflicting (offeredEvent mask clock labels) (pendingEvents w s) ≡ false → leb 32 (pendingCount s) ≡ false
-      → offerCall w mask clock labels s
-      ≡ record { answer = held (pendingCount s + 1); bytes = inserted w s (placeAmong (offeredEvent mask clock labels) (pendingEvents w s)) (offeredEvent mask clock labels) }
-      → OfferCase w mask clock labels s
-
-pub offer-case : (w mask : ℕ) (clock labels s : List ℕ) → OfferCase w mask clock labels s
-unfolding offerCall
-offer-case w mask clock labels s = go6 (badRecordLength w (length s)) refl
-  where
-    e : Event
-    e = offeredEvent mask clock labels
-
-    Out : Type 0
-    Out = OfferCase w mask clock labels s
-
-    go6 : (b : Bool) → badRecordLength w (length s) ≡ b → Out
-    go6 true h6 = turned 6 refl (rw h6)
-    go6 false h6 = go34 (badState w 1024 s) refl
-      where
-        go34 : (b : Bool) → badState w 1024 s ≡ b → Out
-        go34 true h34 = turned 34 refl (rw (h6, h34))
-        go34 false h34 = go7 (badMask (processCount s) mask) refl
-          where
-            go7 : (b : Bool) → badMask (processCount s) mask ≡ b → Out
-            go7 true h7 = turned 7 refl (rw (h6, h34, h7))
-            go7 false h7 = go8 (badClock (processCount s) mask clock) refl
-              where
-                go8 : (b : Bool) → badClock (processCount s) mask clock ≡ b → Out
-                go8 true h8 = turned 8 refl (rw (h6, h34, h7, h8))
-                go8 false h8 = go9 (badLabels mask labels) refl
-                  where
-                    go9 : (b : Bool) → badLabels mask labels ≡ b → Out
-                    go9 true h9 = turned 9 refl (rw (h6, h34, h7, h8, h9))
-                    go9 false h9 = go31 (alreadyTaken e (at (takenCounts w s))) refl
-                      where
-                        go31 : (b : Bool) → alreadyTaken e (at (takenCounts w s)) ≡ b → Out
-                        go31 true h31 = turned 31 refl (rw (h6, h34, h7, h8, h9, h31))
-                        go31 false h31 = go32 (conflicting e (pendingEvents w s)) refl
-                          where
-                            go32 : (b : Bool) → conflicting e (pendingEvents w s) ≡ b → Out
-                            go32 true h32 = turned 32 refl (rw (h6, h34, h7, h8, h9, h31, h32))
-                            go32 false h32 = go33 (leb 32 (pendingCount s)) refl
-                              where
-                                go33 : (b : Bool) → leb 32 (pendingCount s) ≡ b → Out
-                                go33 true h33 = turned 33 refl (rw (h6, h34, h7, h8, h9, h31, h32, h33))
-                                go33 false h33 = accepted h7 h8 h9 h31 h32 h33 (rw (h6, h34, h7, h8, h9, h31, h32, h33))
-
 -- ---- the lowest process of a well formed event
 lowest-below : (k : ℕ) (e : Event) → WellFormed k e → e .mask < 256 → lowest e < 8
 unfolding involved
@@ -136,7 +83,7 @@ module _ (w k : ℕ) (table : List Line) (start : Cut) (R : Rule w k table start
   unfolding keyOf conflicting conflicts count
   offered-key g h f m q =
       let x : lowest e < 8 = lowest-below k e (g .formed) (offered-storable .mask-fits) in
-      let y : lowest f < 8 = lowest-below k f (X .faultless f m .formed) (X .storable f (inr m) .mask-fits) in
+      let y : lowest f < 8 = lowest-below k f (X .faultless f (inr m) .formed) (X .storable f (inr m) .mask-fits) in
       let p : lowest f ≡ lowest e = ap (λ (c : Key). c .process) q in
       let c : at (f .clock) (lowest f) ≡ at (e .clock) (lowest e) = ap (λ (c : Key). c .count) q in
       let be : involved e (lowest e) ≡ true = lowest-involved e x in
@@ -196,7 +143,7 @@ module _ (w k : ℕ) (table : List Line) (start : Cut) (R : Rule w k table start
       };
       ordered = insert-ordered e (L .pending) (X .ordered) (offered-key g (rw (says-pending w k table start R L bytes window X) at h32));
       clear = clear-insert i e (L .pending) (X .clear) (λ f m. offered-clear (rw (says-pending w k table start R L bytes window X) at h32) f m g);
-      faultless = λ f m. ⊎-elim (λ q. rw q g) (X .faultless f) (member-insertAt i e (L .pending) f .0 m);
+      faultless = λ f. ⊎-elim (λ m. X .faultless f (inl m)) (λ m. ⊎-elim (λ q. rw q g) (λ n. X .faultless f (inr n)) (member-insertAt i e (L .pending) f .0 m));
       storable = λ f. ⊎-elim (λ m. X .storable f (inl m)) (λ m. ⊎-elim (λ q. rw q offered-storable) (λ n. X .storable f (inr n)) (member-insertAt i e (L .pending) f .0 m));
       many = omega (arith, free, length-insertAt i e (L .pending));
     }

@@ -141,7 +141,7 @@ module _ (w : ℕ) (text : List ℕ) (k : ℕ) (labels window : List ℕ) (some-
     };
     ordered = tt;
     clear = tt;
-    faultless = λ e m. absurd (List·Memᴰ·not-nil m);
+    faultless = λ e. ⊎-elim (λ m. absurd (List·Memᴰ·not-nil m)) (λ m. absurd (List·Memᴰ·not-nil m));
     storable = λ e. ⊎-elim (λ m. absurd (List·Memᴰ·not-nil m)) (λ m. absurd (List·Memᴰ·not-nil m));
     many = omega arith;
   }

@@ -4,7 +4,7 @@ use native.Mathlib.Omega.{arith}
 use mathlib.Core.Path.{_≡_, refl, sym, ap₂, subst, _∙_}
 use mathlib.Core.Bool.{Bool, true, false, cond}
 use mathlib.Core.List.{List, [], _∷_, List·Memᴰ, List·Memᴰ·head, List·Memᴰ·tail, List·Memᴰ·cases-cons, List·Memᴰ·not-nil, List·Memᴰ·append-cases}
-use mathlib.Core.Logic.{⊎-elim, _↔_}
+use mathlib.Core.Logic.{_⊎_, inl, inr, ⊎-elim, _↔_}
 use lib.Dec.{T}
 use lib.ListN.{length, getD, take}
 use Rattle.clocks.specs.declared.Event.{Event}
@@ -81,6 +81,18 @@ ordered-unique (x ∷ xs) (y ∷ ys) s t h =
 -- ---- no two have a count in common
 pub clash-sym : (e f : Event) → NoClash e f → NoClash f e
 clash-sym e f n p a b q = n p b a (sym q)
+
+-- ... at two places, and so two that differ
+pub clear-apart : (es : List Event) → Clear es → (e f : Event) → List·Memᴰ e es → List·Memᴰ f es → (f ≡ e → ⊥) → NoClash e f
+clear-apart [] c e f m n d = absurd (List·Memᴰ·not-nil m)
+clear-apart (g ∷ es) c e f m n d = go (List·Memᴰ·cases-cons m) (List·Memᴰ·cases-cons n) (clear-apart es (c .1) e f)
+  where
+    go : (e ≡ g) ⊎ List·Memᴰ e es → (f ≡ g) ⊎ List·Memᴰ f es
+        → (List·Memᴰ e es → List·Memᴰ f es → (f ≡ e → ⊥) → NoClash e f) → NoClash e f
+    go (inl q) (inl r) further = absurd (d (r ∙ sym q))
+    go (inl q) (inr o) further = rw q (c .0 f o)
+    go (inr o) (inl r) further = rw r (clash-sym g e (c .0 e o))
+    go (inr o) (inr u) further = further o u d
 
 pub clear-insert : (i : ℕ) (e : Event) (es : List Event) → Clear es → ((f : Event) → List·Memᴰ f es → NoClash e f) → Clear (insertAt i e es)
 unfolding insertAt

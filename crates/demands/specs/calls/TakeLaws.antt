@@ -94,7 +94,7 @@ module _ (w k : ℕ) (table : List Line) (start : Cut) (R : Rule w k table start
         };
         ordered = remove-ordered i (L .pending) (X .ordered);
         clear = clear-remove i (L .pending) (X .clear);
-        faultless = λ f q. X .faultless f (remove-e i (L .pending) f q);
+        faultless = λ f. ⊎-elim (λ q. X .faultless f (inl q)) (λ q. X .faultless f (inr (remove-e i (L .pending) f q)));
         storable = λ f. ⊎-elim (λ q. X .storable f (inl q)) (λ q. X .storable f (inr (remove-e i (L .pending) f q)));
         many = omega (arith, X .many, length-removeAt i (L .pending) l);
       }
@@ -167,7 +167,7 @@ module _ (w k : ℕ) (table : List Line) (start : Cut) (R : Rule w k table start
         };
         ordered = remove-ordered i (L .pending) (X .ordered);
         clear = clear-remove i (L .pending) (X .clear);
-        faultless = λ f q. X .faultless f (remove-e i (L .pending) f q);
+        faultless = λ f. ⊎-elim (λ q. ⊎-elim (λ s. rw s (X .faultless e (inr m))) (λ n. X .faultless f (inl n)) (List·Memᴰ·cases-cons q)) (λ q. X .faultless f (inr (remove-e i (L .pending) f q)));
         storable = λ f. ⊎-elim (storable-later f) (λ q. X .storable f (inr (remove-e i (L .pending) f q)));
         many = omega (arith, X .many, length-removeAt i (L .pending) l);
       }

@@ -6,6 +6,7 @@ use mathlib.Core.Path.{_≡_, refl}
 use mathlib.Core.Bool.{Bool, true, false, cond, _||_}
 use mathlib.Core.List.{List, [], _∷_, _++_}
 use lib.Dec.{leb}
+use borrow.Author.Tests.{ne-eqb}
 use lib.ListN.{length, replicate}
 use Rattle.frontiers.specs.declared.Frontier.{Frontier}
 use Rattle.frontiers.specs.Bytes.{frontiers}
@@ -15,14 +16,14 @@ use Rattle.clocks.specs.Event.{Cut}
 use Rattle.codec.specs.Bit.{bit}
 use Rattle.records.specs.Record.{lineTotal, keptCount}
 use Rattle.refusals.specs.Refusals.{roomOf, badRecordLength, badWindowLength, badState}
-use Rattle.answers.specs.Answer.{Answer, turnedBack, found, absent, stateOf}
+use Rattle.answers.specs.Answer.{Answer, turnedBack, again, found, absent, stateOf}
 use Rattle.call_take.specs.Take.{Decision, undecided, false-clock, chosen, decided}
 use Rattle.call_find.specs.Find.{findFrom, findCall}
 use Rattle.demands.specs.Ledger.{Ledger}
 use Rattle.demands.specs.Run.{Watch, Call, offers, takes, finds, offeredLedger, acceptedBy, after}
 use Rattle.demands.specs.Watching.{Rule, Watching}
 use Rattle.demands.specs.statements.Balance.{number, isHeld, isState, isFalseClock}
-use Rattle.demands.specs.calls.OfferLaws.{OfferCase, offer-case, turned, accepted}
+use Rattle.call_offer.specs.OfferCases.{OfferCase, offer-case, turned, repeats, accepted}
 use Rattle.demands.specs.calls.TakeLedger.{ledgerAfter}
 use Rattle.demands.specs.calls.AfterCall.{WatchRight, lengthened, badLengths, decision, take-6, take-else}
 
@@ -50,7 +51,8 @@ offer-said w W Y mask clock labels = go (offer-case w mask clock labels (W .byte
   where
     go : OfferCase w mask clock labels (W .bytes)
         → Said (after w (offers mask clock labels) W .ledger) (after w (offers mask clock labels) W .accepted) (after w (offers mask clock labels) W .answers)
-    go (turned n m q) = rw q (plain (W .ledger) (W .accepted) (W .answers) Y (turnedBack n 0) refl refl m)
+    go (turned n some small q) = rw q (plain (W .ledger) (W .accepted) (W .answers) Y (turnedBack n 0) refl refl (ne-eqb n 35 (omega arith)))
+    go (repeats h7 h q) = rw q (plain (W .ledger) (W .accepted) (W .answers) Y again refl refl refl)
     go (accepted h7 h8 h9 h31 h32 h33 q) =
         rw q (record { accepted-said = omega (arith, Y .accepted-said); taken-said = omega (arith, Y .taken-said); falsified-said = omega (arith, Y .falsified-said) })
 

@@ -20,6 +20,8 @@ use Rattle.clocks.specs.ValidTest.{validBy}
 use Rattle.clocks.specs.Kept.{served, redundantWithin, redundant}
 use Rattle.clocks.specs.Key.{lowest, keyOf, keyBefore}
 use Rattle.clocks.specs.Refusal.{badMask, badClock, badLabels, badStart}
+use Rattle.clocks.specs.SameEvent.{sameEvent}
+use Rattle.repeats.specs.Repeats.{repeated}
 use Rattle.rules.specs.Text.{ascii}
 use Rattle.rules.specs.Reader.{restAt, aWordAt, eWordAt, wordAt, andThen, expect, expectDigit, closeAt, atomAt, innerWith, unaryWith, binaryWith, bodyWith, formAt, readRule}
 use Rattle.rules.specs.Line.{trueLines, constantLines, linesBefore, linesAfter, linesBetween, linesAfterBoth, constantWeight, unaryWeight, binaryWeight, lineCount, linesAt}
@@ -31,7 +33,7 @@ use Rattle.lookup.specs.Seek.{standing, bisect, gallop, seek}
 use Rattle.window.specs.Step.{stays, enabledAt, advanced, filtered, slotCounts, mergeInto, merge, slots, sought, withoutLast, consider, gathered, judgedBy, lay, stepped, keptAfter, fits}
 use Rattle.window.specs.Start.{startFrontier}
 use Rattle.frontiers.specs.Bytes.{frontierLength, countBytes, frontierBytes, frontierFrom, frontierAt, frontiers, framed, windowBytes, replaced}
-use Rattle.answers.specs.Answer.{Answer, turnedBack, state, held, stateOf}
+use Rattle.answers.specs.Answer.{Answer, turnedBack, state, held, again, stateOf}
 use Rattle.records.specs.Record.{keptCount, takenCounts, lastClocks, tableLines, pendingAt, pendingEvents, eventBytes, inserted, removed, clocksSet, counted, readyIn, validIn}
 use Rattle.refusals.specs.Refusals.{badRecordLength, badWindowLength, roomOf, badProcesses, badState, alreadyTaken, conflicts, conflicting}
 use Rattle.call_open.specs.Open.{firstRecord, openTable, openRead, openCall}
@@ -75,6 +77,13 @@ a2 = comes (record { mask = 1; clock = eight 2 0 0; labels = eight 0 0 0 })
 
 abbrev pub b1 : List Call
 b1 = comes (record { mask = 2; clock = eight 0 1 0; labels = eight 0 1 0 })
+
+-- The first of process 0 sent twice, taken, and sent once more.
+abbrev pub sent-a1 : Call
+sent-a1 = offers 1 (eight 1 0 0) (eight 1 0 0)
+
+abbrev pub a1-twice : List Call
+a1-twice = sent-a1 ∷ sent-a1 ∷ takes 0 (replicate 200 0) ∷ sent-a1 ∷ []
 
 -- An event of both, and two that process 0 may have next.
 abbrev pub both : List Call
@@ -133,6 +142,9 @@ pub record StarredExamples : Type 0 where
   pub alone-false : watch 2 someOrder (a1 ++ a2 ++ b1 ++ a3-false ++ a3) .answers
       ≡ state (eight 3 1 0) true 5 ∷ held 1 ∷ turnedBack 35 0 ∷ held 1 ∷ answersAB
   pub alone : watch 2 someOrder (a1 ++ a2 ++ b1 ++ a3) .answers ≡ state (eight 3 1 0) true 5 ∷ held 1 ∷ answersAB
+  -- a1 twice: again while it is pending, 31 once it is taken (02 [1]).
+  pub sent-again : watch 2 (ascii "(at 0 0)") a1-twice .answers
+      ≡ (turnedBack 31 0 ∷ state (eight 1 0 0) true 2 ∷ again ∷ held 1 ∷ state (eight 0 0 0) false 1 ∷ [])
   -- with ap for ep: no at (2 1), and at every state before.
   pub in-every-order : watch 2 everyOrder (a1 ++ a2 ++ b1) .answers
       ≡ (state (eight 2 1 0) false 4 ∷ held 1 ∷ state (eight 2 0 0) false 3 ∷ held 1 ∷ state (eight 1 0 0) false 2 ∷ held 1 ∷ state (eight 0 0 0) false 1 ∷ [])
@@ -161,7 +173,7 @@ frontiersAt21 =
     ∷ []
 
 pub starred : StarredExamples
-unfolding badStart restAt aWordAt eWordAt wordAt andThen expect expectDigit closeAt atomAt innerWith unaryWith binaryWith bodyWith formAt readRule lineCount constantWeight unaryWeight binaryWeight trueLines constantLines linesBefore linesAfter linesBetween linesAfterBoth linesAt startFrontier firstRecord openTable openRead openCall trailingZeros bit bytesOf valueOf number put involved count apply minus listOf allBelow anyBelow anyOf ready joinTo validBy lowest keyOf keyBefore badMask badClock badLabels stays enabledAt advanced filtered slotCounts mergeInto merge slots sought withoutLast consider gathered judgedBy lay stepped keptAfter fits frontierLength countBytes frontierBytes frontierFrom frontierAt frontiers framed windowBytes replaced before same standing bisect gallop seek tableBytes goodLine goodFrom lineAt linesFrom propositionJudged notJudged andJudged eyJudged esJudged asJudged judgeLine judgeFrom takenCounts lastClocks tableLines pendingAt pendingEvents eventBytes inserted removed clocksSet counted badRecordLength badWindowLength roomOf badProcesses badState alreadyTaken conflicts conflicting placeAmong offerCall settingIn readyIn validIn tried stateOf decided takeWithin takeCall after run trialOf stoppedAt takenLedger offeredLedger insertAt removeAt headed vectors sourceKeeps consistent redundant redundantWithin served taken clockOf event isNumber
+unfolding repeated sameEvent badStart restAt aWordAt eWordAt wordAt andThen expect expectDigit closeAt atomAt innerWith unaryWith binaryWith bodyWith formAt readRule lineCount constantWeight unaryWeight binaryWeight trueLines constantLines linesBefore linesAfter linesBetween linesAfterBoth linesAt startFrontier firstRecord openTable openRead openCall trailingZeros bit bytesOf valueOf number put involved count apply minus listOf allBelow anyBelow anyOf ready joinTo validBy lowest keyOf keyBefore badMask badClock badLabels stays enabledAt advanced filtered slotCounts mergeInto merge slots sought withoutLast consider gathered judgedBy lay stepped keptAfter fits frontierLength countBytes frontierBytes frontierFrom frontierAt frontiers framed windowBytes replaced before same standing bisect gallop seek tableBytes goodLine goodFrom lineAt linesFrom propositionJudged notJudged andJudged eyJudged esJudged asJudged judgeLine judgeFrom takenCounts lastClocks tableLines pendingAt pendingEvents eventBytes inserted removed clocksSet counted badRecordLength badWindowLength roomOf badProcesses badState alreadyTaken conflicts conflicting placeAmong offerCall settingIn readyIn validIn tried stateOf decided takeWithin takeCall after run trialOf stoppedAt takenLedger offeredLedger insertAt removeAt headed vectors sourceKeeps consistent redundant redundantWithin served taken clockOf event isNumber
 starred =
     let ab : watch 2 someOrder (a1 ++ a2 ++ b1) .window ≡ windowBytes 2 200 frontiersAt21 = refl in
     let ba : watch 2 someOrder (b1 ++ a1 ++ a2) .window ≡ windowBytes 2 200 frontiersAt21 = refl in
@@ -175,6 +187,7 @@ starred =
       then-both = refl;
       alone-false = refl;
       alone = refl;
+      sent-again = refl;
       in-every-order = refl;
       ap-start = refl;
       ay-start = refl;

@@ -19,7 +19,7 @@ use Rattle.call_offer.specs.Offer.{placeAmong, offeredEvent}
 use Rattle.demands.specs.Ledger.{occurrences, Ledger}
 use Rattle.demands.specs.Run.{Call, Watch, offeredLedger, acceptedBy, after, offers, takes, finds}
 use Rattle.demands.specs.Status.{insertAt, removeAt}
-use Rattle.demands.specs.calls.OfferLaws.{OfferCase, offer-case, turned, accepted}
+use Rattle.call_offer.specs.OfferCases.{OfferCase, offer-case, turned, repeats, accepted}
 use Rattle.demands.specs.calls.AfterCall.{WatchRight, noEvent, lengthened, badLengths, take-6, decision, take-else, trial, ledgerThen}
 use Rattle.demands.specs.calls.TakeLedger.{ledgerAfter}
 use Rattle.demands.specs.statements.Balance.{Balanced}
@@ -49,7 +49,8 @@ module _ (w k : ℕ) (table : List Line) (start : Cut) (R : Rule w k table start
   after-offer W X B mask clock labels = go (offer-case w mask clock labels (W .bytes))
     where
       go : OfferCase w mask clock labels (W .bytes) → WatchBalanced (after w (offers mask clock labels) W)
-      go (turned n m q) = rw q B
+      go (turned n some small q) = rw q B
+      go (repeats h7 h q) = rw q B
       go (accepted h7 h8 h9 h31 h32 h33 q) = rw q
           (record {
             each = λ e. omega (arith, B .each e, occurs-insert e (placeAmong (offeredEvent mask clock labels) (pendingEvents w (W .bytes))) (offeredEvent mask clock labels) (W .ledger .pending));

@@ -24,11 +24,11 @@ use Rattle.clocks.specs.Counts.{listOf}
 use Rattle.clocks.specs.Valid.{History}
 use Rattle.demands.specs.Watching.{Rule, Watching}
 use Rattle.records.specs.Record.{pendingCount, pendingAt, pendingEvents, lineTotal, keptCount}
-use Rattle.answers.specs.Answer.{Answer, turnedBack, state, nothingReady, held, found, absent, stateOf}
+use Rattle.answers.specs.Answer.{Answer, turnedBack, state, nothingReady, held, again, found, absent, stateOf}
 use Rattle.call_offer.specs.Offer.{offeredEvent, placeAmong}
 use Rattle.demands.specs.Ledger.{Ledger, Settled}
 use Rattle.demands.specs.Run.{Watch, offeredLedger, after, offers, Call, takes, finds}
-use Rattle.demands.specs.calls.OfferLaws.{OfferCase, offer-case, turned, accepted}
+use Rattle.call_offer.specs.OfferCases.{OfferCase, offer-case, turned, repeats, accepted}
 use Rattle.demands.specs.lists.Verdicts.{verdict-later, state-true}
 use Rattle.refusals.specs.Refusals.{roomOf, badRecordLength, badWindowLength, badState}
 use Rattle.call_take.specs.TrialLaws.{Outcome, none-decides, falsifies, chooses}
@@ -73,7 +73,8 @@ module _ (w k : ℕ) (f : Formula) (start : Cut) (R : Rule w k (linesAt 0 f) sta
   offer-reporting W Y mask clock labels = go (offer-case w mask clock labels (W .bytes))
     where
       go : OfferCase w mask clock labels (W .bytes) → Reporting (after w (offers mask clock labels) W .ledger) (after w (offers mask clock labels) W .answers)
-      go (turned n m q) = rw q (turned-plain (W .ledger) (W .ledger) (W .answers) Y refl n 0)
+      go (turned n some small q) = rw q (turned-plain (W .ledger) (W .ledger) (W .answers) Y refl n 0)
+      go (repeats h7 h q) = rw q (plain-answer (W .ledger) (W .ledger) (W .answers) Y refl again (λ x. let z : _≡_ {A = ℕ} 0 1 = cc in omega arith) (λ c t m x. let z : _≡_ {A = ℕ} 0 1 = cc in omega arith))
       go (accepted h7 h8 h9 h31 h32 h33 q) = rw q
           (plain-answer (W .ledger) (record { history = W .ledger .history; pending = insertAt (placeAmong (offeredEvent mask clock labels) (pendingEvents w (W .bytes))) (offeredEvent mask clock labels) (W .ledger .pending); falsified = W .ledger .falsified })
           (W .answers) Y refl (held (pendingCount (W .bytes) + 1))

@@ -30,7 +30,8 @@ pub record Sound (w k : ℕ) (f : Formula) (start : Cut) (Z : Watch) : Type 0 wh
   pub said : Said (Z .ledger) (Z .accepted) (Z .answers)
   pub reporting : Reporting w k f start rule (Z .ledger) (Z .answers)
 
-run-sound : (w k : ℕ) (f : Formula) (start : Cut) (cs : List Call) (W : Watch) → AllPassed w cs → Sound w k f start W
+-- From any sound watch on.
+pub run-sound : (w k : ℕ) (f : Formula) (start : Cut) (cs : List Call) (W : Watch) → AllPassed w cs → Sound w k f start W
     → Sound w k f start (run w cs W)
 unfolding run
 run-sound w k f start [] W p S = S

@@ -9,7 +9,7 @@ use lib.ListN.{length}
 use Rattle.clocks.specs.declared.Event.{Event}
 use Rattle.clocks.specs.Event.{one}
 use Rattle.records.specs.Record.{pendingCount}
-use Rattle.answers.specs.Answer.{Answer, turnedBack, state, nothingReady, held, found, absent}
+use Rattle.answers.specs.Answer.{Answer, turnedBack, state, nothingReady, held, again, found, absent}
 use Rattle.demands.specs.Ledger.{occurrences, Ledger, accounted}
 use Rattle.demands.specs.Run.{Watch}
 use Rattle.demands.specs.EveryList.{AfterEveryList}
@@ -28,6 +28,7 @@ isHeld (turnedBack n i) = false
 isHeld (state c t k) = false
 isHeld nothingReady = false
 isHeld (held n) = true
+isHeld again = false
 isHeld (found i) = false
 isHeld absent = false
 
@@ -37,6 +38,7 @@ isState (turnedBack n i) = false
 isState (state c t k) = true
 isState nothingReady = false
 isState (held n) = false
+isState again = false
 isState (found i) = false
 isState absent = false
 
@@ -46,6 +48,7 @@ isFalseClock (turnedBack n i) = eqb n falseClockNumber
 isFalseClock (state c t k) = false
 isFalseClock nothingReady = false
 isFalseClock (held n) = false
+isFalseClock again = false
 isFalseClock (found i) = false
 isFalseClock absent = false
 
