@@ -6,9 +6,9 @@ use mathlib.Core.Bool.{Bool, true, false, not, _&&_, _||_}
 use mathlib.Core.List.{List, []}
 use lib.Dec.{eqb}
 use borrow.Author.Tests.{eq-eqb, ne-eqb}
-use Rattle.answers.specs.Answer.{Answer, turnedBack, state, nothingReady, held, found, absent}
+use Rattle.answers.specs.Answer.{Answer, turnedBack, state, nothingReady, held, again, found, absent}
 use Rattle.program.specs.declared.Reply.{Reply}
-use Rattle.program.specs.Texts.{refusedText, heldText, stateText, answerText}
+use Rattle.program.specs.Texts.{refusedText, heldText, againText, stateText, answerText}
 use Rattle.program.specs.Following.{refused, accepted, takesAgain}
 use Rattle.program.specs.Replies.{partsOf, Fits, Possible}
 use Rattle.program.specs.ReplyLaws.{answerOf, known-by-parts}
@@ -20,19 +20,21 @@ refused-by (turnedBack n place) r h e = rw (e, ne-eqb n 0 (omega arith))
 refused-by (state taken truth kept) r h e = rw e
 refused-by nothingReady r h e = rw e
 refused-by (held n) r h e = rw e
+refused-by again r h e = rw e
 refused-by (found i) r h e = rw e
 refused-by absent r h e = rw e
 
-pub accepted-by : (a : Answer) (r : Reply) (offered : Bool) (counts : List ℕ) → Possible offered counts a → r ≡ partsOf a → (offered && eqb (r .number) 0) ≡ accepted a
+pub accepted-by : (a : Answer) (r : Reply) (offered : Bool) (counts : List ℕ) → Possible offered counts a → r ≡ partsOf a → (offered && not (eqb (r .value) 0)) ≡ accepted a
 unfolding partsOf accepted
-accepted-by (turnedBack n place) r offered counts h e = rw (e, ne-eqb n 0 (omega arith)) (none offered)
+accepted-by (turnedBack n place) r offered counts h e = rw e (none offered)
   where
     none : (b : Bool) → (b && false) ≡ false
     none true = refl
     none false = refl
 accepted-by (state taken truth kept) r offered counts h e = rw (e, h .0)
 accepted-by nothingReady r offered counts h e = rw (e, h)
-accepted-by (held n) r offered counts h e = rw (e, h .0)
+accepted-by (held n) r offered counts h e = rw (e, h .0, ne-eqb n 0 (omega arith))
+accepted-by again r offered counts h e = rw (e, h)
 accepted-by (found i) r offered counts h e = absurd h
 accepted-by absent r offered counts h e = absurd h
 
@@ -50,6 +52,7 @@ again-by (held n) r counts h e = absurd (never (h .0))
   where
     never : false ≡ true → ⊥
     never p = let z : _≡_ {A = ℕ} 0 1 = cc in omega arith
+again-by again r counts h e = rw e
 again-by (found i) r counts h e = absurd h
 again-by absent r counts h e = absurd h
 
@@ -65,9 +68,13 @@ module _ (offered : Bool) (counts : List ℕ) (k : ℕ) (r : Reply) where
   unfolding answerText answerOf
   says-refused text n t = says text (rw (ne-eqb (r .number) 0 n) t)
 
-  pub says-nothing : r .number ≡ 0 → r .value ≡ 0 → Says []
+  pub says-nothing : r .number ≡ 0 → r .value ≡ 0 → r .holds ≡ false → Says []
   unfolding answerText answerOf
-  says-nothing n v = says [] (rw (eq-eqb (r .number) 0 n, eq-eqb (r .value) 0 v))
+  says-nothing n v h = says [] (rw (eq-eqb (r .number) 0 n, eq-eqb (r .value) 0 v, h))
+
+  pub says-again : (text : List ℕ) → r .number ≡ 0 → r .value ≡ 0 → r .holds ≡ true → text ≡ againText → Says text
+  unfolding answerText answerOf
+  says-again text n v h t = says text (rw (eq-eqb (r .number) 0 n, eq-eqb (r .value) 0 v, h) t)
 
   pub says-held : (text : List ℕ) → r .number ≡ 0 → (r .value ≡ 0 → ⊥) → offered ≡ true → text ≡ heldText (r .value) → Says text
   unfolding answerText answerOf

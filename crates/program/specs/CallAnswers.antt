@@ -26,13 +26,15 @@ use Rattle.rules.specs.Fault.{Fault}
 use Rattle.rules.specs.grammar.GrammarTheorem.{reader-first-fault}
 use Rattle.rules.specs.reading.PlaceLaws.{fault-place}
 use Rattle.rules.specs.Reader.{Reading, readRule, formed, refused}
-use Rattle.clocks.specs.Refusal.{badStart, badMask, badClock, badLabels}
-use Rattle.clocks.specs.Counts.{at, listOf}
+use Rattle.clocks.specs.Refusal.{badStart}
+use Rattle.clocks.specs.Counts.{listOf}
 use Rattle.records.specs.Record.{recordLength, processCount, pendingCount, keptCount, takenCounts, pendingAt, pendingEvents, readyIn}
-use Rattle.refusals.specs.Refusals.{badRecordLength, badWindowLength, roomOf, badProcesses, badState, alreadyTaken, conflicting}
+use Rattle.refusals.specs.Refusals.{badRecordLength, badWindowLength, roomOf, badProcesses, badState}
 use Rattle.answers.specs.Answer.{turnedBack, stateOf}
 use Rattle.call_open.specs.Open.{Opened, openTable, openRead, openCall}
-use Rattle.call_offer.specs.Offer.{Offered, offeredEvent, offerCall}
+use Rattle.answers.specs.Turns.{by-test}
+use Rattle.call_offer.specs.Offer.{offerCall}
+use Rattle.call_offer.specs.OfferCases.{OfferCase, offer-case, turned, repeats, accepted}
 use Rattle.program.specs.Replies.{Fits, Possible}
 
 -- A rule's fault has a number of 1 to 4.
@@ -46,8 +48,7 @@ rule-number n s k i (inr (inr (inr h))) = (omega arith, omega arith)
 -- One of two outcomes, by a test.
 module _ {A : Type 0} (P : A → Type 0) where
   chosen : (b : Bool) (x y : A) → P x → (b ≡ false → P y) → P (cond b x y)
-  chosen true x y p q = p
-  chosen false x y p q = q refl
+  chosen b x y p q = by-test P b x y (λ _. p) q
 
 pub open-fits : (w : ℕ) (text : List ℕ) (k : ℕ) (labels s window : List ℕ) → Fits (openCall w text k labels s window .answer)
 unfolding openCall openRead openTable stateOf
@@ -86,37 +87,21 @@ open-possible text k labels s window =
     go (refused n i) e = rule-number n text k i (reader-first-fault text k n i .0 e .here) .0
 
 pub offer-fits : (w mask : ℕ) (clock labels s : List ℕ) → Fits (offerCall w mask clock labels s .answer)
-unfolding offerCall
-offer-fits w mask clock labels s =
-    let by = chosen (λ (o : Offered). Fits (o .answer)) in
-    let turned : ℕ → Offered = λ n. record { answer = turnedBack n 0; bytes = s } in
-    let e = offeredEvent mask clock labels in
-    by (badRecordLength w (length s)) (turned 6) _ (omega arith, omega arith, omega arith) λ _.
-    by (badState w 1024 s) (turned 34) _ (omega arith, omega arith, omega arith) λ _.
-    by (badMask (processCount s) mask) (turned 7) _ (omega arith, omega arith, omega arith) λ _.
-    by (badClock (processCount s) mask clock) (turned 8) _ (omega arith, omega arith, omega arith) λ _.
-    by (badLabels mask labels) (turned 9) _ (omega arith, omega arith, omega arith) λ _.
-    by (alreadyTaken e (at (takenCounts w s))) (turned 31) _ (omega arith, omega arith, omega arith) λ _.
-    by (conflicting e (pendingEvents w s)) (turned 32) _ (omega arith, omega arith, omega arith) λ _.
-    by (leb 32 (pendingCount s)) (turned 33) _ (omega arith, omega arith, omega arith) λ few.
-    omega (arith, leb-false 32 (pendingCount s) few)
+offer-fits w mask clock labels s = go (offer-case w mask clock labels s)
+  where
+    go : OfferCase w mask clock labels s → Fits (offerCall w mask clock labels s .answer)
+    go (turned n some small q) = rw q (omega arith, omega arith, omega arith)
+    go (repeats h7 h q) = rw q tt
+    go (accepted h7 h8 h9 h31 h32 h33 q) = rw q (omega (arith, leb-false 32 (pendingCount s) h33))
 
--- An offer is answered with a refusal or with the number of pending events, which is not 0.
+-- An offer is answered with a refusal, with "again", or with the number of pending events, which is not 0.
 pub offer-possible : (w mask : ℕ) (clock labels s counts : List ℕ) → Possible true counts (offerCall w mask clock labels s .answer)
-unfolding offerCall
-offer-possible w mask clock labels s counts =
-    let by = chosen (λ (o : Offered). Possible true counts (o .answer)) in
-    let turned : ℕ → Offered = λ n. record { answer = turnedBack n 0; bytes = s } in
-    let e = offeredEvent mask clock labels in
-    by (badRecordLength w (length s)) (turned 6) _ (omega arith) λ _.
-    by (badState w 1024 s) (turned 34) _ (omega arith) λ _.
-    by (badMask (processCount s) mask) (turned 7) _ (omega arith) λ _.
-    by (badClock (processCount s) mask clock) (turned 8) _ (omega arith) λ _.
-    by (badLabels mask labels) (turned 9) _ (omega arith) λ _.
-    by (alreadyTaken e (at (takenCounts w s))) (turned 31) _ (omega arith) λ _.
-    by (conflicting e (pendingEvents w s)) (turned 32) _ (omega arith) λ _.
-    by (leb 32 (pendingCount s)) (turned 33) _ (omega arith) λ few.
-    (refl, omega arith)
+offer-possible w mask clock labels s counts = go (offer-case w mask clock labels s)
+  where
+    go : OfferCase w mask clock labels s → Possible true counts (offerCall w mask clock labels s .answer)
+    go (turned n some small q) = rw q some
+    go (repeats h7 h q) = rw q refl
+    go (accepted h7 h8 h9 h31 h32 h33 q) = rw q (refl, omega arith)
 
 -- ---- Take
 

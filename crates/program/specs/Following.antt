@@ -2,7 +2,7 @@
 use Prim.Native.Nat.{ℕ, _+_}
 use mathlib.Core.Bool.{Bool, true, false, cond}
 use lib.Dec.{eqb, leb}
-use Rattle.answers.specs.Answer.{Answer, turnedBack, state, nothingReady, held, found, absent}
+use Rattle.answers.specs.Answer.{Answer, turnedBack, state, nothingReady, held, again, found, absent}
 
 -- A refusal.
 unfoldable pub refused : Answer → Bool
@@ -10,6 +10,7 @@ refused (turnedBack n place) = true
 refused (state counts truth kept) = false
 refused nothingReady = false
 refused (held n) = false
+refused again = false
 refused (found i) = false
 refused absent = false
 
@@ -20,15 +21,17 @@ takesAgain (turnedBack n place) = eqb n 35
 takesAgain (state counts truth kept) = true
 takesAgain nothingReady = false
 takesAgain (held n) = false
+takesAgain again = false
 takesAgain (found i) = false
 takesAgain absent = false
 
--- An event is offered and accepted: takes follow.
+-- An event is offered and accepted: takes follow. After "again" none does (02 [1]).
 unfoldable pub accepted : Answer → Bool
 accepted (turnedBack n place) = false
 accepted (state counts truth kept) = false
 accepted nothingReady = false
 accepted (held n) = true
+accepted again = false
 accepted (found i) = false
 accepted absent = false
 

@@ -6,7 +6,7 @@ use mathlib.Core.Bool.{Bool, true, false, cond}
 use mathlib.Core.List.{List}
 use lib.Dec.{eqb}
 use borrow.Author.Tests.{eq-eqb, ne-eqb}
-use Rattle.answers.specs.Answer.{Answer, turnedBack, state, nothingReady, held, found, absent, replyWord}
+use Rattle.answers.specs.Answer.{Answer, turnedBack, state, nothingReady, held, again, found, absent, replyWord}
 use Rattle.program.specs.declared.Reply.{Reply}
 use Rattle.program.specs.Replies.{partsOf, Fits, Possible}
 
@@ -27,6 +27,7 @@ word-parts (state counts true kept) h = parts (omega arith) (omega arith) (eq-eq
 word-parts (state counts false kept) h = parts (omega arith) (omega arith) (ne-eqb ((256 * 0 + 65536 * kept) / 256 % 2) 1 (omega arith)) (omega arith)
 word-parts nothingReady h = refl
 word-parts (held n) h = parts (omega arith) (omega arith) (ne-eqb (65536 * n / 256 % 2) 1 (omega arith)) (omega arith)
+word-parts again h = refl
 word-parts (found i) h = parts (omega arith) (omega arith) (eq-eqb ((256 + 65536 * i) / 256 % 2) 1 (omega arith)) (omega arith)
 word-parts absent h = refl
 
@@ -34,7 +35,7 @@ word-parts absent h = refl
 unfoldable pub answerOf : Bool → List ℕ → Reply → Answer
 answerOf offered counts r =
     cond (eqb (r .number) 0)
-    (cond (eqb (r .value) 0) nothingReady (cond offered (held (r .value)) (state counts (r .holds) (r .value))))
+    (cond (eqb (r .value) 0) (cond (r .holds) again nothingReady) (cond offered (held (r .value)) (state counts (r .holds) (r .value))))
     (turnedBack (r .number) (r .place))
 
 pub known-by-parts : (offered : Bool) (counts : List ℕ) (a : Answer) (r : Reply) → Possible offered counts a → r ≡ partsOf a → answerOf offered counts r ≡ a
@@ -43,5 +44,6 @@ known-by-parts offered counts (turnedBack n place) r h e = rw (e, ne-eqb n 0 (om
 known-by-parts offered counts (state taken truth kept) r h e = rw (e, ne-eqb kept 0 (omega arith), h .0, h .1)
 known-by-parts offered counts nothingReady r h e = rw e
 known-by-parts offered counts (held n) r h e = rw (e, ne-eqb n 0 (omega arith), h .0)
+known-by-parts offered counts again r h e = rw e
 known-by-parts offered counts (found i) r h e = absurd h
 known-by-parts offered counts absent r h e = absurd h

@@ -1,11 +1,11 @@
--- The answers' text (01, Examples: the program), each with its line feed.
+-- The answers' text (01, Examples: the program; 02 [1]), each with its line feed.
 use Prim.Native.Nat.{ℕ, zero, suc, _+_, _-_, _/_, _%_}
 use mathlib.Core.Bool.{Bool, cond}
 use mathlib.Core.List.{List, [], _∷_, _++_}
 use lib.Dec.{ltb}
 use Rattle.clocks.specs.Counts.{at}
 use Rattle.rules.specs.Text.{ascii}
-use Rattle.answers.specs.Answer.{Answer, turnedBack, state, nothingReady, held, found, absent}
+use Rattle.answers.specs.Answer.{Answer, turnedBack, state, nothingReady, held, again, found, absent}
 
 -- A number's decimal digits, without needless zeros, for a number of at most so many digits.
 unfoldable pub numeralOf : ℕ → ℕ → List ℕ
@@ -33,6 +33,10 @@ refusedText n place = ascii "(refused " ++ numeral n ++ (32 ∷ []) ++ numeral p
 unfoldable pub heldText : ℕ → List ℕ
 heldText n = ascii "(held " ++ numeral n ++ (41 ∷ 10 ∷ [])
 
+-- (again)
+unfoldable pub againText : List ℕ
+againText = ascii "(again)" ++ (10 ∷ [])
+
 -- (state (c ..) yes|no kept), with the counts of k processes
 unfoldable pub verdictText : Bool → List ℕ
 verdictText holds = cond holds (ascii ") yes ") (ascii ") no ")
@@ -47,5 +51,6 @@ answerText k (turnedBack n place) = refusedText n place
 answerText k (state counts truth kept) = stateText counts k truth kept
 answerText k nothingReady = []
 answerText k (held n) = heldText n
+answerText k again = againText
 answerText k (found i) = []
 answerText k absent = []

@@ -3,9 +3,9 @@ use native.Mathlib.Omega.{arith}
 use mathlib.Core.Path.{refl, ap, _∙_}
 use Prim.Native.Nat.{ℕ}
 use mathlib.Core.List.{List, _++_, [], _∷_}
-use Rattle.program.specs.Texts.{numeral, countsText, refusedText, heldText, stateText, verdictText}
+use Rattle.program.specs.Texts.{numeral, countsText, refusedText, heldText, againText, stateText, verdictText}
 use Rattle.program.proofs.TextSteps.{behind}
-use Rattle.program.proofs.ReplySteps.{says-refused, says-nothing, says-held, says-state}
+use Rattle.program.proofs.ReplySteps.{says-refused, says-nothing, says-again, says-held, says-state}
 use Rattle.rules.specs.Text.{ascii}
 use Rattle.records.specs.Record.{takenCounts}
 use mathlib.Core.Bool.{true, false}
@@ -46,16 +46,6 @@ returns c = let put = c .before .before in
           (behind (41 ∷ 10 ∷ []) (behind (numeral _) (behind (32 ∷ []) (first .piece .ensures .1) refl) (second .piece2 .ensures .1)) (put .put .ensures .1)),
     )
 
-returns-2 : tie.Need-returns-2
-returns-2 c = let a = c .before .before .before .before .before .before .args in
-    (omega arith, says-nothing (a .offered) (takenCounts 2 (a .«record» .now)) (a .k) (a .reply) (c .before .before .if1 .left) (c .if2 .taken))
-
-slice-aggregate-piece-3 : tie.Need-slice-aggregate-piece-3
-slice-aggregate-piece-3 c = search needs
-
-piece-requires-3 : tie.Need-piece-requires-3
-piece-requires-3 c κs = search needs
-
 slice-aggregate-put-2 : tie.Need-slice-aggregate-put-2
 slice-aggregate-put-2 c = search needs
 
@@ -65,16 +55,46 @@ put-requires-2 c κs = search needs
 same-length-2 : tie.Need-same-length-2
 same-length-2 c = search needs
 
+returns-2 : tie.Need-returns-2
+unfolding againText
+returns-2 c = let put = c .before .before in
+    let test = put .before .before .before in
+    let start = test .before .before .before .before .before .before .before in
+    let a = start .args in (
+      omega (arith, start .pre .1 .1),
+      says-again (a .offered) (takenCounts 2 (a .«record» .now)) (a .k) (a .reply) _ (test .before .before .before .if1 .left) (test .before .if2 .taken) (test .if3 .taken)
+          (put .put2 .ensures .1),
+    )
+
 returns-3 : tie.Need-returns-3
+returns-3 c = let a = c .before .before .before .before .before .before .before .args in
+    (omega arith, says-nothing (a .offered) (takenCounts 2 (a .«record» .now)) (a .k) (a .reply) (c .before .before .before .if1 .left) (c .before .if2 .taken) (c .if3 .left))
+
+slice-aggregate-piece-3 : tie.Need-slice-aggregate-piece-3
+slice-aggregate-piece-3 c = search needs
+
+piece-requires-3 : tie.Need-piece-requires-3
+piece-requires-3 c κs = search needs
+
+slice-aggregate-put-3 : tie.Need-slice-aggregate-put-3
+slice-aggregate-put-3 c = search needs
+
+put-requires-3 : tie.Need-put-requires-3
+put-requires-3 c κs = search needs
+
+same-length-3 : tie.Need-same-length-3
+same-length-3 c = search needs
+
+returns-4 : tie.Need-returns-4
 unfolding heldText
-returns-3 c = let put = c .before .before in
+returns-4 c = let put = c .before .before in
     let first = put .before .before .before .before .before in
     let test = first .before .before .before in
     let start = test .before .before .before .before .before .before .before in
     let a = start .args in (
       omega (arith, start .pre .1 .1),
-      says-held (a .offered) (takenCounts 2 (a .«record» .now)) (a .k) (a .reply) _ (test .before .before .before .if1 .left) (test .before .if2 .left) (test .if3 .taken)
-          (behind (41 ∷ 10 ∷ []) (first .piece3 .ensures .1) (put .put2 .ensures .1)),
+      says-held (a .offered) (takenCounts 2 (a .«record» .now)) (a .k) (a .reply) _ (test .before .before .before .if1 .left) (test .before .if2 .left) (test .if4 .taken)
+          (behind (41 ∷ 10 ∷ []) (first .piece3 .ensures .1) (put .put3 .ensures .1)),
     )
 
 taken-counts-requires : tie.Need-taken-counts-requires
@@ -88,34 +108,6 @@ slice-aggregate-piece-4 c = search needs
 
 piece-requires-4 : tie.Need-piece-requires-4
 piece-requires-4 c κs = search needs
-
-slice-aggregate-put-3 : tie.Need-slice-aggregate-put-3
-slice-aggregate-put-3 c = search needs
-
-put-requires-3 : tie.Need-put-requires-3
-put-requires-3 c κs = search needs
-
-same-length-3 : tie.Need-same-length-3
-same-length-3 c = search needs
-
-returns-4 : tie.Need-returns-4
-unfolding stateText verdictText
-returns-4 c = let put = c .before .before in
-    let second = put .before .before .before .before .before in
-    let counts = second .before .before .before .before .before .before in
-    let test = counts .before .before .before in
-    let start = test .before .before .before .before .before .before .before in
-    let a = start .args in (
-      omega (arith, start .pre .1 .1),
-      says-state (a .offered) (takenCounts 2 (a .«record» .now)) (a .k) (a .reply) _ true (test .before .before .before .if1 .left) (test .before .if2 .left) (test .if3 .left) (second .before .before .before .if4 .taken)
-          (behind (41 ∷ 10 ∷ []) (behind (numeral _) (behind (ascii ") yes ") (counts .put-counts .ensures .1 ∙ ap (λ (n : List ℕ). ascii "(state (" ++ countsText n (a .k)) (counts .before .before .taken-counts .ensures)) refl) (second .piece4 .ensures .1)) (put .put3 .ensures .1)),
-    )
-
-slice-aggregate-piece-5 : tie.Need-slice-aggregate-piece-5
-slice-aggregate-piece-5 c = search needs
-
-piece-requires-5 : tie.Need-piece-requires-5
-piece-requires-5 c κs = search needs
 
 slice-aggregate-put-4 : tie.Need-slice-aggregate-put-4
 slice-aggregate-put-4 c = search needs
@@ -135,8 +127,36 @@ returns-5 c = let put = c .before .before in
     let start = test .before .before .before .before .before .before .before in
     let a = start .args in (
       omega (arith, start .pre .1 .1),
-      says-state (a .offered) (takenCounts 2 (a .«record» .now)) (a .k) (a .reply) _ false (test .before .before .before .if1 .left) (test .before .if2 .left) (test .if3 .left) (second .before .before .before .if4 .left)
-          (behind (41 ∷ 10 ∷ []) (behind (numeral _) (behind (ascii ") no ") (counts .put-counts .ensures .1 ∙ ap (λ (n : List ℕ). ascii "(state (" ++ countsText n (a .k)) (counts .before .before .taken-counts .ensures)) refl) (second .piece5 .ensures .1)) (put .put4 .ensures .1)),
+      says-state (a .offered) (takenCounts 2 (a .«record» .now)) (a .k) (a .reply) _ true (test .before .before .before .if1 .left) (test .before .if2 .left) (test .if4 .left) (second .before .before .before .if5 .taken)
+          (behind (41 ∷ 10 ∷ []) (behind (numeral _) (behind (ascii ") yes ") (counts .put-counts .ensures .1 ∙ ap (λ (n : List ℕ). ascii "(state (" ++ countsText n (a .k)) (counts .before .before .taken-counts .ensures)) refl) (second .piece4 .ensures .1)) (put .put4 .ensures .1)),
+    )
+
+slice-aggregate-piece-5 : tie.Need-slice-aggregate-piece-5
+slice-aggregate-piece-5 c = search needs
+
+piece-requires-5 : tie.Need-piece-requires-5
+piece-requires-5 c κs = search needs
+
+slice-aggregate-put-5 : tie.Need-slice-aggregate-put-5
+slice-aggregate-put-5 c = search needs
+
+put-requires-5 : tie.Need-put-requires-5
+put-requires-5 c κs = search needs
+
+same-length-5 : tie.Need-same-length-5
+same-length-5 c = search needs
+
+returns-6 : tie.Need-returns-6
+unfolding stateText verdictText
+returns-6 c = let put = c .before .before in
+    let second = put .before .before .before .before .before in
+    let counts = second .before .before .before .before .before .before in
+    let test = counts .before .before .before in
+    let start = test .before .before .before .before .before .before .before in
+    let a = start .args in (
+      omega (arith, start .pre .1 .1),
+      says-state (a .offered) (takenCounts 2 (a .«record» .now)) (a .k) (a .reply) _ false (test .before .before .before .if1 .left) (test .before .if2 .left) (test .if4 .left) (second .before .before .before .if5 .left)
+          (behind (41 ∷ 10 ∷ []) (behind (numeral _) (behind (ascii ") no ") (counts .put-counts .ensures .1 ∙ ap (λ (n : List ℕ). ascii "(state (" ++ countsText n (a .k)) (counts .before .before .taken-counts .ensures)) refl) (second .piece5 .ensures .1)) (put .put5 .ensures .1)),
     )
 
 pub answer-text-spec : {M : Type 1} → statement M
@@ -151,24 +171,28 @@ answer-text-spec =
     put-requires
     same-length
     returns
-    returns-2
-    slice-aggregate-piece-3
-    piece-requires-3
     slice-aggregate-put-2
     put-requires-2
     same-length-2
+    returns-2
     returns-3
-    taken-counts-requires
-    put-counts-requires
-    slice-aggregate-piece-4
-    piece-requires-4
+    slice-aggregate-piece-3
+    piece-requires-3
     slice-aggregate-put-3
     put-requires-3
     same-length-3
     returns-4
-    slice-aggregate-piece-5
-    piece-requires-5
+    taken-counts-requires
+    put-counts-requires
+    slice-aggregate-piece-4
+    piece-requires-4
     slice-aggregate-put-4
     put-requires-4
     same-length-4
-    returns-5)
+    returns-5
+    slice-aggregate-piece-5
+    piece-requires-5
+    slice-aggregate-put-5
+    put-requires-5
+    same-length-5
+    returns-6)
