@@ -25,20 +25,28 @@ offered-event-requires : tie.Need-offered-event-requires
 offered-event-requires c κs = search needs
 
 -- What is known of an accepted offer's record.
-within : (c : tie.Else1) → (length (now (c .before .before .before .before .args .«record»)) ≡ recordLength (c .before .before .before .before .args .w)) × (pendingCount (now (c .before .before .before .before .args .«record»)) < 32)
+within : (c : tie.Else1)
+    → let a = c .before .before .before .before .args in
+    (length (now (a .«record»)) ≡ recordLength (a .w)) × (pendingCount (now (a .«record»)) < 32)
 within c =
     let a = c .before .before .before .before .args in
     offer-passed (a .w) (a .mask) (a .clock) (a .labels) (now (a .«record»)) (sym (c .before .offer-fault .ensures) ∙ c .if1 .left)
 
 pending-count-requires : tie.Need-pending-count-requires
-pending-count-requires c κs = omega (arith, within (c .before .before) .0)
+pending-count-requires c κs = let passed = c .before .before in omega (arith, within passed .0)
 
 place-among-requires : tie.Need-place-among-requires
-place-among-requires c κs = (search needs, (within (c .before .before .before .before) .0, omega (arith, within (c .before .before .before .before) .1)))
+place-among-requires c κs =
+    let passed = c .before .before .before .before in
+    (search needs, (within passed .0, omega (arith, within passed .1)))
 
 insert-event-requires : tie.Need-insert-event-requires
 insert-event-requires c κs =
-    (search needs, (within (c .before .before .before .before .before .before) .0, (c .before .place-among .ensures .1, (within (c .before .before .before .before .before .before) .1, λ p. rw (c .before .before .before .before .before .offered-event .ensures) (c .before .before .before .before .before .before .before .before .before .before .pre .1 p)))))
+    let event = c .before .before .before .before .before in
+    let passed = event .before in
+    let counts = passed .before .before .before .before .pre .1 in
+    let place = c .before .place-among in
+    (search needs, (within passed .0, (place .ensures .1, (within passed .1, λ p. rw (event .offered-event .ensures) (counts p)))))
 
 add-result : tie.Need-add-result
 add-result c = search needs
@@ -49,6 +57,7 @@ mul-result c = search needs
 same-length-2 : tie.Need-same-length-2
 same-length-2 c = search needs
 
+-- The walk's own equations turn these into the code's words; few names here, since each is one more for them.
 returns-2 : tie.Need-returns-2
 returns-2 c =
     let a = c .before .before .before .before .before .before .before .before .before .before .before .before .before .args in
