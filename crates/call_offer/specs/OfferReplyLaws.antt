@@ -1,15 +1,14 @@
 -- An offer's answers by its reply word, case by case.
-use Prim.Native.Nat.{ℕ, _+_, _*_, _<_, _/_, _%_}
+use Prim.Native.Nat.{ℕ, _+_, _<_, _/_, _%_}
 use native.Mathlib.Omega.{arith}
-use mathlib.Core.Path.{_≡_, refl, sym, _∙_}
-use mathlib.Core.List.{List}
+use mathlib.Core.Path.{_≡_, refl}
 use mathlib.Core.Logic.{_↔_}
 use borrow.Author.Tests.{leb-false}
 use Rattle.records.specs.Record.{pendingCount}
 use Rattle.answers.specs.Answer.{Answer, turnedBack, held, again, replyWord}
 use Rattle.call_offer.specs.Offer.{Offered, offerCall}
 use Rattle.call_offer.specs.OfferCases.{Case, offer-case, turned, repeats, accepted}
-use Rattle.call_offer.specs.OfferReplies.{Told, RepliesTell}
+use Rattle.call_offer.specs.OfferReplies.{RepliesTell}
 
 -- What is told of an answer.
 record Tells (a : Answer) : Type 0 where

@@ -28,7 +28,7 @@ use Rattle.rules.specs.reading.PlaceLaws.{fault-place}
 use Rattle.rules.specs.Reader.{Reading, readRule, formed, refused}
 use Rattle.clocks.specs.Refusal.{badStart}
 use Rattle.clocks.specs.Counts.{listOf}
-use Rattle.records.specs.Record.{recordLength, processCount, pendingCount, keptCount, takenCounts, pendingAt, pendingEvents, readyIn}
+use Rattle.records.specs.Record.{recordLength, pendingCount, keptCount, takenCounts, pendingAt, pendingEvents, readyIn}
 use Rattle.refusals.specs.Refusals.{badRecordLength, badWindowLength, roomOf, badProcesses, badState}
 use Rattle.answers.specs.Answer.{turnedBack, stateOf}
 use Rattle.call_open.specs.Open.{Opened, openTable, openRead, openCall}

@@ -1,17 +1,12 @@
 -- The refusals, test by test, as the functions go through them.
-use Prim.Native.Nat.{ℕ, _+_, _≤_, _<_, _-_}
+use Prim.Native.Nat.{ℕ, _-_}
 use native.Mathlib.Omega.{arith}
 use mathlib.Core.Path.{_≡_}
-use mathlib.Core.Bool.{Bool, true, false}
 use mathlib.Core.List.{List}
 use lib.ListN.{drop, length, take, length-drop}
 use lib.Seq.{take-all}
-use Rattle.clocks.specs.declared.Event.{Event}
-use Rattle.clocks.specs.Bounded.{anyOf}
 use Rattle.pactl.specs.TableBytes.{linesOf}
-use Rattle.records.specs.Record.{lineTotal, pendingCount, tableLines, pendingAt, pendingEvents, tablePlace}
-use Rattle.refusals.specs.Refusals.{conflicts, conflicting}
-use Rattle.clocks.specs.stored.CountsLaws.{rest-next, rest-end}
+use Rattle.records.specs.Record.{lineTotal, tableLines, tablePlace}
 
 -- ---- 34
 

@@ -1,5 +1,4 @@
 -- An event is the same as one of a list exactly if it stands there.
-use Prim.Native.Nat.{ℕ}
 use mathlib.Core.Path.{_≡_, subst, sym}
 use mathlib.Core.List.{List, List·Memᴰ}
 use mathlib.Core.Logic.{_↔_}

@@ -1,6 +1,5 @@
 -- Without a conflict there is no repeat: the law `repeat-conflicts`.
 use mathlib.Core.Path.{sym, _∙_}
-use native.Mathlib.Omega.{arith}
 use borrow.Author.Needs.{needs}
 use denote.Ref.{now}
 use Rattle.records.specs.Record.{pendingEvents}

@@ -1,8 +1,8 @@
 -- What an accepted offer does to a watch written by calls only: it adds the event to the pending ones.
-use Prim.Native.Nat.{ℕ, _+_, _%_, _^_, _<_, zero, suc, _≤_}
+use Prim.Native.Nat.{ℕ, _%_, _^_, _<_, zero, suc, _≤_}
 use native.Mathlib.Omega.{arith}
-use mathlib.Core.Path.{_≡_, refl, sym, ap, subst, _∙_}
-use mathlib.Core.Bool.{Bool, true, false, _&&_}
+use mathlib.Core.Path.{_≡_, sym, ap, subst, _∙_}
+use mathlib.Core.Bool.{true, false, _&&_}
 use mathlib.Core.List.{List, List·Memᴰ}
 use mathlib.Core.Logic.{inl, inr, ⊎-elim}
 use lib.Dec.{leb, T, eqb}
@@ -27,9 +27,8 @@ use Rattle.clocks.specs.stored.BoundedLaws.{any-i, any-of-i}
 use Rattle.clocks.specs.stored.TestedLaws.{involved-below}
 use Rattle.clocks.specs.Valid.{WellFormed}
 use Rattle.records.specs.Record.{processCount, pendingCount, takenCounts, pendingEvents, inserted}
-use Rattle.refusals.specs.Refusals.{badRecordLength, badState, alreadyTaken, conflicting, conflicts}
-use Rattle.answers.specs.Answer.{turnedBack, held}
-use Rattle.call_offer.specs.Offer.{placeAmong, offeredEvent, offerCall}
+use Rattle.refusals.specs.Refusals.{alreadyTaken, conflicting, conflicts}
+use Rattle.call_offer.specs.Offer.{placeAmong, offeredEvent}
 use Rattle.demands.specs.Watching.{Rule, Watching, Eight}
 use Rattle.demands.specs.Ledger.{Ledger, NoClash}
 use Rattle.demands.specs.Run.{Passed, offers}

@@ -1,12 +1,11 @@
 -- What the next offer after a list of calls is answered with, where it repeats an event.
 use Prim.Native.Nat.{ℕ, _+_, _%_, _≤_, _<_}
 use native.Mathlib.Omega.{arith}
-use mathlib.Core.Path.{_≡_, refl, sym, ap, subst, _∙_}
+use mathlib.Core.Path.{_≡_, refl, sym, ap, _∙_}
 use mathlib.Core.Bool.{Bool, true, false, cond, _&&_}
 use mathlib.Core.List.{List, List·Memᴰ}
 use mathlib.Core.Logic.{inl, inr, _↔_}
 use lib.Dec.{leb, eqb, T}
-use lib.ListN.{length}
 use lib.Pow.{pow-mono}
 use borrow.Author.Tests.{eq-eqb, le-leb, lt-leb}
 use Rattle.clocks.specs.declared.Event.{Event}
@@ -23,7 +22,7 @@ use Rattle.clocks.specs.stored.TestedLaws.{involved-below}
 use Rattle.rules.specs.Line.{linesAt}
 use Rattle.rules.specs.Formula.{Formula}
 use Rattle.rules.specs.reading.ReaderAccepts.{reader-accepts}
-use Rattle.records.specs.Record.{processCount, pendingCount, pendingEvents, inserted}
+use Rattle.records.specs.Record.{pendingCount, pendingEvents, inserted}
 use Rattle.refusals.specs.Refusals.{badRecordLength, alreadyTaken, conflicts, conflicting}
 use Rattle.repeats.specs.Repeats.{repeated}
 use Rattle.repeats.specs.RepeatLaws.{repeated-exactly}

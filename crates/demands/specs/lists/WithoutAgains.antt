@@ -1,7 +1,7 @@
 -- A list without its repeats leaves the same watch: "again" is only an answer.
 use Prim.Native.Nat.{ℕ, _+_}
 use native.Mathlib.Omega.{arith}
-use mathlib.Core.Path.{_≡_, refl, sym, ap, _∙_}
+use mathlib.Core.Path.{_≡_, refl, sym, _∙_}
 use mathlib.Core.Bool.{Bool, true, false, cond, not, _||_}
 use mathlib.Core.List.{List, [], _∷_, _++_}
 use lib.Dec.{leb, eqb}
@@ -14,12 +14,11 @@ use Rattle.refusals.specs.Refusals.{roomOf, badRecordLength, badWindowLength, b
 use Rattle.answers.specs.Answer.{Answer, turnedBack, again, found, stateOf}
 use Rattle.answers.specs.Turns.{by-test}
 use Rattle.call_open.specs.Open.{openCall, openTable}
-use Rattle.call_offer.specs.Offer.{offeredEvent, offerCall}
+use Rattle.call_offer.specs.Offer.{offerCall}
 use Rattle.call_offer.specs.OfferCases.{OfferCase, offer-case, turned, repeats, accepted}
 use Rattle.call_take.specs.Take.{Decision, undecided, false-clock, chosen, tried, decided, Taken, takeWithin, takeCall}
 use Rattle.call_find.specs.Find.{findFrom, findCall}
 use Rattle.demands.specs.Run.{Call, offers, takes, finds, Watch, offeredLedger, acceptedBy, after, run, opened}
-use Rattle.demands.specs.EveryList.{atEnd}
 use Rattle.demands.specs.calls.OpenLaws.{OpenCase, open-case, turned-back, opens}
 use Rattle.demands.specs.statements.Again.{isAgain, lastOf, withoutAgains, otherAnswers, SameButAgains, AgainsMakeNoDifference}
 
