@@ -107,8 +107,8 @@ static void check_again_word(struct subject *s) {
     CHECK_REPLY(conflict, refused(32));
 }
 
-/* Only the same mask, eight counts and eight labels make it the same event: one bit more or less, also at a process that
- * takes no part, and it is another. */
+/* Only the same mask, eight counts and eight labels make it the same event: one bit more or less, also at a process
+ * that takes no part, and it is another. */
 static void check_again_bits(struct subject *s) {
     uint64_t low = watch_counts(5, 260, 40000, 65535), high = watch_counts(3, 1, 257, 6), labels = 0x00ff000100800003;
     start(s, 8, 8, RULE);
