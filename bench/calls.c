@@ -188,7 +188,7 @@ static void stream(struct side *s) {
 
 /* ---- pending events, find, open ---- */
 
-enum { BATCHES = 20, FINDS = 20, OPENS = 20 };
+enum { BATCHES = 20, FINDS = 20, OPENS = 20, REPEATS = 20 };
 
 static void reversed(struct side *s) {
     open_watch(s);
@@ -196,6 +196,19 @@ static void reversed(struct side *s) {
         for (uint16_t i = 32; i > 0; i--) offer_event(s, 1, (uint16_t[8]){(uint16_t)(32 * batch + i)});
         for (unsigned i = 0; i < 32; i++) take_event(s);
     }
+}
+
+/* Each of 32 pending events once more. */
+static void sent_again(struct side *s) {
+    for (unsigned i = 0; i < 32 * REPEATS; i++) offer_event(s, 1, (uint16_t[8]){(uint16_t)(2 + i % 32)});
+}
+
+static void repeats(void) {
+    saved.k = 1, saved.rule = "(ep (at 0 0))", saved.length = WATCH_WINDOW_BYTES(16);
+    open_watch(&plain);
+    for (uint16_t i = 2; i < 34; i++) offer_event(&plain, 1, (uint16_t[8]){i});
+    save(&plain);
+    measure("offer, one of 32 pending sent again", sent_again, 32 * REPEATS, 151);
 }
 
 /* A line that holds nowhere, so that every frontier is looked at. */
@@ -243,5 +256,6 @@ int main(void) {
     save(&plain);
     measure("find, full window, line true nowhere", find_none, FINDS, ROUNDS);
     small_pieces();
+    repeats();
     return 0;
 }

@@ -1,6 +1,8 @@
 /* The four calls in plain C, written for speed: see plain.h. */
 #include "plain_inner.h"
 
+enum { AGAIN = 256 };
+
 static uint64_t accepted(uint64_t flag, uint64_t value) {
     return flag << 8 | value << 16;
 }
@@ -102,6 +104,11 @@ static unsigned refused_event(uint64_t k, uint64_t mask, const struct counts *cl
     return 0;
 }
 
+/* Mask, clock and labels; the bytes between are no part of an event. */
+static bool same_event(const uint8_t *event, const uint8_t *other) {
+    return event[0] == other[0] && memcmp(event + 8, other + 8, EVENT - 8) == 0;
+}
+
 uint64_t plain_offer(uint64_t mask, uint64_t clock_low, uint64_t clock_high, uint64_t labels,
                      uint8_t *record, size_t record_len) {
     uint8_t event[EVENT] = {(uint8_t)mask};
@@ -117,14 +124,17 @@ uint64_t plain_offer(uint64_t mask, uint64_t clock_low, uint64_t clock_high, uin
         if (mask >> p & 1 && clock.at[p] <= reached.at[p]) return 31;
     uint8_t *pending = record + PENDING_AT;
     unsigned lowest = (unsigned)__builtin_ctzll(mask), place = held;
+    bool conflict = false; /* what comes behind may still be the same event */
     for (unsigned i = 0; i < held; i++) {
         const uint8_t *other = pending + EVENT * i;
+        if (same_event(event, other)) return AGAIN;
         struct counts c = load(other + 8);
         for (unsigned common = other[0] & (unsigned)mask; common != 0; common &= common - 1)
-            if (c.at[__builtin_ctz(common)] == clock.at[__builtin_ctz(common)]) return 32;
+            conflict |= c.at[__builtin_ctz(common)] == clock.at[__builtin_ctz(common)];
         unsigned p = other[0] != 0 ? (unsigned)__builtin_ctz(other[0]) : PROCESSES;
         if (place == held && (p > lowest || (p == lowest && c.at[p] > clock.at[p]))) place = i;
     }
+    if (conflict) return 32;
     if (held == PENDING) return 33;
     memmove(pending + EVENT * (place + 1), pending + EVENT * place, EVENT * (held - place));
     memcpy(pending + EVENT * place, event, EVENT);

@@ -31,6 +31,7 @@ struct report {
 static const struct report monday[] = {
     {REPAIR, {0, 1, 0}, true, false, 0},
     {TRANSFER, {0, 2, 2}, false, true, 0},            /* overtook the handing over, and waits */
+    {TRANSFER, {0, 2, 2}, false, true, 0},            /* the same once more: transfer did not hear that it had come */
     {REPAIR | TRANSFER, {0, 2, 1}, false, false, 0},
     {TRANSFER, {0, 2, 3}, false, false, 101},
     {VAULT | REPAIR | TRANSFER, {1, 3, 4}, false, false, 0},
@@ -99,13 +100,20 @@ static void take_all(struct watch *w) {
     }
 }
 
-/* False if the report has to be sent again later. */
+/* False if the report has to be sent again later. Number 0 alone does not tell an accepted report from a known one. */
 static bool offer(struct watch *w, const struct report *r) {
     uint64_t labels = (uint64_t)(r->on_bench && r->desks & REPAIR) << 8 | (uint64_t)(r->drawing && r->desks & TRANSFER) << 16;
     uint64_t reply = watch_offer(r->desks, watch_counts(r->clock[0], r->clock[1], r->clock[2], 0), 0, labels, w->record, sizeof w->record);
+    if (watch_accepted(reply)) return true;
+    if (watch_again(reply)) { /* it waits already; nothing is wrong, and nothing has changed */
+        printf("  a report came twice\n");
+        return true;
+    }
     switch (watch_number(reply)) {
-    case 0: return true;
-    case WATCH_TAKEN: case WATCH_CONFLICT: return true; /* known already: sent twice */
+    case WATCH_TAKEN: return true; /* that step is taken, most likely from this very report */
+    case WATCH_CONFLICT: /* a desk says two things of one step; the report that waits stays */
+        printf("  two reports of one step differ: ask the desk\n");
+        return true;
     case WATCH_FULL: return false; /* 32 wait for one that is missing: it has to come first */
     default: fail("offer", reply); return false;
     }

@@ -26,8 +26,8 @@
 extern "C" {
 #endif
 
-#define WATCH_VERSION "0.2.0"    /* of this header and of the library that it was installed with */
-#define WATCH_VERSION_NUMBER 200 /* the same as a number: 10000 major + 100 minor + patch */
+#define WATCH_VERSION "0.3.0"    /* of this header and of the library that it was installed with */
+#define WATCH_VERSION_NUMBER 300 /* the same as a number: 10000 major + 100 minor + patch */
 
 #define WATCH_PROCESSES 8        /* at most so many processes */
 #define WATCH_LINES 64           /* a rule has at most so many lines */
@@ -51,19 +51,27 @@ enum {
     WATCH_LABELS = 9,       /* labels not 0 at an uninvolved process; at open, at one that the watch has not */
     WATCH_NO_LINE = 11,     /* find: the rule has no such line */
     WATCH_TAKEN = 31,       /* offer: at an involved process an event of that count was taken already */
-    WATCH_CONFLICT = 32,    /* offer: a pending event has the same count at a common process */
+    WATCH_CONFLICT = 32,    /* offer: another event is pending that has the same count at a common process */
     WATCH_FULL = 33,        /* offer: 32 events are pending: take, or wait for what is missing */
     WATCH_DAMAGED = 34,     /* the record is none, or it says more frontiers than the lent window has */
     WATCH_CLOCK_FALSE = 35, /* take: an event's clock cannot be; that event, and nothing else, is gone */
     WATCH_NO_ROOM = 36      /* take: events are ready but none fits; lend a longer window */
 };
 
-/* A reply is one word: number, flag, value and place. The number is 0 if the call was accepted, else the refusal; a
- * refusal has flag 0, value 0 and the place of the fault in the rule's text (0 where there is none). */
+/* A reply is one word: number, flag, value and place. A number above 0 is the refusal; a refusal has flag 0, value 0
+ * and the place of the fault in the rule's text (0 where there is none). With number 0 the call did what it is for, but
+ * for two words: take's 0 (nothing is ready) and offer's WATCH_AGAIN. */
 static inline unsigned watch_number(uint64_t reply) { return (unsigned)(reply & 255); }
 static inline unsigned watch_flag(uint64_t reply) { return (unsigned)(reply >> 8 & 255); }
 static inline unsigned watch_value(uint64_t reply) { return (unsigned)(reply >> 16 & 65535); }
 static inline uint32_t watch_place(uint64_t reply) { return (uint32_t)(reply >> 32); }
+
+/* Of offer's replies alone; find may answer the same word and means a place by it. WATCH_AGAIN is the word for an event
+ * that is pending already: number 0, flag 1, value 0. An offer was accepted exactly if its value is above 0; number 0
+ * does not say so, since WATCH_AGAIN has it too. */
+#define WATCH_AGAIN 256
+static inline int watch_again(uint64_t reply) { return reply == WATCH_AGAIN; }
+static inline int watch_accepted(uint64_t reply) { return watch_value(reply) > 0; }
 
 /* Opens a watch of k processes with a rule and each process's labels at the start.
  * Writes every byte of record and window.
@@ -78,8 +86,12 @@ uint64_t watch_open(const uint8_t *rule, size_t rule_len, uint64_t k, uint64_t s
 /* Offers an event: bit p of the mask says that process p took part, its clock counts each process's events in its
  * history, itself included, its labels hold afterwards. In any order: an event that comes early is pending until take
  * can take it.
- * Accepted: value is the number of pending events, this one among them. Writes the record only.
- * Refused, in this order: 6 record, 34, 7, 8, 9, 31, 32, 33. Writes nothing then. */
+ * Accepted, exactly if the value is above 0 (watch_accepted): value is the number of pending events, this one among
+ * them. Writes the record only.
+ * Again, the word WATCH_AGAIN (watch_again): a pending event has the same mask, the same eight counts and the same
+ * labels, so this one is known. Neither accepted nor refused, and nothing is written. One that was taken meets 31; one
+ * that left with 35 is not pending and may be offered anew.
+ * Refused, in this order with again among them: 6 record, 34, 7, 8, 9, 31, again, 32, 33. Writes nothing then. */
 uint64_t watch_offer(uint64_t mask, uint64_t clock_low, uint64_t clock_high, uint64_t labels,
                      uint8_t *record, size_t record_len);
 

@@ -22,6 +22,9 @@ static void try_case(uint64_t seed, uint64_t number) {
     } else if (number % 400 == 15) {
         case_begins(seed, number, "late counts");
         try_late(&s, &one);
+    } else if (number % 40 == 31) {
+        case_begins(seed, number, "a crowd");
+        try_crowd(&s, &one);
     } else if (number % 8 < 4) {
         case_begins(seed, number, "a walk");
         try_walk(&s, &one, between(&s, 1, 14), 800);

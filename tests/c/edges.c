@@ -92,6 +92,7 @@ static void check_full_window(struct subject *s) {
     }
     CHECK_REPLY(offer(s, 2, 0, 1024, 0, 0, 0), held(1));
     CHECK_REPLY(try_take(s), refused(36));
+    CHECK_REPLY(offer(s, 2, 0, 1024, 0, 0, 0), WATCH_AGAIN);
     CHECK_REPLY(offer(s, 3, 1, 1024, 0, 0, 0), refused(32));
     for (unsigned i = 0; i < 1024; i += 341) CHECK(watch_cut(s->window.bytes, i, 0) == 0 && watch_cut(s->window.bytes, i, 1) == i);
     CHECK_REPLY(try_find(s, 5), (uint64_t)1 << 8 | (uint64_t)1 << 16);

@@ -111,13 +111,18 @@ static void check_room(struct subject *s) {
 }
 
 static void check_twice(struct subject *s) {
+    uint8_t record[WATCH_RECORD_BYTES];
     start(s, 4, 2, OVERLAP);
     CHECK_REPLY(a1(s), held(1));
-    CHECK_REPLY(a1(s), refused(32));
+    memcpy(record, s->record.bytes, sizeof record);
+    CHECK_REPLY(a1(s), WATCH_AGAIN);
+    CHECK(memcmp(record, s->record.bytes, sizeof record) == 0);
+    CHECK_REPLY(offer(s, 1, 1, 0, 0, 0, 3), refused(32));
     CHECK_REPLY(try_take(s), state(0, 2));
     CHECK_REPLY(a1(s), refused(31));
     for (unsigned i = 0; i < 32; i++) CHECK_REPLY(offer(s, 2, 0, 2 + i, 0, 0, 0), held(i + 1));
     CHECK_REPLY(offer(s, 2, 0, 34, 0, 0, 0), refused(33));
+    CHECK_REPLY(offer(s, 2, 0, 33, 0, 0, 0), WATCH_AGAIN);
 }
 
 /* The program's example, at the calls: an early event waits. */
@@ -125,6 +130,7 @@ static void check_program(struct subject *s) {
     start(s, 4, 2, OVERLAP);
     CHECK_REPLY(a2(s), held(1));
     CHECK_REPLY(try_take(s), NOTHING_READY);
+    CHECK_REPLY(a2(s), WATCH_AGAIN);
     CHECK_REPLY(a1(s), held(2));
     CHECK_REPLY(try_take(s), state(0, 2));
     CHECK_REPLY(try_take(s), state(0, 3));

@@ -21,26 +21,38 @@ static void order_open(struct subject *s) {
     }
 }
 
-/* Process 0 has an event taken; process 1's fifth event is pending. */
+/* Lays an event behind the pending ones as it will be offered, also one that no call would have accepted. */
+static void lay_pending(struct subject *s, uint64_t mask, uint64_t low, uint64_t high, uint64_t labels) {
+    uint8_t *at = s->record.bytes + 344 + 32 * s->record.bytes[2]++;
+    at[0] = (uint8_t)mask;
+    for (unsigned i = 0; i < 8; i++) {
+        at[8 + i] = (uint8_t)(low >> 8 * i);
+        at[16 + i] = (uint8_t)(high >> 8 * i);
+        at[24 + i] = (uint8_t)(labels >> 8 * i);
+    }
+}
+
+/* Process 0 has an event taken; process 1's fifth event is pending. "Again" has its place among the refusals. */
 static void order_offer(struct subject *s) {
-    static const unsigned numbers[] = {6, 34, 7, 8, 9, 31, 32, 33, 0};
-    for (unsigned faults = 0; faults < 256; faults++) {
+    static const unsigned numbers[] = {6, 34, 7, 8, 9, 31, WATCH_AGAIN, 32, 33, 0};
+    for (unsigned faults = 0; faults < 512; faults++) {
         start(s, 8, 4, RULE);
         offer(s, 1, 1, 0, 0, 0, 0);
         CHECK_REPLY(try_take(s), state(0, 2));
         offer(s, 2, 0, 5, 0, 0, 0);
-        for (unsigned i = 0; faults & 128 && i < 31; i++) offer(s, 4, 0, 0, 10 + i, 0, 0);
+        for (unsigned i = faults & 64 ? 1 : 0; faults & 256 && i < 31; i++) offer(s, 4, 0, 0, 10 + i, 0, 0);
         uint64_t mask = 3, low = watch_counts(2, 9, 0, 0), high = 0, labels = 0;
-        if (faults & 1) lend_again(&s->record, 1369, 0);
-        if (faults & 2) s->record.bytes[1] = 0;
         if (faults & 4) mask |= 64;
         if (faults & 8) high = (uint64_t)1 << 48;
         if (faults & 16) labels = (uint64_t)1 << 24;
         if (faults & 32) low = (low & ~(uint64_t)0xffff) | 1;
-        if (faults & 64) low = (low & ~(uint64_t)0xffff0000) | 5 << 16;
-        uint64_t reply = try_offer(s, mask, low, high, labels);
-        CHECK(watch_number(reply) == first_of(faults, numbers));
-        CHECK(faults != 0 || reply == held(2));
+        if (faults & 128) low = (low & ~(uint64_t)0xffff0000) | 5 << 16;
+        if (faults & 64) lay_pending(s, mask, low, high, labels);
+        CHECK(!(faults & 256) || watch_pending(s->record.bytes) == 32);
+        if (faults & 1) lend_again(&s->record, 1369, 0);
+        if (faults & 2) s->record.bytes[1] = 0;
+        uint64_t expected = faults == 0 ? held(2) : first_of(faults, numbers);
+        CHECK_REPLY(try_offer(s, mask, low, high, labels), expected);
     }
 }
 

@@ -79,8 +79,10 @@ static void check_event_faults(struct subject *s) {
 static void check_offer_state(struct subject *s) {
     start(s, 8, 3, RULE);
     CHECK_REPLY(offer(s, 1, 1, 0, 0, 0, 0), held(1));
-    CHECK_REPLY(offer(s, 1, 1, 0, 0, 0, 0), refused(32));
+    CHECK_REPLY(offer(s, 1, 1, 0, 0, 0, 0), WATCH_AGAIN);
     CHECK_REPLY(offer(s, 3, 1, 1, 0, 0, 0), refused(32));
+    CHECK_REPLY(offer(s, 1, 1, 7, 0, 0, 0), refused(32));
+    CHECK_REPLY(offer(s, 1, 1, 0, 0, 0, 9), refused(32));
     CHECK_REPLY(offer(s, 1, 1, 7, 0, 0, 9), refused(32));
     CHECK_REPLY(offer(s, 2, 1, 1, 0, 0, 0), held(2));
     CHECK_REPLY(offer(s, 6, 0, 5, 1, 0, 0), held(3));
@@ -89,13 +91,85 @@ static void check_offer_state(struct subject *s) {
     CHECK_REPLY(offer(s, 1, 1, 0, 0, 0, 0), refused(31));
     CHECK_REPLY(offer(s, 3, 1, 4, 0, 0, 0), refused(31));
     CHECK_REPLY(offer(s, 5, 2, 0, 1, 0, 0), refused(32));
+    CHECK_REPLY(offer(s, 6, 0, 5, 1, 0, 0), WATCH_AGAIN);
+}
+
+/* The word for an event that is pending already, and the two tests of an offer's reply. */
+static void check_again_word(struct subject *s) {
+    start(s, 8, 1, "(at 0 0)");
+    uint64_t accepted = offer(s, 1, 2, 0, 0, 0, 1), again = offer(s, 1, 2, 0, 0, 0, 1);
+    uint64_t conflict = offer(s, 1, 2, 0, 0, 0, 0);
+    CHECK(WATCH_AGAIN == 256 && again == WATCH_AGAIN);
+    CHECK(watch_number(again) == 0 && watch_flag(again) == 1 && watch_value(again) == 0 && watch_place(again) == 0);
+    CHECK(watch_again(again) && !watch_again(accepted) && !watch_again(conflict) && !watch_again(NOTHING_READY));
+    CHECK(watch_accepted(accepted) && !watch_accepted(again) && !watch_accepted(conflict));
+    CHECK_REPLY(accepted, held(1));
+    CHECK_REPLY(conflict, refused(32));
+}
+
+/* Only the same mask, eight counts and eight labels make it the same event: one bit more or less, also at a process
+ * that takes no part, and it is another. */
+static void check_again_bits(struct subject *s) {
+    uint64_t low = watch_counts(5, 260, 40000, 65535), high = watch_counts(3, 1, 257, 6), labels = 0x00ff000100800003;
+    start(s, 8, 8, RULE);
+    CHECK_REPLY(try_offer(s, 0x55, low, high, labels), held(1));
+    for (unsigned bit = 0; bit < 64; bit++) {
+        uint64_t one = (uint64_t)1 << bit;
+        CHECK_REPLY(try_offer(s, 0x55, low, high, labels), WATCH_AGAIN);
+        CHECK_REPLY(try_offer(s, 0x55, low ^ one, high, labels), refused(32));
+        CHECK_REPLY(try_offer(s, 0x55, low, high ^ one, labels), refused(32));
+        CHECK_REPLY(try_offer(s, 0x55, low, high, labels ^ one), refused(bit / 8 % 2 == 0 ? 32 : 9));
+        if (bit >= 8) CHECK_REPLY(try_offer(s, 0x55 | one, low, high, labels), refused(7));
+    }
+    start(s, 8, 8, RULE);
+    CHECK_REPLY(try_offer(s, 0x55, low, high, 0), held(1));
+    for (unsigned p = 0; p < 8; p++) CHECK_REPLY(try_offer(s, 0x55 ^ 1u << p, low, high, 0), refused(32));
+    CHECK_REPLY(try_offer(s, 0x55, low, high, 0), WATCH_AGAIN);
+    CHECK_REPLY(try_offer(s, 0xaa, low, high, 0), held(2));
+    CHECK_REPLY(try_offer(s, 0xaa, low, high, 0), WATCH_AGAIN);
+    CHECK_REPLY(try_offer(s, 0xff, low, high, 0), refused(32));
+}
+
+/* An event laid into a pending place by hand, with bytes behind its mask that no call leaves there. */
+static void lay(struct subject *s, unsigned place, unsigned mask, unsigned a, unsigned b, unsigned c, unsigned labels) {
+    uint8_t *at = s->record.bytes + 344 + 32 * place;
+    memset(at, 0, 32);
+    memset(at + 1, 0xEE, 7);
+    at[0] = (uint8_t)mask;
+    at[8] = (uint8_t)a;
+    at[10] = (uint8_t)b;
+    at[12] = (uint8_t)c;
+    at[24] = (uint8_t)labels;
+}
+
+/* Records as no call leaves them: "again" is exact there too. */
+static void check_again_laid(struct subject *s) {
+    start(s, 8, 2, RULE);
+    s->record.bytes[2] = 3;
+    lay(s, 0, 1, 5, 0, 0, 1);
+    lay(s, 1, 1, 5, 0, 0, 2);
+    lay(s, 2, 1, 6, 0, 1, 0); /* a count at a process that the watch has not */
+    lay(s, 3, 1, 7, 0, 0, 0); /* behind those that are pending */
+    CHECK_REPLY(offer(s, 1, 5, 0, 0, 0, 1), WATCH_AGAIN);
+    CHECK_REPLY(offer(s, 1, 5, 0, 0, 0, 2), WATCH_AGAIN);
+    CHECK_REPLY(offer(s, 1, 5, 0, 0, 0, 3), refused(32));
+    CHECK_REPLY(offer(s, 1, 6, 0, 0, 0, 0), refused(32));
+    CHECK_REPLY(offer(s, 1, 6, 0, 1, 0, 0), refused(8));
+    lay(s, 1, 1, 5, 0, 0, 1);
+    CHECK_REPLY(offer(s, 1, 5, 0, 0, 0, 1), WATCH_AGAIN);
+    CHECK(watch_accepted(offer(s, 1, 7, 0, 0, 0, 0)) && watch_pending(s->record.bytes) == 4);
+    CHECK_REPLY(offer(s, 1, 7, 0, 0, 0, 0), WATCH_AGAIN);
 }
 
 static void check_full(struct subject *s) {
     start(s, 8, 2, RULE);
     for (unsigned i = 0; i < 32; i++) CHECK_REPLY(offer(s, 1, 40 - i, 0, 0, 0, 0), held(i + 1));
     CHECK_REPLY(offer(s, 1, 41, 0, 0, 0, 0), refused(33));
-    CHECK_REPLY(offer(s, 1, 40, 0, 0, 0, 0), refused(32));
+    for (unsigned i = 0; i < 32; i++) {
+        CHECK_REPLY(offer(s, 1, 9 + i, 0, 0, 0, 0), WATCH_AGAIN);
+        CHECK_REPLY(offer(s, 1, 9 + i, 0, 0, 0, 1), refused(32));
+        CHECK_REPLY(offer(s, 1, 9 + i, 1, 0, 0, 0), refused(32));
+    }
     CHECK_REPLY(try_take(s), NOTHING_READY);
     for (unsigned i = 0; i < 32; i++) CHECK(s->record.bytes[344 + 32 * i + 8] == 9 + i);
 }
@@ -146,7 +220,8 @@ static void check_find(struct subject *s) {
     CHECK_REPLY(try_find(s, 2), 0);
 }
 
-/* A ready event with a false clock leaves, whatever stands in front of it and does not fit. */
+/* A ready event with a false clock leaves, whatever stands in front of it and does not fit. It is pending no more, so
+ * the same event is accepted anew. */
 static void check_take(struct subject *s) {
     start(s, 1, 2, RULE);
     CHECK_REPLY(offer(s, 1, 1, 0, 0, 0, 0), held(1));
@@ -159,6 +234,7 @@ static void check_take(struct subject *s) {
     CHECK_REPLY(offer(s, 1, 2, 0, 0, 0, 0), held(1));
     CHECK_REPLY(try_take(s), refused(36));
     CHECK_REPLY(offer(s, 2, 1, 1, 0, 0, 0x300), held(2));
+    CHECK_REPLY(offer(s, 2, 1, 1, 0, 0, 0x300), WATCH_AGAIN);
     CHECK_REPLY(try_take(s), refused(35));
     CHECK(watch_pending(s->record.bytes) == 1 && s->record.bytes[344] == 1 && all_zero(s->record.bytes + 376, 992));
     CHECK_REPLY(offer(s, 2, 1, 1, 0, 0, 0x300), held(2));
@@ -206,6 +282,9 @@ void test_refusals(void) {
     check_open(&s);
     check_event_faults(&s);
     check_offer_state(&s);
+    check_again_word(&s);
+    check_again_bits(&s);
+    check_again_laid(&s);
     check_full(&s);
     check_damaged(&s);
     check_find(&s);

@@ -74,7 +74,8 @@ uint64_t try_offer(struct subject *s, uint64_t mask, uint64_t low, uint64_t high
     uint8_t *record = copy(&s->record);
     uint64_t reply = watch_offer(mask, low, high, labels, s->record.bytes, s->record.length);
     int same_record = same(&s->record, record);
-    CHECK(watch_number(reply) == 0 || same_record);
+    CHECK(watch_accepted(reply) != same_record);
+    CHECK(watch_accepted(reply) ? watch_number(reply) == 0 : watch_again(reply) || watch_number(reply) != 0);
     check_refusal(reply);
     check_guards(s);
     return reply;

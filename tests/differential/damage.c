@@ -47,9 +47,51 @@ static void scatter_pending(struct source *s, uint8_t *record) {
     }
 }
 
+/* An event that offer would accept, by the record's number of processes and taken counts. */
+static struct sent acceptable(struct source *s, const uint8_t *record) {
+    unsigned k = record[0] > 0 && record[0] <= PROCESSES ? record[0] : PROCESSES;
+    struct sent e;
+    do e = random_sent(s, k);
+    while (refused_event(k, e.mask, e.low, e.high, e.labels) != 0);
+    for (unsigned p = 0; p < k; p++) {
+        unsigned count = sent_count(&e, p) + (e.mask >> p & 1 ? watch_taken(record, p) : 0);
+        set_sent_count(&e, p, count < 65536 ? count : 65535);
+    }
+    return e;
+}
+
+static void lay_event(uint8_t *at, struct sent e) {
+    at[0] = (uint8_t)e.mask;
+    for (unsigned i = 0; i < 8; i++) {
+        at[8 + i] = (uint8_t)(e.low >> 8 * i);
+        at[16 + i] = (uint8_t)(e.high >> 8 * i);
+        at[24 + i] = (uint8_t)(e.labels >> 8 * i);
+    }
+}
+
+/* All pending places filled with a few events and what is nearly one of them, so that there are equal ones, some with
+ * the same counts and other labels, some that differ only at a process that the watch has not. Bytes behind a mask may
+ * be anything, and some of the events stand behind those that the record says are pending. */
+static void crowd_pending(struct source *s, uint8_t *record) {
+    struct sent few[3];
+    for (unsigned i = 0; i < 3; i++) few[i] = acceptable(s, record);
+    for (unsigned i = 0; i < PENDING; i++) {
+        uint8_t *at = record + PENDING_AT + EVENT * i;
+        struct sent e = few[below(s, 3)];
+        if (chance(s, 40)) e = nearly(s, e, PROCESSES);
+        memset(at + 1, 0, 7);
+        if (chance(s, 40)) at[between(s, 1, 7)] = (uint8_t)draw(s);
+        lay_event(at, e);
+    }
+    record[2] = chance(s, 30) ? PENDING : (uint8_t)below(s, PENDING + 1);
+}
+
 static void damage(struct source *s, struct damaged *d) {
     unsigned times = between(s, 1, 4);
-    for (unsigned i = 0; i < times; i++) damage_record(s, d->record.bytes);
+    bool crowded = chance(s, 25);
+    if (crowded) crowd_pending(s, d->record.bytes);
+    if (!crowded || chance(s, 30))
+        for (unsigned i = 0; i < times; i++) damage_record(s, d->record.bytes);
     if (chance(s, 15)) scatter_pending(s, d->record.bytes);
     if (chance(s, 5)) fill_junk(s, d->record.bytes + HEADER, 16);
     if (chance(s, 5)) fill_junk(s, d->record.bytes + PENDING_AT, EVENT * PENDING);
@@ -75,13 +117,33 @@ static void compare_number(uint64_t reply, unsigned expected) {
     if (expected != 0 && reply != expected) differs("refusal %u with flag, value or place", expected);
 }
 
+/* Numbers that need not be an event, or one out of the pending places, or nearly that. Counts at processes that the
+ * watch has not are mostly left out: with them it is refused for that. */
+static struct sent damaged_sent(struct source *s, const struct damaged *d, unsigned k) {
+    const uint8_t *record = d->record.bytes;
+    if (d->record.length != RECORD || chance(s, 40)) return random_sent(s, k);
+    unsigned pending = record[2] > 0 && record[2] <= PENDING && chance(s, 85) ? record[2] : PENDING;
+    struct sent e = pending_sent(record, below(s, pending));
+    for (unsigned p = record[0]; p < PROCESSES; p++)
+        if (chance(s, 80)) set_sent_count(&e, p, 0);
+    return chance(s, 50) ? e : nearly(s, e, k);
+}
+
+/* Refusals and "again" are whole words. What an accepted offer answers is free, but it has to say that it was one. */
+static void compare_offered(uint64_t reply, unsigned expected) {
+    if (expected == 0 ? watch_number(reply) != 0 || !watch_accepted(reply) : reply != expected)
+        differs("on damaged bytes offer answers number %u flag %u value %u, expected the word %u", watch_number(reply),
+                watch_flag(reply), watch_value(reply), expected);
+}
+
 static void damaged_offer(struct source *s, struct damaged *d, unsigned k) {
-    struct sent e = random_sent(s, k);
+    struct sent e = damaged_sent(s, d, k);
     remember(d);
     note("offer mask %llx clock %llx %llx labels %llx to damaged bytes\n", (unsigned long long)e.mask, (unsigned long long)e.low,
          (unsigned long long)e.high, (unsigned long long)e.labels);
     unsigned expected = bytes_offer(e.mask, e.low, e.high, e.labels, d->record_before, d->record.length);
-    compare_number(tally(OFFER, watch_offer(e.mask, e.low, e.high, e.labels, d->record.bytes, d->record.length)), expected);
+    uint64_t reply = watch_offer(e.mask, e.low, e.high, e.labels, d->record.bytes, d->record.length);
+    compare_offered(tally(OFFER, reply), expected);
     unchanged("record", &d->record, d->record_before);
 }
 

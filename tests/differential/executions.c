@@ -73,6 +73,39 @@ struct sent twisted(struct source *s, struct sent e, unsigned k) {
     return e;
 }
 
+/* One of the processes of a set, or any if the set is empty. */
+static unsigned process_of(struct source *s, uint64_t set) {
+    unsigned p = below(s, PROCESSES);
+    while (set % 256 != 0 && !(set >> p & 1)) p = (p + 1) % PROCESSES;
+    return p;
+}
+
+/* One more, one less, or a bit of it changed. */
+static void change_count(struct source *s, struct sent *e, unsigned p) {
+    unsigned count = sent_count(e, p), bit = 1u << below(s, 16);
+    switch (below(s, 3)) {
+    case 0: set_sent_count(e, p, (count + 1) & 65535); break;
+    case 1: set_sent_count(e, p, count > 0 ? count - 1 : 1); break;
+    default: set_sent_count(e, p, count ^ bit);
+    }
+}
+
+struct sent nearly(struct source *s, struct sent e, unsigned k) {
+    unsigned own = process_of(s, e.mask), other = process_of(s, ((1u << k) - 1) & ~e.mask), any = below(s, k);
+    switch (below(s, 8)) {
+    case 0: case 1: e.labels ^= (uint64_t)1 << (8 * own + below(s, 8)); break;
+    case 2: case 3: change_count(s, &e, other); break;
+    case 4: change_count(s, &e, own); break;
+    case 5: e.mask ^= (uint64_t)1 << any; break;
+    case 6: /* the same, but never refused for the labels of a process that left it */
+        e.mask ^= (uint64_t)1 << any;
+        if (!(e.mask >> any & 1)) e.labels &= ~((uint64_t)255 << 8 * any);
+        break;
+    default: e.mask ^= (uint64_t)1 << between(s, 8, 63);
+    }
+    return e;
+}
+
 struct sent random_sent(struct source *s, unsigned k) {
     struct sent e = {.mask = chance(s, 70) ? random_mask(s, k, 50) : sized(s)};
     if (chance(s, 5)) e.mask |= (uint64_t)1 << between(s, 8, 63);

@@ -37,6 +37,10 @@ struct execution later_execution(struct source *s, unsigned k, unsigned n, size_
 /* The same event with something changed: labels, mask, a count, its clock made false. */
 struct sent twisted(struct source *s, struct sent e, unsigned k);
 
+/* The same event but for one thing, and that changed as little as can be: a bit of a label, a count of a process that
+ * takes part or of one that does not, the mask. */
+struct sent nearly(struct source *s, struct sent e, unsigned k);
+
 /* Numbers that need not be an event. */
 struct sent random_sent(struct source *s, unsigned k);
 

@@ -85,11 +85,23 @@ static bool list_accept(struct list *l, struct sent e) {
     return true;
 }
 
+/* Sends a pending event once more: that is no acceptance, and the orders are still of the same events. */
+static void list_repeat(struct list *l) {
+    static uint8_t before[RECORD];
+    uint8_t *record = l->twin->record.bytes;
+    if (watch_pending(record) == 0) return;
+    memcpy(before, record, RECORD);
+    uint64_t reply = list_offer(l, pending_sent(record, below(l->source, watch_pending(record))));
+    if (!watch_again(reply)) differs("a pending event sent once more is answered by number %u", watch_number(reply));
+    compare_bytes("record (sent once more)", record, before, RECORD);
+}
+
 /* The false events are sent a second time at the end. False if the list does not get as far as "nothing ready". */
 static bool list_run(struct list *l, const struct sent *events, unsigned n, const struct sent *wrong, unsigned wrong_number) {
     unsigned habit = below(l->source, 3) * 40;
     for (unsigned i = 0; i < n; i++) {
         if (!list_accept(l, events[i])) return false;
+        if (chance(l->source, 15)) list_repeat(l);
         while (chance(l->source, habit))
             if (list_take(l) == 0) break;
     }

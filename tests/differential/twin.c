@@ -8,6 +8,8 @@
 
 #include "../../include/watch.h"
 
+enum { PENDING_AT = 344, EVENT = 32 };
+
 static struct {
     uint64_t seed, number;
     const char *kind;
@@ -47,11 +49,12 @@ void differs(const char *format, ...) {
     exit(1);
 }
 
-static unsigned long tallied[CALLS][256], nothing_ready;
+static unsigned long tallied[CALLS][256], nothing_ready, again;
 static unsigned widest;
 
 uint64_t tally(enum call call, uint64_t reply) {
     if (call == TAKE && reply == 0) nothing_ready++;
+    else if (call == OFFER && watch_again(reply)) again++;
     else tallied[call][watch_number(reply)]++;
     if (call == TAKE && watch_value(reply) > widest) widest = watch_value(reply);
     return reply;
@@ -62,6 +65,7 @@ void print_tally(void) {
     for (unsigned call = 0; call < CALLS; call++) {
         printf("  %-5s accepted %lu", names[call], tallied[call][0]);
         if (call == TAKE) printf(", nothing ready %lu", nothing_ready);
+        if (call == OFFER) printf(", again %lu", again);
         for (unsigned number = 1; number < 256; number++)
             if (tallied[call][number] != 0) printf(", %u: %lu", number, tallied[call][number]);
         printf("\n");
@@ -134,6 +138,17 @@ uint64_t twin_open(struct twin *t, const uint8_t *rule, size_t length, uint64_t 
     compare_watch(t);
     if (!lent_intact(&t->text) || memcmp(t->text.bytes, rule, length) != 0) differs("the rule's text changed");
     return reply;
+}
+
+static uint64_t stored_word(const uint8_t *at) {
+    uint64_t word = 0;
+    for (unsigned i = 0; i < 8; i++) word |= (uint64_t)at[i] << 8 * i;
+    return word;
+}
+
+struct sent pending_sent(const uint8_t *record, unsigned place) {
+    const uint8_t *at = record + PENDING_AT + EVENT * place;
+    return (struct sent){at[0], stored_word(at + 8), stored_word(at + 16), stored_word(at + 24)};
 }
 
 uint64_t twin_offer(struct twin *t, struct sent e) {

@@ -27,6 +27,9 @@ uint64_t twin_offer(struct twin *t, struct sent e);
 uint64_t twin_take(struct twin *t, struct source *s, size_t scratch_length);
 uint64_t twin_find(struct twin *t, uint64_t line);
 
+/* The event in a pending place of a record, as it is offered. */
+struct sent pending_sent(const uint8_t *record, unsigned place);
+
 /* Takes an event that is ready and fits, without comparing anything: the model only notes it. Compared again after twin_catch_up. */
 void twin_forward(struct twin *t, struct sent e);
 void twin_catch_up(struct twin *t);
@@ -49,6 +52,7 @@ void compare_bytes(const char *name, const uint8_t *library, const uint8_t *expe
 void try_texts(struct source *s, struct twin *t);
 void try_walk(struct source *s, struct twin *t, unsigned events, size_t vectors);
 void try_late(struct source *s, struct twin *t); /* counts beyond one byte */
+void try_crowd(struct source *s, struct twin *t); /* up to 32 pending */
 void try_damage(struct source *s, struct twin *t);
 void try_orders(struct source *s, struct twin *t, struct twin *other, bool wide);
 

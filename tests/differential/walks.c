@@ -1,5 +1,5 @@
-/* Random calls on one watch: an execution's events in some order, sent again, twisted, with numbers that are none; windows that are too
- * short and then longer; buffers of wrong lengths. */
+/* Random calls on one watch: an execution's events in some order, sent again, nearly the same, twisted, with numbers
+ * that are none; windows that are too short and then longer; buffers of wrong lengths. */
 #include <string.h>
 
 #include "twin.h"
@@ -61,6 +61,16 @@ static void random_offer(struct source *s, struct twin *t, const struct executio
     twin_offer(t, e);
 }
 
+/* A pending event once more, or nearly; or else one that came before, which may have been taken. */
+static void repeated_offer(struct source *s, struct twin *t, const struct sent *sent, unsigned n) {
+    unsigned pending = t->model.pending_number;
+    struct sent e;
+    if (pending > 0 && chance(s, 80)) e = pending_sent(t->record_bytes, below(s, pending));
+    else if (n > 0) e = sent[below(s, n)];
+    else return;
+    twin_offer(t, chance(s, 50) ? e : nearly(s, e, t->model.k));
+}
+
 /* Takes, with a longer window at 36, until nothing is ready. */
 static void drain(struct source *s, struct twin *t) {
     for (;;) {
@@ -96,6 +106,7 @@ static void walk(struct source *s, struct twin *t, struct execution *x) {
         else if (action < 85) lend_longer(s, t);
         else if (action < 88) wrong_lengths(s, t);
         else if (action < 91) damage_excursion(s, t, 3);
+        else repeated_offer(s, t, x->event, next);
     }
     drain(s, t);
     for (unsigned i = 0; i < x->n; i++) twin_offer(t, x->event[i]);
@@ -123,6 +134,25 @@ void try_late(struct source *s, struct twin *t) {
     twin_catch_up(t);
     struct execution x = later_execution(s, k, between(s, 4, 10), 5000, 15, alone, before);
     walk(s, t, &x);
+}
+
+/* Every event comes after one of all processes together that does not come, so nothing is ready until others are sent
+ * that are no part of it. */
+void try_crowd(struct source *s, struct twin *t) {
+    unsigned k = between(s, 1, 8), next = 0;
+    start_watch(s, t, k, random_room(s));
+    struct execution x = random_execution(s, k, EVENTS_MOST, SIZE_MAX, chance(s, 50) ? 15 : 50);
+    for (unsigned i = 0; i < x.n; i++)
+        for (unsigned p = 0; p < k; p++) set_sent_count(&x.event[i], p, sent_count(&x.event[i], p) + 1);
+    shuffle(s, x.event, x.n, chance(s, 50));
+    while (next < x.n) {
+        unsigned action = below(s, 100);
+        if (action < 40) twin_offer(t, x.event[next++]);
+        else if (action < 85) repeated_offer(s, t, x.event, next);
+        else if (action < 90) twin_take(t, s, t->window_length);
+        else if (action < 95) random_offer(s, t, &x);
+        else damage_excursion(s, t, 3);
+    }
 }
 
 void try_damage(struct source *s, struct twin *t) {

@@ -1,5 +1,6 @@
-/* Records and windows of any bytes, as no list of calls may have left them: refusals and "nothing ready" are exact there too, and so is
- * what an accepted offer writes; whether a window fits, and what take writes when an event leaves, are free. */
+/* Records and windows of any bytes, as no list of calls may have left them: refusals, "again" and "nothing ready" are
+ * exact there too, and so is what an accepted offer writes; whether a window fits, and what take writes when an event
+ * leaves, are free. */
 #include <string.h>
 
 #include "model.h"
@@ -50,9 +51,14 @@ static bool key_above(const struct event *e, const struct event *f) {
     return p < PROCESSES && e->clock[p] > f->clock[q];
 }
 
-static unsigned refused_by_record(const struct event *e, const uint8_t *record) {
+/* 31, again, 32, 33, or 0. What lies between a pending event's mask and its clock belongs to no event. */
+static unsigned answered_by_record(const struct event *e, const uint8_t *record) {
     for (unsigned p = 0; p < PROCESSES; p++)
         if (involved(e, p) && e->clock[p] <= get2(record + TAKEN_AT + 2 * p)) return 31;
+    for (unsigned i = 0; i < record[2]; i++) {
+        struct event f = pending_at(record, i);
+        if (same_event(e, &f)) return AGAIN;
+    }
     for (unsigned i = 0; i < record[2]; i++) {
         struct event f = pending_at(record, i);
         for (unsigned p = 0; p < PROCESSES; p++)
@@ -83,7 +89,7 @@ unsigned bytes_offer(uint64_t mask, uint64_t clock_low, uint64_t clock_high, uin
     if (damaged(record, ROOM)) return 34;
     struct event e = event_of(mask, clock_low, clock_high, labels);
     unsigned number = refused_event(record[0], mask, clock_low, clock_high, labels);
-    if (number == 0) number = refused_by_record(&e, record);
+    if (number == 0) number = answered_by_record(&e, record);
     if (number == 0) insert(&e, record);
     return number;
 }

@@ -1,4 +1,5 @@
-/* The four calls on a watch that is written by these calls only: sections "The calls" and "Turned back". */
+/* The four calls on a watch that is written by these calls only: sections "The calls" and "Turned back", and request 1
+ * on an event that is sent again. */
 #include <stdlib.h>
 #include <string.h>
 
@@ -79,12 +80,15 @@ static bool meets(const struct event *e, const struct event *f) {
     return false;
 }
 
-static unsigned refused_by_state(const struct model *m, const struct event *e) {
+/* 31, again, 32, 33, or 0. */
+static uint64_t answered_by_state(const struct model *m, const struct event *e) {
     for (unsigned p = 0; p < PROCESSES; p++)
-        if (involved(e, p) && e->clock[p] <= m->history.taken[p]) return 31;
+        if (involved(e, p) && e->clock[p] <= m->history.taken[p]) return refused(31);
     for (unsigned i = 0; i < m->pending_number; i++)
-        if (meets(e, &m->pending[i])) return 32;
-    return m->pending_number == PENDING ? 33 : 0;
+        if (same_event(e, &m->pending[i])) return AGAIN;
+    for (unsigned i = 0; i < m->pending_number; i++)
+        if (meets(e, &m->pending[i])) return refused(32);
+    return m->pending_number == PENDING ? refused(33) : 0;
 }
 
 static int by_key(const void *x, const void *y) {
@@ -107,8 +111,8 @@ uint64_t model_offer(struct model *m, uint64_t mask, uint64_t clock_low, uint64_
     unsigned number = refused_event(m->k, mask, clock_low, clock_high, labels);
     if (number != 0) return refused(number);
     struct event e = event_of(mask, clock_low, clock_high, labels);
-    number = refused_by_state(m, &e);
-    if (number != 0) return refused(number);
+    uint64_t answer = answered_by_state(m, &e);
+    if (answer != 0) return answer;
     m->pending[m->pending_number++] = e;
     qsort(m->pending, m->pending_number, sizeof e, by_key);
     write_record(m, frontiers(&m->history, m->k), record);

@@ -1,10 +1,17 @@
-/* Events and histories: section "Clocks and cuts" of the scope. */
+/* Events and histories: section "Clocks and cuts" of the scope; when two events are the same: request 1. */
 #include <stdlib.h>
 
 #include "model.h"
 
 bool involved(const struct event *e, unsigned p) {
     return e->mask >> p & 1;
+}
+
+bool same_event(const struct event *e, const struct event *f) {
+    if (e->mask != f->mask) return false;
+    for (unsigned p = 0; p < PROCESSES; p++)
+        if (e->clock[p] != f->clock[p] || e->labels[p] != f->labels[p]) return false;
+    return true;
 }
 
 unsigned lowest_process(const struct event *e) {

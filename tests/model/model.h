@@ -1,7 +1,8 @@
-/* A model of the watch, written from the scope paper alone and as plainly as can be: it keeps every event taken, and at each call works out
- * ALL consistent cuts of them and PaCTL's truth at each from the definitions. It shares nothing with the library but the layouts.
- * Two parts: model_* for watches written by calls only, where reply and bytes are exact, and bytes_* for records and windows of any bytes,
- * where the paper leaves some answers free. */
+/* A model of the watch, written from the scope paper and the requests alone and as plainly as can be: it keeps every
+ * event taken, and at each call works out ALL consistent cuts of them and PaCTL's truth at each from the definitions.
+ * It shares nothing with the library but the layouts.
+ * Two parts: model_* for watches written by calls only, where reply and bytes are exact, and bytes_* for records and
+ * windows of any bytes, where the paper leaves some answers free. */
 #ifndef MODEL_H
 #define MODEL_H
 
@@ -27,6 +28,7 @@ struct history {
 };
 
 bool involved(const struct event *e, unsigned p);
+bool same_event(const struct event *e, const struct event *f); /* mask, clock and labels all agree */
 unsigned lowest_process(const struct event *e);
 void append(struct history *h, const struct event *e);
 const struct event *numbered(const struct history *h, unsigned p, unsigned n); /* p's event number n, from 1; NULL if there is none */
@@ -99,6 +101,10 @@ uint64_t lay_down(const struct model *m, uint8_t *record, uint8_t *window, size_
 
 uint64_t reply_word(unsigned number, unsigned flag, uint64_t value, uint64_t place);
 
+/* Offer's word for an event that is the same as a pending one: number 0, flag 1, value 0. Neither a refusal nor
+ * accepted. */
+enum { AGAIN = 256 };
+
 /* As the four calls, with the model of the watch that the lent bytes belong to. model_find says only whether some kept frontier has the
  * line: flag, and value 0. */
 uint64_t model_open(struct model *m, const uint8_t *rule, size_t rule_len, uint64_t k, uint64_t start_labels,
@@ -115,7 +121,7 @@ bool window_length(size_t length);
 
 /* ---- any bytes ---- */
 
-/* The refusal of offer, or 0; an accepted event is laid down in the record. */
+/* The refusal of offer, or AGAIN, or 0: then the event was accepted and is laid down in the record. */
 unsigned bytes_offer(uint64_t mask, uint64_t clock_low, uint64_t clock_high, uint64_t labels, uint8_t *record, size_t record_len);
 
 /* The refusal of find, or 0. */

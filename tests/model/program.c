@@ -134,6 +134,10 @@ static void judge_did(struct run *run, const uint8_t *line, size_t length) {
         print_refused(run, number_of(reply), 0);
         return;
     }
+    if (reply == AGAIN) { /* not accepted, so nothing is taken */
+        print(run->out, "(again)\n");
+        return;
+    }
     print(run->out, "(held %u)\n", (unsigned)(reply >> 16));
     take_all(run);
 }

@@ -16,7 +16,7 @@ enum { NUMBERS = 40 };
 static const char *own_name;
 
 static struct {
-    unsigned long long inputs, lines, opened, paced, states, held, refused[NUMBERS], at_limit[NUMBERS];
+    unsigned long long inputs, lines, opened, paced, states, held, again, refused[NUMBERS], at_limit[NUMBERS];
 } tally;
 
 /* ---- what was met ---- */
@@ -25,6 +25,7 @@ static void count_answer(const char *answer) {
     unsigned number, place;
     if (strncmp(answer, "(state", 6) == 0) tally.states++;
     if (strncmp(answer, "(held", 5) == 0) tally.held++;
+    if (strcmp(answer, "(again)") == 0) tally.again++;
     if (sscanf(answer, "(refused %u %u)", &number, &place) != 2 || number >= NUMBERS) return;
     tally.refused[number]++;
     if (place >= LINE_MOST - 6) tally.at_limit[number]++;
@@ -47,7 +48,8 @@ static void count_answers(const struct output *expected) {
 }
 
 static void print_tally(void) {
-    printf("opened %llu, sent in pieces %llu, states %llu, held %llu\n", tally.opened, tally.paced, tally.states, tally.held);
+    printf("opened %llu, sent in pieces %llu, states %llu, held %llu, again %llu\n", tally.opened, tally.paced,
+           tally.states, tally.held, tally.again);
     printf("refused:");
     for (unsigned number = 0; number < NUMBERS; number++)
         if (tally.refused[number] > 0) printf("  %u: %llu", number, tally.refused[number]);

@@ -1,4 +1,5 @@
-/* Whole inputs: a head of three lines and events of an execution, in any order, with lines between that are spoiled or out of place. */
+/* Whole inputs: a head of three lines and events of an execution, in any order, with lines between that are spoiled, out
+ * of place, or sent before. */
 #include <string.h>
 
 #include "inputs.h"
@@ -109,9 +110,15 @@ static void stray_line(const struct session *t) {
     end_line(t);
 }
 
+/* An event's line once more, or nearly: it may be held still. */
+static void repeated_line(const struct session *t, struct sent e) {
+    did_line(t, chance(t->s, 60) ? e : nearly(t->s, e, t->k));
+    end_line(t);
+}
+
 static void did_lines(const struct session *t) {
     struct source *s = t->s;
-    unsigned strays = chance(s, 50) ? 10 : 50;
+    unsigned strays = chance(s, 50) ? 10 : 50, repeats = chance(s, 70) ? 10 : 50;
     for (unsigned i = 0; i < t->x.n; i++) {
         while (chance(s, strays)) stray_line(t);
         did_line(t, t->x.event[i]);
@@ -121,6 +128,7 @@ static void did_lines(const struct session *t) {
             did_line(t, t->x.event[i]);
         }
         if (!chance(s, 3)) end_line(t);
+        while (chance(s, repeats)) repeated_line(t, t->x.event[chance(s, 50) ? i : below(s, i + 1)]);
     }
 }
 
@@ -202,6 +210,7 @@ static void held_session(struct source *s, struct bytes *input) {
     for (unsigned i = 0; i < t.x.n; i++) {
         did_line(&t, t.x.event[i]);
         end_line(&t);
+        if (chance(s, 30)) repeated_line(&t, t.x.event[below(s, t.x.n)]);
     }
 }
 

@@ -1,6 +1,8 @@
-// Answers in the words of 01's program: (state (1 0) no 2), (held 1), (refused 36 0).
+// Answers in the words of 01's program: (state (1 0) no 2), (held 1), (again), (refused 36 0).
 
 const OUT: i32 = 1;
+// What an offer answers to an event that is pending already.
+const AGAIN: u64 = 256;
 
 // The number that a capital letter stands for: of a reply word its refusal R, place P and number N; of the record how
 // many events it holds H, how many lines its table has L, and the taken counts X, Y and Z of processes 0, 1 and 2.
@@ -56,7 +58,7 @@ pub(crate) fn say_answer(code: u8, word: u64, s: &[u8; 1368]) {
     let bars: u32 = if word % 256 != 0 {
         0
     } else if code == b'e' {
-        1
+        if word == AGAIN { 9 } else { 1 }
     } else if code == b'f' {
         if word == 0 { 2 } else { 3 }
     } else if word == 0 {
@@ -68,7 +70,8 @@ pub(crate) fn say_answer(code: u8, word: u64, s: &[u8; 1368]) {
     };
     say(
         b"(refused R P)\n|(held N)\n|none\n|at N\n|nothing ready\n\
-        |(state (X Y Z) yes N)\n|(state (X Y Z) no N)\n|(state (X Y) yes N)\n|(state (X Y) no N)\n|",
+        |(state (X Y Z) yes N)\n|(state (X Y Z) no N)\n|(state (X Y) yes N)\n|(state (X Y) no N)\n\
+        |(again)\n|",
         bars,
         word,
         s,
