@@ -1,5 +1,5 @@
-/* Whole inputs: a head of three lines and events of an execution, in any order, with lines between that are spoiled, out
- * of place, or sent before. */
+/* Whole inputs: a head of three lines and events of an execution, in any order, with lines between that are spoiled,
+ * out of place, or sent before. */
 #include <string.h>
 
 #include "inputs.h"
