@@ -1,8 +1,8 @@
 // Answers in the words of 01's program: (state (1 0) no 2), (held 1), (again), (refused 36 0).
 
+use answers::AGAIN;
+
 const OUT: i32 = 1;
-// What an offer answers to an event that is pending already.
-const AGAIN: u64 = 256;
 
 // The number that a capital letter stands for: of a reply word its refusal R, place P and number N; of the record how
 // many events it holds H, how many lines its table has L, and the taken counts X, Y and Z of processes 0, 1 and 2.
