@@ -31,7 +31,8 @@ by-test P true x y p q = p refl
 by-test P false x y p q = q refl
 
 -- The number alone decides.
-pub chosen-by : {A : Type 0} (ts : Turns) (f : ℕ → A) (x : A) → Positive ts → chosen ts f x ≡ cond (eqb (numberOf ts) 0) x (f (numberOf ts))
+pub chosen-by : {A : Type 0} (ts : Turns) (f : ℕ → A) (x : A) → Positive ts
+    → chosen ts f x ≡ cond (eqb (numberOf ts) 0) x (f (numberOf ts))
 chosen-by end f x p = refl
 chosen-by (turn true n ts) f x p =
     let some : n ≡ 0 → ⊥ = λ e. omega (arith, p .0) in

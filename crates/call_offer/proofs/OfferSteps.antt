@@ -35,7 +35,8 @@ use Rattle.repeats.specs.Repeats.{repeated}
 
 -- The numbers of 7, 8 and 9 apart, or as one.
 event-first : (b7 b8 b9 : Bool) (x : ℕ)
-    → cond b7 7 (cond b8 8 (cond b9 9 x)) ≡ cond (eqb (cond b7 7 (cond b8 8 (cond b9 9 0))) 0) x (cond b7 7 (cond b8 8 (cond b9 9 0)))
+    → cond b7 7 (cond b8 8 (cond b9 9 x))
+    ≡ cond (eqb (cond b7 7 (cond b8 8 (cond b9 9 0))) 0) x (cond b7 7 (cond b8 8 (cond b9 9 0)))
 event-first true b8 b9 x = refl
 event-first false true b9 x = refl
 event-first false false true x = refl
@@ -46,7 +47,10 @@ pub turned : List ℕ → ℕ → Offered
 turned s n = record { answer = cond (eqb n 256) again (turnedBack n 0); bytes = s }
 
 pub accepted : ℕ → Event → List ℕ → Offered
-accepted w e s = record { answer = held (pendingCount s + 1); bytes = inserted w s (placeAmong e (pendingEvents w s)) e }
+accepted w e s = record {
+  answer = held (pendingCount s + 1);
+  bytes = inserted w s (placeAmong e (pendingEvents w s)) e;
+}
 
 -- The conditions of an offer, in their order.
 abbrev turns : ℕ → ℕ → List ℕ → List ℕ → List ℕ → Turns
@@ -65,13 +69,16 @@ turns w mask clock labels s =
 
 pub offer-by : (w mask : ℕ) (clock labels s : List ℕ)
     → offerCall w mask clock labels s
-    ≡ cond (eqb (offerFault w mask clock labels s) 0) (accepted w (offeredEvent mask clock labels) s) (turned s (offerFault w mask clock labels s))
+    ≡ cond (eqb (offerFault w mask clock labels s) 0) (accepted w (offeredEvent mask clock labels) s)
+    (turned s (offerFault w mask clock labels s))
 unfolding offerCall offerFault eventFault turned accepted
 offer-by w mask clock labels s =
     let e = offeredEvent mask clock labels in
     let k = processCount s in
-    rw (← event-first (badMask k mask) (badClock k mask clock) (badLabels mask labels) (cond (alreadyTaken e (at (takenCounts w s))) 31 (pendingFault w e s)))
-    (chosen-by (turns w mask clock labels s) (turned s) (accepted w e s) (lit< tt, (lit< tt, (lit< tt, (lit< tt, (lit< tt, (lit< tt, (lit< tt, (lit< tt, (lit< tt, tt))))))))))
+    rw (← event-first (badMask k mask) (badClock k mask clock) (badLabels mask labels)
+    (cond (alreadyTaken e (at (takenCounts w s))) 31 (pendingFault w e s)))
+    (chosen-by (turns w mask clock labels s) (turned s) (accepted w e s)
+    (lit< tt, (lit< tt, (lit< tt, (lit< tt, (lit< tt, (lit< tt, (lit< tt, (lit< tt, (lit< tt, tt))))))))))
 
 -- ---- A repeat conflicts
 
@@ -88,14 +95,16 @@ unfolding sameEvent conflicts count involved
 same-conflicts e f some small t =
     let p = lowest e in
     let below : p < 8 = lowest-lt e some small in
-    let mask : e .mask ≡ f .mask = eqb→eq (e .mask) (f .mask) (and-l (eqb (e .mask) (f .mask)) (allBelow 8 (sameAt e f)) t) in
+    let mask : e .mask ≡ f .mask =
+    eqb→eq (e .mask) (f .mask) (and-l (eqb (e .mask) (f .mask)) (allBelow 8 (sameAt e f)) t) in
     let both = all-e 8 (sameAt e f) (and-r (eqb (e .mask) (f .mask)) (allBelow 8 (sameAt e f)) t) p below in
     let equal = and-l (eqb (at (e .clock) p) (at (f .clock) p)) (eqb (at (e .labels) p) (at (f .labels) p)) both in
     let part : bit (e .mask) p ≡ true = lowest-involved e below in
     any-i 8 (λ q. (bit (e .mask) q && bit (f .mask) q) && eqb (at (e .clock) q) (at (f .clock) q)) p below
     (rw (← mask, part) equal)
 
-pub repeat-conflicts : (e : Event) (fs : List Event) → 0 < e .mask → e .mask < 256 → conflicting e fs ≡ false → repeated e fs ≡ false
+pub repeat-conflicts : (e : Event) (fs : List Event) → 0 < e .mask → e .mask < 256 → conflicting e fs ≡ false
+    → repeated e fs ≡ false
 unfolding conflicting repeated
 repeat-conflicts e fs some small h = none (anyOf (sameEvent e) fs) refl
   where
@@ -116,7 +125,8 @@ module _ (w : ℕ) (s : List ℕ) (e : Event) (i : ℕ) where
   unfolding placeAmong pendingEvents
   place-here l h = rw (rest-next (pendingCount s) (pendingAt w s) i l, h, add-zero)
 
-  pub place-further : i < pendingCount s → keyBefore (keyOf (pendingAt w s i)) (keyOf e) ≡ true → placeFrom w s e i ≡ placeFrom w s e (i + 1)
+  pub place-further : i < pendingCount s → keyBefore (keyOf (pendingAt w s i)) (keyOf e) ≡ true
+      → placeFrom w s e i ≡ placeFrom w s e (i + 1)
   unfolding placeAmong pendingEvents
   place-further l h = rw (rest-next (pendingCount s) (pendingAt w s) i l, h) (omega arith)
 
@@ -133,7 +143,8 @@ passed-event f x = go (eqb f 0) refl
     go true e h = h
     go false e h = absurd (eqb-false f 0 e h)
 
-pub offer-passed : (w mask : ℕ) (clock labels s : List ℕ) → offerFault w mask clock labels s ≡ 0 → (length s ≡ recordLength w) × (pendingCount s < 32)
+pub offer-passed : (w mask : ℕ) (clock labels s : List ℕ) → offerFault w mask clock labels s ≡ 0
+    → (length s ≡ recordLength w) × (pendingCount s < 32)
 unfolding offerFault
 offer-passed w mask clock labels s h =
     let e = offeredEvent mask clock labels in
@@ -141,12 +152,16 @@ offer-passed w mask clock labels s h =
     let conflict : ℕ = cond (conflicting e (pendingEvents w s)) 32 full in
     let taken : ℕ = cond (alreadyTaken e (at (takenCounts w s))) 31 (pendingFault w e s) in
     let fault : ℕ = eventFault (processCount s) mask clock labels in
-    let p = passed (badRecordLength w (length s)) 6 (cond (badState w 1024 s) 34 (cond (eqb fault 0) taken fault)) (lit< tt) h in
+    let p = passed (badRecordLength w (length s)) 6 (cond (badState w 1024 s) 34 (cond (eqb fault 0) taken fault))
+    (lit< tt) h in
     let q = passed (badState w 1024 s) 34 (cond (eqb fault 0) taken fault) (lit< tt) (p .1) in
-    let r = passed (alreadyTaken e (at (takenCounts w s))) 31 (pendingFault w e s) (lit< tt) (passed-event fault taken (q .1)) in
+    let r = passed (alreadyTaken e (at (takenCounts w s))) 31 (pendingFault w e s) (lit< tt)
+    (passed-event fault taken (q .1)) in
     let t = passed (repeated e (pendingEvents w s)) 256 conflict (lit< tt) (r .1) in
-    let u = passed (conflicting e (pendingEvents w s)) 32 full (lit< tt) (t .1) in
-    (right-length w (length s) (p .0), leb-false 32 (pendingCount s) (passed (leb 32 (pendingCount s)) 33 0 (lit< tt) (u .1) .0))
+    let u = passed (conflicting e (pendingEvents w s)) 32 full (lit< tt) (t .1) in (
+      right-length w (length s) (p .0),
+      leb-false 32 (pendingCount s) (passed (leb 32 (pendingCount s)) 33 0 (lit< tt) (u .1) .0),
+    )
 
 -- ---- The reply and the bytes, in the two cases
 
@@ -154,7 +169,8 @@ pub offer-turned : (w mask : ℕ) (clock labels s : List ℕ) (n : ℕ) → n �
     → (n ≡ replyWord (offerCall w mask clock labels s .answer)) × (s ≡ offerCall w mask clock labels s .bytes)
 unfolding turned replyWord
 offer-turned w mask clock labels s n e h =
-    let whole : offerCall w mask clock labels s ≡ turned s n = offer-by w mask clock labels s ∙ rw (← e, ne-eqb n 0 h) in
+    let whole : offerCall w mask clock labels s ≡ turned s n =
+    offer-by w mask clock labels s ∙ rw (← e, ne-eqb n 0 h) in
     (rw whole (word (eqb n 256) refl), rw whole)
   where
     word : (b : Bool) → eqb n 256 ≡ b → n ≡ replyWord (cond b again (turnedBack n 0))
@@ -167,5 +183,6 @@ pub offer-accepted : (w mask : ℕ) (clock labels s : List ℕ) → offerFault w
     × (inserted w s (placeAmong e (pendingEvents w s)) e ≡ offerCall w mask clock labels s .bytes)
 unfolding accepted replyWord
 offer-accepted w mask clock labels s h =
-    let whole : offerCall w mask clock labels s ≡ accepted w (offeredEvent mask clock labels) s = offer-by w mask clock labels s ∙ rw (eq-eqb (offerFault w mask clock labels s) 0 h) in
+    let whole : offerCall w mask clock labels s ≡ accepted w (offeredEvent mask clock labels) s =
+    offer-by w mask clock labels s ∙ rw (eq-eqb (offerFault w mask clock labels s) 0 h) in
     (rw whole, rw whole)

@@ -27,7 +27,8 @@ pub data Case (w mask : ℕ) (clock labels s : List ℕ) (o : Offered) : Type 0 
       → conflicting (offeredEvent mask clock labels) (pendingEvents w s) ≡ false → leb 32 (pendingCount s) ≡ false
       → o ≡ record {
         answer = held (pendingCount s + 1);
-        bytes = inserted w s (placeAmong (offeredEvent mask clock labels) (pendingEvents w s)) (offeredEvent mask clock labels);
+        bytes = inserted w s (placeAmong (offeredEvent mask clock labels) (pendingEvents w s))
+            (offeredEvent mask clock labels);
       }
       → Case w mask clock labels s o
 

@@ -19,33 +19,44 @@ record Tells (a : Answer) : Type 0 where
 turned-tells : (n : ℕ) → 0 < n → n < 35 → Tells (turnedBack n 0)
 unfolding replyWord
 turned-tells n some small = record {
-  accepted-exactly = λ m. (λ x. let z : _≡_ {A = ℕ} 0 1 = cc in absurd (omega arith), λ x. absurd (omega (arith, x .0, x .1)));
-  turned-exactly = λ m. (λ x. let z : n ≡ m = cc in (omega arith, omega arith), λ x. let z : n ≡ m = omega (arith, x .1) in rw z);
+  accepted-exactly = λ m.
+      (λ x. let z : _≡_ {A = ℕ} 0 1 = cc in absurd (omega arith), λ x. absurd (omega (arith, x .0, x .1)));
+  turned-exactly = λ m.
+      (λ x. let z : n ≡ m = cc in (omega arith, omega arith), λ x. let z : n ≡ m = omega (arith, x .1) in rw z);
   again-exactly = (λ x. let z : _≡_ {A = ℕ} 0 1 = cc in absurd (omega arith), λ x. absurd (omega (arith, x)));
 }
 
 again-tells : Tells again
 unfolding replyWord
 again-tells = record {
-  accepted-exactly = λ m. (λ x. let z : _≡_ {A = ℕ} 0 1 = cc in absurd (omega arith), λ x. absurd (omega (arith, x .0, x .1)));
-  turned-exactly = λ m. (λ x. let z : _≡_ {A = ℕ} 0 1 = cc in absurd (omega arith), λ x. absurd (omega (arith, x .0, x .1)));
+  accepted-exactly = λ m.
+      (λ x. let z : _≡_ {A = ℕ} 0 1 = cc in absurd (omega arith), λ x. absurd (omega (arith, x .0, x .1)));
+  turned-exactly = λ m.
+      (λ x. let z : _≡_ {A = ℕ} 0 1 = cc in absurd (omega arith), λ x. absurd (omega (arith, x .0, x .1)));
   again-exactly = (λ x. refl, λ x. refl);
 }
 
 held-tells : (n : ℕ) → 0 < n → n < 33 → Tells (held n)
 unfolding replyWord
 held-tells n some small = record {
-  accepted-exactly = λ m. (λ x. let z : n ≡ m = cc in (omega arith, omega arith), λ x. let z : n ≡ m = omega (arith, x .1) in rw z);
-  turned-exactly = λ m. (λ x. let z : _≡_ {A = ℕ} 0 1 = cc in absurd (omega arith), λ x. absurd (omega (arith, x .0, x .1)));
+  accepted-exactly = λ m.
+      (λ x. let z : n ≡ m = cc in (omega arith, omega arith), λ x. let z : n ≡ m = omega (arith, x .1) in rw z);
+  turned-exactly = λ m.
+      (λ x. let z : _≡_ {A = ℕ} 0 1 = cc in absurd (omega arith), λ x. absurd (omega (arith, x .0, x .1)));
   again-exactly = (λ x. let z : _≡_ {A = ℕ} 0 1 = cc in absurd (omega arith), λ x. absurd (omega (arith, x)));
 }
 
 pub replies-tell : RepliesTell
 replies-tell w mask clock labels s =
     let t = go (offerCall w mask clock labels s) (offer-case w mask clock labels s) in
-    record { accepted-exactly = t .accepted-exactly; turned-exactly = t .turned-exactly; again-exactly = t .again-exactly }
+    record {
+      accepted-exactly = t .accepted-exactly;
+      turned-exactly = t .turned-exactly;
+      again-exactly = t .again-exactly;
+    }
   where
     go : (o : Offered) → Case w mask clock labels s o → Tells (o .answer)
     go o (turned n some small q) = rw q (turned-tells n some small)
     go o (repeats h7 h q) = rw q again-tells
-    go o (accepted h7 h8 h9 h31 h32 h33 q) = rw q (held-tells (pendingCount s + 1) (omega arith) (omega (arith, leb-false 32 (pendingCount s) h33)))
+    go o (accepted h7 h8 h9 h31 h32 h33 q) =
+        rw q (held-tells (pendingCount s + 1) (omega arith) (omega (arith, leb-false 32 (pendingCount s) h33)))

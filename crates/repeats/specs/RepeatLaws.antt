@@ -23,4 +23,5 @@ repeated-exactly e fs eight eights = (there, λ m. any-of-i (sameEvent e) fs e m
     there t =
         let f = any-of-e (sameEvent e) fs t in
         let g = eights (f .0) (f .1) in
-        subst (λ (h : Event). List·Memᴰ h fs) (sym (same-event-test e (f .0) (eight .0) (g .0) (eight .1) (g .1) .0 (f .2))) (f .1)
+        subst (λ (h : Event). List·Memᴰ h fs)
+        (sym (same-event-test e (f .0) (eight .0) (g .0) (eight .1) (g .1) .0 (f .2))) (f .1)

@@ -19,7 +19,8 @@ same-length c = search needs
 returns : tie.Need-returns
 returns c =
     let a = c .before .before .before .before .args in
-    offer-turned (a .w) (a .mask) (a .clock) (a .labels) (now (a .«record»)) (c .before .offer-fault .result) (c .before .offer-fault .ensures) (c .if1 .taken)
+    offer-turned (a .w) (a .mask) (a .clock) (a .labels) (now (a .«record»)) (c .before .offer-fault .result)
+    (c .before .offer-fault .ensures) (c .if1 .taken)
 
 offered-event-requires : tie.Need-offered-event-requires
 offered-event-requires c κs = search needs
@@ -30,7 +31,8 @@ within : (c : tie.Else1)
     (length (now (a .«record»)) ≡ recordLength (a .w)) × (pendingCount (now (a .«record»)) < 32)
 within c =
     let a = c .before .before .before .before .args in
-    offer-passed (a .w) (a .mask) (a .clock) (a .labels) (now (a .«record»)) (sym (c .before .offer-fault .ensures) ∙ c .if1 .left)
+    offer-passed (a .w) (a .mask) (a .clock) (a .labels) (now (a .«record»))
+    (sym (c .before .offer-fault .ensures) ∙ c .if1 .left)
 
 pending-count-requires : tie.Need-pending-count-requires
 pending-count-requires c κs = let passed = c .before .before in omega (arith, within passed .0)
@@ -45,8 +47,13 @@ insert-event-requires c κs =
     let event = c .before .before .before .before .before in
     let passed = event .before in
     let counts = passed .before .before .before .before .pre .1 in
-    let place = c .before .place-among in
-    (search needs, (within passed .0, (place .ensures .1, (within passed .1, λ p. rw (event .offered-event .ensures) (counts p)))))
+    let place = c .before .place-among in (
+      search needs,
+      (
+        within passed .0,
+        (place .ensures .1, (within passed .1, λ p. rw (event .offered-event .ensures) (counts p))),
+      ),
+    )
 
 add-result : tie.Need-add-result
 add-result c = search needs
@@ -61,7 +68,9 @@ same-length-2 c = search needs
 returns-2 : tie.Need-returns-2
 returns-2 c =
     let a = c .before .before .before .before .before .before .before .before .before .before .before .before .before .args in
-    let both = offer-accepted (a .w) (a .mask) (a .clock) (a .labels) (now (a .«record»)) (sym (c .before .before .before .before .before .before .before .before .before .before .offer-fault .ensures) ∙ c .before .before .before .before .before .before .before .before .before .if1 .left) in
+    let both = offer-accepted (a .w) (a .mask) (a .clock) (a .labels) (now (a .«record»))
+    (sym (c .before .before .before .before .before .before .before .before .before .before .offer-fault .ensures)
+    ∙ c .before .before .before .before .before .before .before .before .before .if1 .left) in
     (cc (both .0), cc (both .1))
 
 pub offer-spec : {M : Type 1} → statement M

@@ -112,7 +112,12 @@ unfolding offerFault
 returns-3 c =
     let judged = c .before in
     let stood = judged .before .before in
-    rw (length-passed (stood .before .before), state-passed stood, event-read judged, ne-eqb (judged .event-fault .result) 0 (c .if3 .taken))
+    rw (
+      length-passed (stood .before .before),
+      state-passed stood,
+      event-read judged,
+      ne-eqb (judged .event-fault .result) 0 (c .if3 .taken),
+    )
 
 offered-event-requires : tie.Need-offered-event-requires
 offered-event-requires c κs = search needs
@@ -132,14 +137,25 @@ returns-4 c =
     let looked = c .before in
     let fine = looked .before .before .before in
     let stood = fine .before .before .before in
-    rw (length-passed (stood .before .before), state-passed stood, eq-eqb _ 0 (event-passed fine), taken-read looked, c .if4 .taken)
+    rw (
+      length-passed (stood .before .before),
+      state-passed stood,
+      eq-eqb _ 0 (event-passed fine),
+      taken-read looked,
+      c .if4 .taken,
+    )
 
 conflicting-requires : tie.Need-conflicting-requires
 conflicting-requires c κs =
     let fine = c .before .before .before .before in
     let stood = fine .before .before .before in
-    let a = stood .before .before .before .before .before .args in
-    (search needs, (right (stood .before .before), state-within (a .w) 1024 (now (a .«record»)) (state-passed stood) .1))
+    let a = stood .before .before .before .before .before .args in (
+      search needs,
+      (
+        right (stood .before .before),
+        state-within (a .w) 1024 (now (a .«record»)) (state-passed stood) .1,
+      ),
+    )
 
 sent-again-requires : tie.Need-sent-again-requires
 sent-again-requires c κs =
@@ -148,7 +164,8 @@ sent-again-requires c κs =
     let stood = fine .before .before .before in
     let a = stood .before .before .before .before .before .args in
     let within = state-within (a .w) 1024 (now (a .«record»)) (state-passed stood) in
-    let some = some-process (processCount (now (a .«record»))) (a .mask) (a .clock) (a .labels) (within .0) (mask-word (stood .before .before)) (event-passed fine) in
+    let some = some-process (processCount (now (a .«record»))) (a .mask) (a .clock) (a .labels) (within .0)
+    (mask-word (stood .before .before)) (event-passed fine) in
     let event = untaken .before .before .before .offered-event in
     (search needs, (right (stood .before .before), (within .1, (rw (event .ensures) some, c .conflicting .ensures))))
 
@@ -179,7 +196,8 @@ returns-5 c =
     )
     (c .pending-fault .ensures
     ∙ ap
-    (λ (n : ℕ). cond (searched .sent-again .result) 256 (cond (compared .conflicting .result) 32 (cond (leb 32 n) 33 0)))
+    (λ (n : ℕ). cond (searched .sent-again .result) 256
+    (cond (compared .conflicting .result) 32 (cond (leb 32 n) 33 0)))
     (counted .pending-count .ensures .0))
 
 pub offer-fault-spec : {M : Type 1} → statement M

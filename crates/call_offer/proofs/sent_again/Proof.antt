@@ -16,7 +16,8 @@ returns c = search needs
 returns-2 : tie.Need-returns-2
 returns-2 c =
     let a = c .before .before .args in
-    sym (repeat-conflicts (a .e) (pendingEvents (a .w) (now (a .«record»))) (search needs) (search needs) (sym (c .before .before .pre .1 .1 .1 .1) ∙ c .if1 .left))
+    sym (repeat-conflicts (a .e) (pendingEvents (a .w) (now (a .«record»))) (search needs) (search needs)
+    (sym (c .before .before .pre .1 .1 .1 .1) ∙ c .if1 .left))
 
 pub sent-again-spec : {M : Type 1} → statement M
 sent-again-spec = tie.close (tie.spec repeated-requires returns returns-2)

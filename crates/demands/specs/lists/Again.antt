@@ -67,7 +67,10 @@ module _ (w k : ℕ) (f : Formula) (start : Cut) (Z : Watch) (S : Sound w k f st
         (cond (repeated e (L .pending)) (record { answer = again; bytes = Z .bytes })
         (cond (conflicting e (L .pending)) (back 32)
         (cond (leb 32 (pendingCount (Z .bytes))) (back 33)
-        (record { answer = held (pendingCount (Z .bytes) + 1); bytes = inserted w (Z .bytes) (placeAmong e (L .pending)) e }))))
+        (record {
+          answer = held (pendingCount (Z .bytes) + 1);
+          bytes = inserted w (Z .bytes) (placeAmong e (L .pending)) e;
+        }))))
 
     offer-judged : offerCall w mask clock labels (Z .bytes) ≡ judged
     unfolding offerCall judged badRecordLength back
@@ -78,19 +81,31 @@ module _ (w k : ℕ) (f : Formula) (start : Cut) (Z : Watch) (S : Sound w k f st
         let long = eq-eqb _ _ (bytes-long w k table start R L (Z .bytes) (Z .window) X) in
         let state = never-34 w k table start R L (Z .bytes) (Z .window) X 1024 (X .few) in
         let whole : mask % 256 ≡ mask = omega arith in
-        let none = fault-0 k (mask % 256) clock labels .0 (no-fault k e (R .eight-processes) (omega arith) (passed .1) (passed .3) .1 fine) in
+        let none = fault-0 k (mask % 256) clock labels .0
+        (no-fault k e (R .eight-processes) (omega arith) (passed .1) (passed .3) .1 fine) in
         let h7 : badMask k mask ≡ false = rw whole at (none .0) in
         let h8 : badClock k mask clock ≡ false = rw whole at (none .1) in
         let h9 : badLabels mask labels ≡ false = rw whole at (none .2) in
-        rw (long, state, says-processes w k table start R L (Z .bytes) (Z .window) X, h7, h8, h9, says-taken w k table start R L (Z .bytes) (Z .window) X, says)
+        rw (
+          long,
+          state,
+          says-processes w k table start R L (Z .bytes) (Z .window) X,
+          h7,
+          h8,
+          h9,
+          says-taken w k table start R L (Z .bytes) (Z .window) X,
+          says,
+        )
 
     -- ---- ... whose counts are not taken yet
     module _ (new : (p : ℕ) → involved e p ≡ true → taken (L .history) p < count e p) where
       untaken : alreadyTaken e (taken (L .history)) ≡ false
       unfolding alreadyTaken
-      untaken = any-false-i 8 (λ p. involved e p && leb (count e p) (taken (L .history) p)) (λ p l. at-process p (involved e p) refl)
+      untaken = any-false-i 8 (λ p. involved e p && leb (count e p) (taken (L .history) p))
+          (λ p l. at-process p (involved e p) refl)
         where
-          at-process : (p : ℕ) (b : Bool) → involved e p ≡ b → (involved e p && leb (count e p) (taken (L .history) p)) ≡ false
+          at-process : (p : ℕ) (b : Bool) → involved e p ≡ b
+              → (involved e p && leb (count e p) (taken (L .history) p)) ≡ false
           at-process p true h = rw (h, lt-leb (count e p) (taken (L .history) p) (new p h))
           at-process p false h = rw h
 
@@ -100,13 +115,16 @@ module _ (w k : ℕ) (f : Formula) (start : Cut) (Z : Watch) (S : Sound w k f st
           let r : repeated e (L .pending) ≡ true = T-true (repeated e (L .pending)) (repeated-here .1 m) in
           rw offer-judged (rw (untaken, r))
 
-      is-other : (g : Event) → List·Memᴰ g (L .pending) → Quarrels e g → offerCall w mask clock labels (Z .bytes) .answer ≡ turnedBack 32 0
+      is-other : (g : Event) → List·Memᴰ g (L .pending) → Quarrels e g
+          → offerCall w mask clock labels (Z .bytes) .answer ≡ turnedBack 32 0
       unfolding judged back conflicting conflicts
       is-other g m q = rw offer-judged (rw (untaken, alone (repeated e (L .pending)) refl, quarrel))
         where
           alone : (b : Bool) → repeated e (L .pending) ≡ b → repeated e (L .pending) ≡ false
           alone false h = h
-          alone true h = absurd (clear-apart (L .pending) (S .right .clear) e g (repeated-here .0 (true-T h)) m (q .other) (q .process) (q .involves) (q .involves-other) (q .same-count))
+          alone true h = absurd
+              (clear-apart (L .pending) (S .right .clear) e g (repeated-here .0 (true-T h)) m (q .other) (q .process)
+              (q .involves) (q .involves-other) (q .same-count))
 
           p : ℕ
           p = q .process
@@ -116,7 +134,8 @@ module _ (w k : ℕ) (f : Formula) (start : Cut) (Z : Watch) (S : Sound w k f st
 
           quarrel : conflicting e (L .pending) ≡ true
           quarrel = T-true (conflicting e (L .pending)) (any-of-i (conflicts e) (L .pending) g m
-              (any-i 8 (λ o. (involved e o && involved g o) && eqb (count e o) (count g o)) p below (rw (q .involves, q .involves-other, eq-eqb (count e p) (count g p) (q .same-count)) tt)))
+              (any-i 8 (λ o. (involved e o && involved g o) && eqb (count e o) (count g o)) p below
+              (rw (q .involves, q .involves-other, eq-eqb (count e p) (count g p) (q .same-count)) tt)))
 
     -- ---- ... which is taken
     is-taken : In e (L .history) → offerCall w mask clock labels (Z .bytes) .answer ≡ turnedBack 31 0
@@ -133,10 +152,12 @@ module _ (w k : ℕ) (f : Formula) (start : Cut) (Z : Watch) (S : Sound w k f st
         below = omega (arith, S .rule .eight-processes, involved-below k e (fine .formed) p part)
 
         within : count e p ≤ taken (L .history) p
-        within = count-within (L .history) (causal-history w k (linesAt 0 f) start (S .rule) L (Z .bytes) (Z .window) (S .right)) e m p
+        within = count-within (L .history)
+            (causal-history w k (linesAt 0 f) start (S .rule) L (Z .bytes) (Z .window) (S .right)) e m p
 
         known : alreadyTaken e (taken (L .history)) ≡ true
-        known = T-true (alreadyTaken e (taken (L .history))) (any-i 8 (λ q. involved e q && leb (count e q) (taken (L .history) q)) p below
+        known = T-true (alreadyTaken e (taken (L .history)))
+            (any-i 8 (λ q. involved e q && leb (count e q) (taken (L .history) q)) p below
             (rw (part, le-leb (count e p) (taken (L .history) p) within) tt))
 
   -- ---- "Again" comes of a pending event alone
@@ -162,14 +183,22 @@ exact-of w k f start Z S =
     record {
       again-exactly = λ mask clock labels p. (
         then-pending w k f start Z S mask clock labels p,
-        λ x. is-again w k f start Z S mask clock labels p (x .0) (X .faultless _ (inr (x .1))) (X .right .untaken _ (x .1)) (x .1),
+        λ x. is-again w k f start Z S mask clock labels p (x .0) (X .faultless _ (inr (x .1)))
+            (X .right .untaken _ (x .1)) (x .1),
       );
       again-idle = λ mask clock labels h. offer-idle w mask clock labels Z (rw h);
-      taken-again = λ mask clock labels p m. is-taken w k f start Z S mask clock labels (p .0) (p .1) (X .faultless _ (inl m)) m;
-      other-event = λ mask clock labels p fine new g m q. is-other w k f start Z S mask clock labels (p .0) (p .1) fine new g m q;
+      taken-again = λ mask clock labels p m. is-taken w k f start Z S mask clock labels (p .0) (p .1)
+          (X .faultless _ (inl m)) m;
+      other-event = λ mask clock labels p fine new g m q. is-other w k f start Z S mask clock labels (p .0)
+          (p .1) fine new g m q;
     }
 
 pub again-exact : AgainIsExact
 again-exact w pos text k labels eight s window a cs p =
-    let x = sound-run w pos text k labels eight s window a cs p in
-    (x .0, x .1, x .2, reader-accepts text k (x .1) (x .0) .0 (x .2) .0, exact-of w k (x .0) (at labels) (atEnd w text k labels s window cs) (x .3))
+    let x = sound-run w pos text k labels eight s window a cs p in (
+      x .0,
+      x .1,
+      x .2,
+      reader-accepts text k (x .1) (x .0) .0 (x .2) .0,
+      exact-of w k (x .0) (at labels) (atEnd w text k labels s window cs) (x .3),
+    )

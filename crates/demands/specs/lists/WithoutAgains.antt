@@ -24,7 +24,8 @@ use Rattle.demands.specs.statements.Again.{isAgain, lastOf, withoutAgain
 
 -- ---- Only offers are answered "again"
 
-decided-other : (w : ℕ) (s window : List ℕ) (fs : List Frontier) (d : Decision) → isAgain (decided w s window fs d .answer) ≡ false
+decided-other : (w : ℕ) (s window : List ℕ) (fs : List Frontier) (d : Decision)
+    → isAgain (decided w s window fs d .answer) ≡ false
 unfolding decided stateOf
 decided-other w s window fs (undecided true) = refl
 decided-other w s window fs (undecided false) = refl
@@ -37,14 +38,17 @@ take-other w s window scratch =
     let by = by-test (λ (t : Taken). isAgain (t .answer) ≡ false) in
     let back : ℕ → Taken = λ n. record { answer = turnedBack n 0; bytes = s; window = window; scratch = scratch } in
     let fs = frontiers w window (keptCount s) in
-    by (badRecordLength w (length s) || (badWindowLength w (length window) || not (eqb (length scratch) (length window)))) (back 6) _ (λ _. refl) λ _.
+    let wrong = badWindowLength w (length window) || not (eqb (length scratch) (length window)) in
+    by (badRecordLength w (length s) || wrong) (back 6) _ (λ _. refl) λ _.
     by (badState w (roomOf w (length window)) s) (back 34) _ (λ _. refl) λ _.
     decided-other w s window fs (tried w s (roomOf w (length window)) fs 0 false (pendingEvents w s))
 
 found-other : (line i : ℕ) (fs : List Frontier) → isAgain (findFrom line i fs) ≡ false
 unfolding findFrom
 found-other line i [] = refl
-found-other line i (f ∷ fs) = by-test (λ (a : Answer). isAgain a ≡ false) (bit (f .values) line) (found i) (findFrom line (i + 1) fs) (λ _. refl) (λ _. found-other line (i + 1) fs)
+found-other line i (f ∷ fs) =
+    by-test (λ (a : Answer). isAgain a ≡ false) (bit (f .values) line) (found i) (findFrom line (i + 1) fs) (λ _. refl)
+    (λ _. found-other line (i + 1) fs)
 
 find-other : (w line : ℕ) (s window : List ℕ) → isAgain (findCall w line s window) ≡ false
 unfolding findCall
@@ -55,7 +59,8 @@ find-other w line s window =
     by (leb (lineTotal s) line) (turnedBack 11 0) _ (λ _. refl) λ _.
     found-other line 0 (frontiers w window (keptCount s))
 
-open-other : (w : ℕ) (text : List ℕ) (k : ℕ) (labels s window : List ℕ) → isAgain (openCall w text k labels s window .answer) ≡ false
+open-other : (w : ℕ) (text : List ℕ) (k : ℕ) (labels s window : List ℕ)
+    → isAgain (openCall w text k labels s window .answer) ≡ false
 unfolding openTable stateOf
 open-other w text k labels s window = go (open-case w text k labels s window)
   where
@@ -67,9 +72,16 @@ open-other w text k labels s window = go (open-case w text k labels s window)
 
 -- A watch with one answer more.
 abbrev pub answeredBy : Answer → Watch → Watch
-answeredBy a W = record { bytes = W .bytes; window = W .window; ledger = W .ledger; accepted = W .accepted; answers = a ∷ W .answers }
+answeredBy a W = record {
+  bytes = W .bytes;
+  window = W .window;
+  ledger = W .ledger;
+  accepted = W .accepted;
+  answers = a ∷ W .answers;
+}
 
-pub offer-idle : (w mask : ℕ) (clock labels : List ℕ) (W : Watch) → isAgain (offerCall w mask clock labels (W .bytes) .answer) ≡ true
+pub offer-idle : (w mask : ℕ) (clock labels : List ℕ) (W : Watch)
+    → isAgain (offerCall w mask clock labels (W .bytes) .answer) ≡ true
     → after w (offers mask clock labels) W ≡ answeredBy again W
 unfolding after offeredLedger acceptedBy
 offer-idle w mask clock labels W h = go (offer-case w mask clock labels (W .bytes))
@@ -82,7 +94,8 @@ offer-idle w mask clock labels W h = go (offer-case w mask clock labels (W .byte
     go (repeats h7 r q) = rw q
     go (accepted h7 h8 h9 h31 h32 h33 q) = absurd (never (rw q at h))
 
-idle : (w : ℕ) (c : Call) (W : Watch) → isAgain (lastOf (after w c W .answers)) ≡ true → after w c W ≡ answeredBy again W
+idle : (w : ℕ) (c : Call) (W : Watch) → isAgain (lastOf (after w c W .answers)) ≡ true
+    → after w c W ≡ answeredBy again W
 unfolding after lastOf
 idle w (offers mask clock labels) W h = offer-idle w mask clock labels W h
 idle w (takes more scratch) W h =
@@ -120,7 +133,8 @@ step w (finds line) Y Z S h = record {
   other-answers = rw (S .same-record, S .same-window, S .other-answers, h);
 }
 
-along : (w : ℕ) (cs : List Call) (Y Z : Watch) → SameButAgains Y Z → SameButAgains (run w (withoutAgains w cs Z) Y) (run w cs Z)
+along : (w : ℕ) (cs : List Call) (Y Z : Watch) → SameButAgains Y Z
+    → SameButAgains (run w (withoutAgains w cs Z) Y) (run w cs Z)
 unfolding run withoutAgains otherAnswers
 along w [] Y Z S = S
 along w (c ∷ cs) Y Z S = go (isAgain (lastOf (after w c Z .answers))) refl (λ U. along w cs U (after w c Z))
@@ -130,7 +144,8 @@ along w (c ∷ cs) Y Z S = go (isAgain (lastOf (after w c Z .answers))) refl (λ
 
     go : (b : Bool) → isAgain (lastOf (after w c Z .answers)) ≡ b
         → ((U : Watch) → SameButAgains U (after w c Z) → SameButAgains (run w rest U) (run w cs (after w c Z)))
-        → SameButAgains (run w (cond (isAgain (lastOf (after w c Z .answers))) rest (c ∷ rest)) Y) (run w cs (after w c Z))
+        → SameButAgains (run w (cond (isAgain (lastOf (after w c Z .answers))) rest (c ∷ rest)) Y)
+        (run w cs (after w c Z))
     go true h further = rw h (further Y (rw (idle w c Z h) (record {
       same-record = S .same-record;
       same-window = S .same-window;

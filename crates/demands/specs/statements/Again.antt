@@ -81,7 +81,8 @@ lastOf (a ∷ answers) = a
 unfoldable pub withoutAgains : ℕ → List Call → Watch → List Call
 withoutAgains w [] W = []
 withoutAgains w (c ∷ cs) W =
-    cond (isAgain (lastOf (after w c W .answers))) (withoutAgains w cs (after w c W)) (c ∷ withoutAgains w cs (after w c W))
+    cond (isAgain (lastOf (after w c W .answers))) (withoutAgains w cs (after w c W))
+    (c ∷ withoutAgains w cs (after w c W))
 
 -- The answers but for "again".
 unfoldable pub otherAnswers : List Answer → List Answer

@@ -31,14 +31,20 @@ conflicts-requires : tie.Need-conflicts-requires Inv-loop μ-loop
 conflicts-requires c κs = search needs
 
 -- The call's answer is that of pending event number i.
-here : (c : tie.After-conflicts Inv-loop μ-loop) → conflicts (c .before .before .before .before .before .before .args .e) (pendingAt (c .before .before .before .before .before .before .args .w) (now (c .before .before .before .before .before .before .args .«record»)) (c .before .before .before .loop .i)) ≡ c .conflicts .result
-here c = sym (c .conflicts .ensures ∙ ap (conflicts (c .before .before .before .before .before .before .args .e)) (c .before .pending-event .ensures))
+here : (c : tie.After-conflicts Inv-loop μ-loop)
+    → conflicts (c .before .before .before .before .before .before .args .e)
+    (pendingAt (c .before .before .before .before .before .before .args .w)
+    (now (c .before .before .before .before .before .before .args .«record»)) (c .before .before .before .loop .i))
+    ≡ c .conflicts .result
+here c = sym (c .conflicts .ensures
+    ∙ ap (conflicts (c .before .before .before .before .before .before .args .e)) (c .before .pending-event .ensures))
 
 returns : tie.Need-returns Inv-loop μ-loop
 returns c =
     let a = c .before .before .before .before .before .before .before .args in
     let l = c .before .before .before .before .loop in
-    sym (l .inv .1 ∙ search-here (a .w) (now (a .«record»)) (conflicts (a .e)) (l .i) (omega arith) (here (c .before) ∙ c .if1 .taken))
+    sym (l .inv .1 ∙ search-here (a .w) (now (a .«record»)) (conflicts (a .e)) (l .i) (omega arith)
+    (here (c .before) ∙ c .if1 .taken))
 
 add-i : tie.Need-add-i Inv-loop μ-loop
 add-i c = search needs
@@ -49,8 +55,12 @@ loop-less c = search needs
 loop-again : tie.Need-loop-again Inv-loop μ-loop
 loop-again c =
     let a = c .before .before .before .before .before .before .before .args in
-    let l = c .before .before .before .before .loop in
-    (search needs, l .inv .1 ∙ search-next (a .w) (now (a .«record»)) (conflicts (a .e)) (l .i) (omega arith) (here (c .before) ∙ c .if1 .left))
+    let l = c .before .before .before .before .loop in (
+      search needs,
+      l .inv .1
+          ∙ search-next (a .w) (now (a .«record»)) (conflicts (a .e)) (l .i) (omega arith)
+          (here (c .before) ∙ c .if1 .left),
+    )
 
 returns-2 : tie.Need-returns-2 Inv-loop μ-loop
 returns-2 c =

@@ -32,14 +32,20 @@ same-event-requires : tie.Need-same-event-requires Inv-loop μ-loop
 same-event-requires c κs = search needs
 
 -- The call's answer is that of pending event number i.
-here : (c : tie.After-same-event Inv-loop μ-loop) → sameEvent (c .before .before .before .before .before .before .args .e) (pendingAt (c .before .before .before .before .before .before .args .w) (now (c .before .before .before .before .before .before .args .«record»)) (c .before .before .before .loop .i)) ≡ c .same-event .result
-here c = sym (c .same-event .ensures ∙ ap (sameEvent (c .before .before .before .before .before .before .args .e)) (c .before .pending-event .ensures))
+here : (c : tie.After-same-event Inv-loop μ-loop)
+    → sameEvent (c .before .before .before .before .before .before .args .e)
+    (pendingAt (c .before .before .before .before .before .before .args .w)
+    (now (c .before .before .before .before .before .before .args .«record»)) (c .before .before .before .loop .i))
+    ≡ c .same-event .result
+here c = sym (c .same-event .ensures
+    ∙ ap (sameEvent (c .before .before .before .before .before .before .args .e)) (c .before .pending-event .ensures))
 
 returns : tie.Need-returns Inv-loop μ-loop
 returns c =
     let a = c .before .before .before .before .before .before .before .args in
     let l = c .before .before .before .before .loop in
-    sym (l .inv .1 ∙ search-here (a .w) (now (a .«record»)) (sameEvent (a .e)) (l .i) (omega arith) (here (c .before) ∙ c .if1 .taken))
+    sym (l .inv .1 ∙ search-here (a .w) (now (a .«record»)) (sameEvent (a .e)) (l .i) (omega arith)
+    (here (c .before) ∙ c .if1 .taken))
 
 add-i : tie.Need-add-i Inv-loop μ-loop
 add-i c = search needs
@@ -50,8 +56,12 @@ loop-less c = search needs
 loop-again : tie.Need-loop-again Inv-loop μ-loop
 loop-again c =
     let a = c .before .before .before .before .before .before .before .args in
-    let l = c .before .before .before .before .loop in
-    (search needs, l .inv .1 ∙ search-next (a .w) (now (a .«record»)) (sameEvent (a .e)) (l .i) (omega arith) (here (c .before) ∙ c .if1 .left))
+    let l = c .before .before .before .before .loop in (
+      search needs,
+      l .inv .1
+          ∙ search-next (a .w) (now (a .«record»)) (sameEvent (a .e)) (l .i) (omega arith)
+          (here (c .before) ∙ c .if1 .left),
+    )
 
 returns-2 : tie.Need-returns-2 Inv-loop μ-loop
 returns-2 c =

@@ -40,7 +40,8 @@ element-copy-out-if2-2 c = search needs
 returns-2 : tie.Need-returns-2 Inv-loop μ-loop
 returns-2 c =
     let a = c .before .before .before .before .before .before .args in
-    sym (differ-at (a .t1) (a .t2) (c .before .before .before .before .loop .p) (search needs) (rw (ne-eqb _ _ (c .if2 .taken))))
+    sym (differ-at (a .t1) (a .t2) (c .before .before .before .before .loop .p) (search needs)
+    (rw (ne-eqb _ _ (c .if2 .taken))))
 
 element-copy-out-if3 : tie.Need-element-copy-out-if3 Inv-loop μ-loop
 element-copy-out-if3 c = search needs
@@ -51,7 +52,8 @@ element-copy-out-if3-2 c = search needs
 returns-3 : tie.Need-returns-3 Inv-loop μ-loop
 returns-3 c =
     let a = c .before .before .before .before .before .before .before .before .before .args in
-    sym (differ-at (a .t1) (a .t2) (c .before .before .before .before .before .before .before .loop .p) (search needs) (rw (eq-eqb _ _ (c .before .before .before .if2 .left), ne-eqb _ _ (c .if3 .taken))))
+    sym (differ-at (a .t1) (a .t2) (c .before .before .before .before .before .before .before .loop .p) (search needs)
+    (rw (eq-eqb _ _ (c .before .before .before .if2 .left), ne-eqb _ _ (c .if3 .taken))))
 
 add-p : tie.Need-add-p Inv-loop μ-loop
 add-p c = search needs
@@ -63,7 +65,8 @@ loop-again : tie.Need-loop-again Inv-loop μ-loop
 loop-again c =
     let a = c .before .before .before .before .before .before .before .before .before .args in
     let l = c .before .before .before .before .before .before .before .loop in
-    let same : sameAt (a .t1) (a .t2) (l .p) ≡ true = rw (eq-eqb _ _ (c .before .before .before .if2 .left), eq-eqb _ _ (c .if3 .left)) in
+    let same : sameAt (a .t1) (a .t2) (l .p) ≡ true =
+    rw (eq-eqb _ _ (c .before .before .before .if2 .left), eq-eqb _ _ (c .if3 .left)) in
     (search needs, l .inv .1, all-next (l .p) (sameAt (a .t1) (a .t2)) (l .inv .2) same)
 
 returns-4 : tie.Need-returns-4 Inv-loop μ-loop
