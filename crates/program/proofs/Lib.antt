@@ -1,6 +1,4 @@
 -- What the proofs of the functions cite: one test or one turn of a loop at a time.
-mod TextSteps
-mod ReplySteps
 mod SplitSteps
 mod KeptRule
 mod StageSteps

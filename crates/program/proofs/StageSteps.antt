@@ -18,10 +18,10 @@ use Rattle.answers.specs.Answer.{replyWord}
 use Rattle.call_words.specs.Words.{unpackCounts, unpackLabels}
 use Rattle.call_open.specs.Open.{openCall}
 use Rattle.call_offer.specs.Offer.{offerCall}
-use Rattle.program.specs.declared.Reply.{Reply}
+use Rattle.replies.specs.declared.Reply.{Reply}
 use Rattle.program.specs.declared.Session.{Session}
-use Rattle.program.specs.Replies.{partsOf}
-use Rattle.program.specs.Following.{nextStage}
+use Rattle.replies.specs.Replies.{partsOf}
+use Rattle.replies.specs.Following.{nextStage}
 use Rattle.program.specs.Stages.{Standing, Stands, Replied, refuse, watchRead, ruleRead, startRead, didRead}
 use Rattle.program.specs.CallAnswers.{open-fits, offer-fits}
 

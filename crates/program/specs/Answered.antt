@@ -9,13 +9,14 @@ use lib.ListN.{take}
 use Rattle.codec.specs.Little.{Bytes}
 use Rattle.answers.specs.Answer.{Answer, replyWord}
 use Rattle.call_take.specs.Take.{takeCall}
-use Rattle.program.specs.declared.Reply.{Reply}
+use Rattle.replies.specs.declared.Reply.{Reply}
 use Rattle.program.specs.declared.Session.{Session}
-use Rattle.program.specs.Texts.{answerText}
-use Rattle.program.specs.Replies.{partsOf}
-use Rattle.program.specs.Following.{accepted, takesAgain, eventStage, overStage}
+use Rattle.reply_text.specs.Texts.{answerText}
+use Rattle.replies.specs.Replies.{partsOf}
+use Rattle.replies.specs.Following.{accepted, takesAgain, eventStage, overStage}
 use Rattle.program.specs.Stages.{Standing, lineRead, Stands}
-use Rattle.program.specs.Promises.{TextPromised, PartsPromised, FollowPromised}
+use Rattle.replies.specs.Promises.{PartsPromised, FollowPromised}
+use Rattle.reply_text.specs.Promises.{TextPromised}
 
 -- What the program knows by its session and buffers, where the last line's answer is a.
 unfoldable pub known : Answer → Session → List ℕ → List ℕ → List ℕ → Standing

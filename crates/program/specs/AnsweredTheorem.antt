@@ -3,8 +3,8 @@ use mathlib.Core.Path.{refl}
 use lib.Dec.{eqb}
 use Rattle.records.specs.Record.{takenCounts}
 use Rattle.call_take.specs.Take.{takeCall}
-use Rattle.program.specs.Replies.{Possible}
-use Rattle.program.specs.Following.{eventStage}
+use Rattle.replies.specs.Replies.{Possible}
+use Rattle.replies.specs.Following.{eventStage}
 use Rattle.program.specs.Stages.{lineRead}
 use Rattle.program.specs.CallAnswers.{take-told}
 use Rattle.program.specs.LineAnswers.{line-possible}

@@ -35,7 +35,7 @@ use Rattle.call_open.specs.Open.{Opened, openTable, openRead, openCall}
 use Rattle.answers.specs.Turns.{by-test}
 use Rattle.call_offer.specs.Offer.{offerCall}
 use Rattle.call_offer.specs.OfferCases.{OfferCase, offer-case, turned, repeats, accepted}
-use Rattle.program.specs.Replies.{Fits, Possible}
+use Rattle.replies.specs.Replies.{Fits, Possible}
 
 -- A rule's fault has a number of 1 to 4.
 pub rule-number : (n : ℕ) (s : List ℕ) (k i : ℕ) → Fault n s k i → (1 ≤ n) × (n ≤ 4)

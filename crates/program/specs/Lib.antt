@@ -1,15 +1,10 @@
 -- The program without its input and output.
 
 -- What a reader has to believe
-pub mod Texts
-pub mod Replies
-pub mod Following
 pub mod Split
 pub mod Stages
-pub mod Promises
 pub mod Answered
 -- What is proved of it
-pub mod ReplyLaws
 pub mod TakenCountsLaws
 pub mod CallAnswers
 pub mod LineAnswers

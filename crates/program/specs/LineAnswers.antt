@@ -24,8 +24,8 @@ use Rattle.line_laws.specs.faults.NamedProcesses.{names-some}
 use Rattle.refusals.specs.Refusals.{badProcesses}
 use Rattle.records.specs.Record.{takenCounts}
 use Rattle.call_words.specs.Words.{unpackCounts, unpackLabels}
-use Rattle.program.specs.Replies.{Possible}
-use Rattle.program.specs.Following.{watchStage, ruleStage, startStage, eventStage, overStage}
+use Rattle.replies.specs.Replies.{Possible}
+use Rattle.replies.specs.Following.{watchStage, ruleStage, startStage, eventStage, overStage}
 use Rattle.program.specs.Stages.{Standing, refuse, watchRead, ruleRead, startRead, didRead, lineRead}
 use Rattle.program.specs.CallAnswers.{rule-number, open-possible, offer-possible}
 

@@ -21,8 +21,8 @@ use Rattle.call_words.specs.Words.{unpackCounts, unpackLabels}
 use Rattle.call_open.specs.Open.{openCall}
 use Rattle.call_offer.specs.Offer.{offerCall}
 use Rattle.program.specs.declared.Session.{Session}
-use Rattle.program.specs.Replies.{partsOf, Fits}
-use Rattle.program.specs.Following.{refused, watchStage, ruleStage, startStage, nextStage}
+use Rattle.replies.specs.Replies.{partsOf, Fits}
+use Rattle.replies.specs.Following.{refused, watchStage, ruleStage, startStage, nextStage}
 
 -- What the program knows between two lines, and its answer to the last: the next line's stage, the processes, the room
 -- in frontiers, the rule's text, the record and the window.

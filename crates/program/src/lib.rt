@@ -1,12 +1,9 @@
-// The program without its input and output: what it answers to each line, the answers' text, and what follows from an
-// answer.
+// The program without its input and output: lines out of bytes, and what it answers to each line.
+
+use replies::Reply;
 
 // Lines out of the bytes that were read.
 pub mod split;
-// The answers' text.
-pub mod text;
-// What follows from an answer: another take, or the next stage.
-pub mod following;
 // What each line is answered with.
 pub mod stages;
 
@@ -15,15 +12,6 @@ pub struct Scan {
     pub used: usize,
     pub kept: usize,
     pub feed: bool,
-}
-
-// An answer's parts: a refusal's number and place, both 0 where there is none; the rule's truth; the frontiers kept or
-// the events pending.
-pub struct Reply {
-    pub number: u64,
-    pub place: u64,
-    pub holds: bool,
-    pub value: u64,
 }
 
 // Where the program stands after a line: the stage of the next line, the processes, the room in frontiers, the length

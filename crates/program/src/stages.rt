@@ -1,16 +1,16 @@
 // What each line is answered with (01, Examples: the program): the lines come in their order, and each is judged when
 // it is read.
 
-use crate::Reply;
 use crate::Session;
-use crate::following::decode;
-use crate::following::next_stage;
-use crate::text::put;
 use lines::DidLine;
 use lines::RuleLine;
 use lines::StartLine;
 use lines::WatchLine;
 use refusals::bad_processes;
+use replies::Reply;
+use replies::decode;
+use replies::next_stage;
+use reply_text::put;
 use watch::watch_offer;
 use watch::watch_open;
 ghost use Prim.Native.Nat.{ℕ, _≤_};

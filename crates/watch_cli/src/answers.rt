@@ -1,12 +1,12 @@
 // Answers, printed: a line is answered, and takes follow where they have to.
 
-use program::Reply;
 use program::Session;
-use program::following::decode;
-use program::following::takes;
-use program::following::takes_again;
 use program::stages::answer;
-use program::text::answer_text;
+use replies::Reply;
+use replies::decode;
+use replies::takes;
+use replies::takes_again;
+use reply_text::answer_text;
 use watch::watch_take;
 ghost use Prim.Native.Nat.{_≤_, _<_};
 ghost use mathlib.Core.Path.{_≡_};

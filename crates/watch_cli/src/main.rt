@@ -11,8 +11,8 @@ use answers::respond;
 use answers::turns;
 use input::Input;
 use input::next_line;
-use program::Reply;
 use program::Session;
+use replies::Reply;
 
 // Answers line after line, until the input or the program is over.
 fn main() {

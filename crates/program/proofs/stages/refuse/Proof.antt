@@ -1,7 +1,7 @@
 -- Only stage and reply are others.
 use mathlib.Core.Path.{refl, _∙_}
 use Rattle.program.specs.Stages.{refuse}
-use Rattle.program.specs.Replies.{partsOf}
+use Rattle.replies.specs.Replies.{partsOf}
 use borrow.Author.Needs.{needs}
 use Rattle.program.proofs.stages.refuse.Statement.{statement}
 use Rattle.program.proofs.stages.refuse.Tie as tie

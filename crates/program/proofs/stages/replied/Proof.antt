@@ -1,6 +1,6 @@
 -- A refusal is known by its number, which is not 0.
 use mathlib.Core.Path.{refl, _∙_}
-use Rattle.program.proofs.ReplySteps.{refused-by}
+use Rattle.replies.specs.ReplyLaws.{refused-by}
 use borrow.Author.Needs.{needs}
 use Rattle.program.proofs.stages.replied.Statement.{statement}
 use Rattle.program.proofs.stages.replied.Tie as tie

@@ -1,0 +1,5 @@
+-- The answers' text.
+
+-- What a reader has to believe
+pub mod Texts
+pub mod Promises
