@@ -37,7 +37,7 @@ use Rattle.demands.specs.calls.StoredFits.{causal-history}
 use Rattle.demands.specs.calls.WatchingLaws.{bytes-long, says-processes, says-pending, says-taken, never-34}
 use Rattle.demands.specs.lists.SoundRun.{Sound, sound-run}
 use Rattle.demands.specs.lists.WithoutAgains.{offer-idle}
-use Rattle.demands.specs.statements.Again.{Quarrels, AgainExact, AgainIsExact}
+use Rattle.demands.specs.statements.Again.{Contradicts, AgainExact, AgainIsExact}
 
 module _ (w k : ℕ) (f : Formula) (start : Cut) (Z : Watch) (S : Sound w k f start Z)
     (mask : ℕ) (clock labels : List ℕ) (passed : Passed w (offers mask clock labels)) where
@@ -115,10 +115,10 @@ module _ (w k : ℕ) (f : Formula) (start : Cut) (Z : Watch) (S : Sound w k f st
           let r : repeated e (L .pending) ≡ true = T-true (repeated e (L .pending)) (repeated-here .1 m) in
           rw offer-judged (rw (untaken, r))
 
-      is-other : (g : Event) → List·Memᴰ g (L .pending) → Quarrels e g
+      is-other : (g : Event) → List·Memᴰ g (L .pending) → Contradicts e g
           → offerCall w mask clock labels (Z .bytes) .answer ≡ turnedBack 32 0
       unfolding judged back conflicting conflicts
-      is-other g m q = rw offer-judged (rw (untaken, alone (repeated e (L .pending)) refl, quarrel))
+      is-other g m q = rw offer-judged (rw (untaken, alone (repeated e (L .pending)) refl, conflict))
         where
           alone : (b : Bool) → repeated e (L .pending) ≡ b → repeated e (L .pending) ≡ false
           alone false h = h
@@ -132,8 +132,8 @@ module _ (w k : ℕ) (f : Formula) (start : Cut) (Z : Watch) (S : Sound w k f st
           below : p < 8
           below = omega (arith, S .rule .eight-processes, involved-below k e (fine .formed) p (q .involves))
 
-          quarrel : conflicting e (L .pending) ≡ true
-          quarrel = T-true (conflicting e (L .pending)) (any-of-i (conflicts e) (L .pending) g m
+          conflict : conflicting e (L .pending) ≡ true
+          conflict = T-true (conflicting e (L .pending)) (any-of-i (conflicts e) (L .pending) g m
               (any-i 8 (λ o. (involved e o && involved g o) && eqb (count e o) (count g o)) p below
               (rw (q .involves, q .involves-other, eq-eqb (count e p) (count g p) (q .same-count)) tt)))
 

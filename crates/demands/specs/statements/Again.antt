@@ -24,7 +24,7 @@ abbrev pub Offerable : ℕ → ℕ → List ℕ → List ℕ → Type 0
 Offerable w mask clock labels = Passed w (offers mask clock labels) × (mask < 256)
 
 -- An event and another one differ, though a common process has the same count in both.
-pub record Quarrels (e f : Event) : Type 0 where
+pub record Contradicts (e f : Event) : Type 0 where
   pub other : f ≢ e
   pub process : ℕ
   pub involves : involved e process ≡ true
@@ -55,7 +55,7 @@ pub record AgainExact (w k : ℕ) (f : Formula) (start : Cut) (Z : Watch) : Type
   pub other-event : (mask : ℕ) (clock labels : List ℕ) → Offerable w mask clock labels
       → let e = offeredEvent mask clock labels in
       Faultless k e → ((p : ℕ) → involved e p ≡ true → taken (Z .ledger .history) p < count e p)
-      → (g : Event) → List·Memᴰ g (Z .ledger .pending) → Quarrels e g
+      → (g : Event) → List·Memᴰ g (Z .ledger .pending) → Contradicts e g
       → offerCall w mask clock labels (Z .bytes) .answer ≡ turnedBack conflictNumber 0
 
 abbrev pub AgainIsExact : Type 0
