@@ -28,7 +28,7 @@ use Rattle.call_offer.specs.Offer.{Offered, placeAmong, offeredEvent, of
 use Rattle.refusals.specs.RefusalLaws.{right-length}
 use Rattle.answers.specs.Turns.{Turns, chosen-by, passed, end, turn}
 use Rattle.clocks.specs.stored.CountsLaws.{rest-next, rest-end}
-use Rattle.call_offer.specs.OfferCode.{pendingFault, offerFault}
+use Rattle.call_offer.specs.OfferCode.{pendingWord, unacceptedWord}
 use Rattle.repeats.specs.Repeats.{repeated}
 
 -- ---- The refusals in their order
@@ -69,14 +69,14 @@ turns w mask clock labels s =
 
 pub offer-by : (w mask : ℕ) (clock labels s : List ℕ)
     → offerCall w mask clock labels s
-    ≡ cond (eqb (offerFault w mask clock labels s) 0) (accepted w (offeredEvent mask clock labels) s)
-    (turned s (offerFault w mask clock labels s))
-unfolding offerCall offerFault eventFault turned accepted
+    ≡ cond (eqb (unacceptedWord w mask clock labels s) 0) (accepted w (offeredEvent mask clock labels) s)
+    (turned s (unacceptedWord w mask clock labels s))
+unfolding offerCall unacceptedWord eventFault turned accepted
 offer-by w mask clock labels s =
     let e = offeredEvent mask clock labels in
     let k = processCount s in
     rw (← event-first (badMask k mask) (badClock k mask clock) (badLabels mask labels)
-    (cond (alreadyTaken e (at (takenCounts w s))) 31 (pendingFault w e s)))
+    (cond (alreadyTaken e (at (takenCounts w s))) 31 (pendingWord w e s)))
     (chosen-by (turns w mask clock labels s) (turned s) (accepted w e s)
     (lit< tt, (lit< tt, (lit< tt, (lit< tt, (lit< tt, (lit< tt, (lit< tt, (lit< tt, (lit< tt, tt))))))))))
 
@@ -143,19 +143,19 @@ passed-event f x = go (eqb f 0) refl
     go true e h = h
     go false e h = absurd (eqb-false f 0 e h)
 
-pub offer-passed : (w mask : ℕ) (clock labels s : List ℕ) → offerFault w mask clock labels s ≡ 0
+pub offer-passed : (w mask : ℕ) (clock labels s : List ℕ) → unacceptedWord w mask clock labels s ≡ 0
     → (length s ≡ recordLength w) × (pendingCount s < 32)
-unfolding offerFault
+unfolding unacceptedWord
 offer-passed w mask clock labels s h =
     let e = offeredEvent mask clock labels in
     let full : ℕ = cond (leb 32 (pendingCount s)) 33 0 in
     let conflict : ℕ = cond (conflicting e (pendingEvents w s)) 32 full in
-    let taken : ℕ = cond (alreadyTaken e (at (takenCounts w s))) 31 (pendingFault w e s) in
+    let taken : ℕ = cond (alreadyTaken e (at (takenCounts w s))) 31 (pendingWord w e s) in
     let fault : ℕ = eventFault (processCount s) mask clock labels in
     let p = passed (badRecordLength w (length s)) 6 (cond (badState w 1024 s) 34 (cond (eqb fault 0) taken fault))
     (lit< tt) h in
     let q = passed (badState w 1024 s) 34 (cond (eqb fault 0) taken fault) (lit< tt) (p .1) in
-    let r = passed (alreadyTaken e (at (takenCounts w s))) 31 (pendingFault w e s) (lit< tt)
+    let r = passed (alreadyTaken e (at (takenCounts w s))) 31 (pendingWord w e s) (lit< tt)
     (passed-event fault taken (q .1)) in
     let t = passed (repeated e (pendingEvents w s)) 256 conflict (lit< tt) (r .1) in
     let u = passed (conflicting e (pendingEvents w s)) 32 full (lit< tt) (t .1) in (
@@ -165,7 +165,7 @@ offer-passed w mask clock labels s h =
 
 -- ---- The reply and the bytes, in the two cases
 
-pub offer-turned : (w mask : ℕ) (clock labels s : List ℕ) (n : ℕ) → n ≡ offerFault w mask clock labels s → (n ≡ 0 → ⊥)
+pub offer-turned : (w mask : ℕ) (clock labels s : List ℕ) (n : ℕ) → n ≡ unacceptedWord w mask clock labels s → (n ≡ 0 → ⊥)
     → (n ≡ replyWord (offerCall w mask clock labels s .answer)) × (s ≡ offerCall w mask clock labels s .bytes)
 unfolding turned replyWord
 offer-turned w mask clock labels s n e h =
@@ -177,12 +177,12 @@ offer-turned w mask clock labels s n e h =
     word true q = eqb-true n 256 q
     word false q = omega arith
 
-pub offer-accepted : (w mask : ℕ) (clock labels s : List ℕ) → offerFault w mask clock labels s ≡ 0
+pub offer-accepted : (w mask : ℕ) (clock labels s : List ℕ) → unacceptedWord w mask clock labels s ≡ 0
     → let e = offeredEvent mask clock labels in
     (65536 * (pendingCount s + 1) ≡ replyWord (offerCall w mask clock labels s .answer))
     × (inserted w s (placeAmong e (pendingEvents w s)) e ≡ offerCall w mask clock labels s .bytes)
 unfolding accepted replyWord
 offer-accepted w mask clock labels s h =
     let whole : offerCall w mask clock labels s ≡ accepted w (offeredEvent mask clock labels) s =
-    offer-by w mask clock labels s ∙ rw (eq-eqb (offerFault w mask clock labels s) 0 h) in
+    offer-by w mask clock labels s ∙ rw (eq-eqb (unacceptedWord w mask clock labels s) 0 h) in
     (rw whole, rw whole)

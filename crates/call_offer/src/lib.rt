@@ -29,7 +29,7 @@ ghost use Rattle.frontiers.specs.Width.{Width};
 ghost use Rattle.records.specs.Record.{recordLength, pendingCount, pendingEvents};
 ghost use Rattle.call_offer.specs.Offer.{placeAmong, offeredEvent, offerCall};
 ghost use Rattle.answers.specs.Answer.{replyWord};
-ghost use Rattle.call_offer.specs.OfferCode.{offerFault};
+ghost use Rattle.call_offer.specs.OfferCode.{unacceptedWord};
 ghost use Rattle.refusals.specs.Refusals as conditions;
 ghost use Rattle.repeats.specs.Repeats as repeats;
 
@@ -78,8 +78,8 @@ fn sent_again(suspected: bool, record: &[u8], w: usize, e: Event) -> bool
     false
 }
 
-// What the pending events say of an offer, in their order: again, or a refusal's number; 0 for neither.
-fn pending_fault(again: bool, conflict: bool, full: bool) -> u64
+// The reply word that the pending events give an offer, in their order: again, or a refusal; 0 for neither.
+fn pending_word(again: bool, conflict: bool, full: bool) -> u64
     ensures { λ r. ⌜ r ≡ cond again 256 (cond conflict 32 (cond full 33 0)) ⌝ }
 {
     if again {
@@ -94,10 +94,10 @@ fn pending_fault(again: bool, conflict: bool, full: bool) -> u64
     0
 }
 
-// The number that an offer is turned back with, or the word of "again", in their order; 0 for neither.
-pub fn offer_fault(w: usize, mask: u64, clock: [u32; 8], labels: [u8; 8], record: &[u8]) -> u64
+// The reply word of an offer that is not accepted, a refusal or again, in their order; 0 for one that is.
+pub fn unaccepted_word(w: usize, mask: u64, clock: [u32; 8], labels: [u8; 8], record: &[u8]) -> u64
     requires { ⌜ Width w ⌝ }
-    ensures { λ r. ⌜ r ≡ offerFault w mask clock labels (now («record» .entry)) ⌝ }
+    ensures { λ r. ⌜ r ≡ unacceptedWord w mask clock labels (now («record» .entry)) ⌝ }
 {
     if bad_record_length(w, record.len()) {
         return LENGTH;
@@ -116,7 +116,7 @@ pub fn offer_fault(w: usize, mask: u64, clock: [u32; 8], labels: [u8; 8], record
     let conflict = conflicting(record, w, e);
     let again = sent_again(conflict, record, w, e);
     let full = PENDING <= pending_count(record);
-    pending_fault(again, conflict, full)
+    pending_word(again, conflict, full)
 }
 
 // Offers an event: the reply, and the record's bytes after it.
@@ -126,7 +126,7 @@ pub fn offer(w: usize, mask: u64, clock: [u32; 8], labels: [u8; 8], record: &mut
     ensures reply { λ r. ⌜ r ≡ replyWord (offerCall w mask clock labels (now («record» .entry)) .answer) ⌝ }
     ensures bytes { λ r. ⌜ now («record» .exit) ≡ offerCall w mask clock labels (now («record» .entry)) .bytes ⌝ }
 {
-    let reply = offer_fault(w, mask, clock, labels, record);
+    let reply = unaccepted_word(w, mask, clock, labels, record);
     if reply != 0 {
         return reply;
     }

@@ -10,8 +10,8 @@ use Rattle.call_offer.proofs.offer.Statement.{statement}
 use Rattle.records.specs.Record.{recordLength, pendingCount}
 use Rattle.call_offer.proofs.OfferSteps.{offer-passed, offer-turned, offer-accepted}
 
-offer-fault-requires : tie.Need-offer-fault-requires
-offer-fault-requires c κs = search needs
+unaccepted-word-requires : tie.Need-unaccepted-word-requires
+unaccepted-word-requires c κs = search needs
 
 same-length : tie.Need-same-length
 same-length c = search needs
@@ -19,8 +19,8 @@ same-length c = search needs
 returns : tie.Need-returns
 returns c =
     let a = c .before .before .before .before .args in
-    offer-turned (a .w) (a .mask) (a .clock) (a .labels) (now (a .«record»)) (c .before .offer-fault .result)
-    (c .before .offer-fault .ensures) (c .if1 .taken)
+    offer-turned (a .w) (a .mask) (a .clock) (a .labels) (now (a .«record»)) (c .before .unaccepted-word .result)
+    (c .before .unaccepted-word .ensures) (c .if1 .taken)
 
 offered-event-requires : tie.Need-offered-event-requires
 offered-event-requires c κs = search needs
@@ -32,7 +32,7 @@ within : (c : tie.Else1)
 within c =
     let a = c .before .before .before .before .args in
     offer-passed (a .w) (a .mask) (a .clock) (a .labels) (now (a .«record»))
-    (sym (c .before .offer-fault .ensures) ∙ c .if1 .left)
+    (sym (c .before .unaccepted-word .ensures) ∙ c .if1 .left)
 
 pending-count-requires : tie.Need-pending-count-requires
 pending-count-requires c κs = let passed = c .before .before in omega (arith, within passed .0)
@@ -69,7 +69,7 @@ returns-2 : tie.Need-returns-2
 returns-2 c =
     let a = c .before .before .before .before .before .before .before .before .before .before .before .before .before .args in
     let both = offer-accepted (a .w) (a .mask) (a .clock) (a .labels) (now (a .«record»))
-    (sym (c .before .before .before .before .before .before .before .before .before .before .offer-fault .ensures)
+    (sym (c .before .before .before .before .before .before .before .before .before .before .unaccepted-word .ensures)
     ∙ c .before .before .before .before .before .before .before .before .before .if1 .left) in
     (cc (both .0), cc (both .1))
 
@@ -77,7 +77,7 @@ pub offer-spec : {M : Type 1} → statement M
 offer-spec =
     tie.close
     (tie.spec
-    offer-fault-requires
+    unaccepted-word-requires
     same-length
     returns
     offered-event-requires

@@ -1,5 +1,5 @@
 -- Each return is a number's turn: the tests before it are passed, and its own holds.
-use Rattle.call_offer.proofs.offer_fault.Tie as tie
+use Rattle.call_offer.proofs.unaccepted_word.Tie as tie
 use Prim.Native.Nat.{ℕ, _<_, _^_}
 use native.Mathlib.Omega.{arith}
 use mathlib.Core.Path.{_≡_, sym, _∙_, ap}
@@ -13,14 +13,14 @@ use denote.Ref.{now}
 use Rattle.clocks.specs.Counts.{at}
 use Rattle.clocks.specs.Refusal.{eventFault}
 use Rattle.clocks.specs.declared.Event.{Event}
-use Rattle.call_offer.proofs.offer_fault.Statement.{statement}
+use Rattle.call_offer.proofs.unaccepted_word.Statement.{statement}
 use Rattle.refusals.specs.RefusalLaws.{right-length, state-within}
 use Rattle.records.specs.Record.{recordLength, processCount, takenCounts, pendingEvents}
 use Rattle.refusals.specs.Refusals.{badRecordLength, badState, alreadyTaken, conflicting}
 use Rattle.repeats.specs.Repeats.{repeated}
 use Rattle.call_offer.proofs.OfferSteps.{some-process}
 use Rattle.call_offer.specs.Offer.{offeredEvent}
-use Rattle.call_offer.specs.OfferCode.{offerFault}
+use Rattle.call_offer.specs.OfferCode.{unacceptedWord}
 
 bad-record-length-requires : tie.Need-bad-record-length-requires
 bad-record-length-requires c κs = search needs
@@ -88,14 +88,14 @@ again-read c = cc
 -- ---- The needs
 
 returns : tie.Need-returns
-unfolding offerFault
+unfolding unacceptedWord
 returns c = rw (sym (c .before .bad-record-length .ensures) ∙ c .if1 .taken)
 
 bad-state-requires : tie.Need-bad-state-requires
 bad-state-requires c κs = (search needs, right c)
 
 returns-2 : tie.Need-returns-2
-unfolding offerFault
+unfolding unacceptedWord
 returns-2 c = rw (length-passed (c .before .before), sym (c .before .bad-state .ensures) ∙ c .if2 .taken)
 
 process-count-requires : tie.Need-process-count-requires
@@ -108,7 +108,7 @@ event-fault-requires c κs =
     omega (arith, state-within (a .w) 1024 (now (a .«record»)) (state-passed stood) .0)
 
 returns-3 : tie.Need-returns-3
-unfolding offerFault
+unfolding unacceptedWord
 returns-3 c =
     let judged = c .before in
     let stood = judged .before .before in
@@ -132,7 +132,7 @@ already-taken-requires : tie.Need-already-taken-requires
 already-taken-requires c κs = search needs
 
 returns-4 : tie.Need-returns-4
-unfolding offerFault
+unfolding unacceptedWord
 returns-4 c =
     let looked = c .before in
     let fine = looked .before .before .before in
@@ -174,11 +174,11 @@ pending-count-requires c κs =
     let fine = c .before .before .before .before .before .before in
     omega (arith, right (fine .before .before .before .before .before))
 
-pending-fault-requires : tie.Need-pending-fault-requires
-pending-fault-requires c κs = search needs
+pending-word-requires : tie.Need-pending-word-requires
+pending-word-requires c κs = search needs
 
 returns-5 : tie.Need-returns-5
-unfolding offerFault
+unfolding unacceptedWord
 returns-5 c =
     let counted = c .before in
     let searched = counted .before in
@@ -194,14 +194,14 @@ returns-5 c =
       again-read searched,
       conflict-read compared,
     )
-    (c .pending-fault .ensures
+    (c .pending-word .ensures
     ∙ ap
     (λ (n : ℕ). cond (searched .sent-again .result) 256
     (cond (compared .conflicting .result) 32 (cond (leb 32 n) 33 0)))
     (counted .pending-count .ensures .0))
 
-pub offer-fault-spec : {M : Type 1} → statement M
-offer-fault-spec =
+pub unaccepted-word-spec : {M : Type 1} → statement M
+unaccepted-word-spec =
     tie.close
     (tie.spec
     bad-record-length-requires
@@ -218,5 +218,5 @@ offer-fault-spec =
     conflicting-requires
     sent-again-requires
     pending-count-requires
-    pending-fault-requires
+    pending-word-requires
     returns-5)
