@@ -17,8 +17,7 @@ use records::fields::taken_counts;
 use refusals::already_taken;
 use refusals::bad_record_length;
 use refusals::bad_state;
-use refusals::conflicting;
-use repeats::repeated;
+use repeats::pending_alike;
 use updates::insert_event;
 ghost use Prim.Native.Nat.{ℕ, _≤_, _<_, _^_};
 ghost use mathlib.Core.Path.{_≡_};
@@ -73,7 +72,7 @@ fn sent_again(suspected: bool, record: &[u8], w: usize, e: Event) -> bool
     ensures { λ r. ⌜ r ≡ repeats.repeated e (pendingEvents w (now («record» .entry))) ⌝ }
 {
     if suspected {
-        return repeated(record, w, e);
+        return pending_alike(record, w, e, true);
     }
     false
 }
@@ -113,7 +112,7 @@ pub fn unaccepted_word(w: usize, mask: u64, clock: [u32; 8], labels: [u8; 8], re
     if already_taken(e, taken_counts(record, w)) {
         return TAKEN;
     }
-    let conflict = conflicting(record, w, e);
+    let conflict = pending_alike(record, w, e, false);
     let again = sent_again(conflict, record, w, e);
     let full = PENDING <= pending_count(record);
     pending_word(again, conflict, full)

@@ -8,18 +8,17 @@ use numbers::limit::PROCESSES;
 use records::fields::kept_count;
 use records::fields::line_total;
 use records::fields::pending_count;
-use records::fields::pending_event;
 use records::fields::pending_place;
 use records::fields::process_count;
 use records::fields::table_place;
-ghost use Prim.Native.Nat.{_+_, _*_, _≤_, _<_};
+ghost use Prim.Native.Nat.{_+_, _*_, _<_};
 ghost use mathlib.Core.Path.{_≡_};
 ghost use mathlib.Core.Bool.{_&&_};
 ghost use lib.Dec.{eqb, leb};
 ghost use lib.ListN.{length};
 ghost use Rattle.clocks.specs.Counts.{at};
 ghost use Rattle.frontiers.specs.Width.{Width};
-ghost use Rattle.records.specs.Record.{recordLength, pendingCount, pendingEvents};
+ghost use Rattle.records.specs.Record.{recordLength};
 ghost use Rattle.refusals.specs.Refusals.{badRecordLength, badWindowLength, roomOf, badProcesses, badState, alreadyTaken, badNumbers};
 ghost use Rattle.refusals.specs.Refusals as conditions;
 
@@ -163,24 +162,6 @@ pub fn conflicts(e: Event, f: Event) -> bool
             return true;
         }
         p += 1;
-    }
-    false
-}
-
-// 32: a pending event has the same count at a common process.
-pub fn conflicting(record: &[u8], w: usize, e: Event) -> bool
-    requires { ⌜ Width w ⌝ }
-    requires { ⌜ length (now «record») ≡ recordLength w ⌝ }
-    requires { ⌜ pendingCount (now «record») ≤ 32 ⌝ }
-    ensures { λ r. ⌜ r ≡ conditions.conflicting e (pendingEvents w (now («record» .entry))) ⌝ }
-{
-    let n = pending_count(record);
-    let mut i = 0;
-    while i < n {
-        if conflicts(e, pending_event(record, w, i)) {
-            return true;
-        }
-        i += 1;
     }
     false
 }

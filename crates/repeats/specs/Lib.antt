@@ -4,3 +4,5 @@
 pub mod Repeats
 -- What is proved
 pub mod RepeatLaws
+-- What its functions' contracts cite
+pub mod RepeatsCode

@@ -18,6 +18,7 @@ use Rattle.refusals.specs.RefusalLaws.{right-length, state-within}
 use Rattle.records.specs.Record.{recordLength, processCount, takenCounts, pendingEvents}
 use Rattle.refusals.specs.Refusals.{badRecordLength, badState, alreadyTaken, conflicting}
 use Rattle.repeats.specs.Repeats.{repeated}
+use Rattle.repeats.specs.RepeatsCode.{alike}
 use Rattle.call_offer.proofs.OfferSteps.{some-process}
 use Rattle.call_offer.specs.Offer.{offeredEvent}
 use Rattle.call_offer.specs.OfferCode.{unacceptedWord}
@@ -73,10 +74,11 @@ taken-passed : (c : tie.Else4)
 taken-passed c = taken-read (c .before) ∙ c .if4 .left
 
 -- What the pending events say of the offered one.
-conflict-read : (c : tie.After-conflicting)
+conflict-read : (c : tie.After-pending-alike)
     → let a = c .before .before .before .before .before .before .before .before .before .before .before .before .before .args in
     conflicting (offeredEvent (a .mask) (a .clock) (a .labels)) (pendingEvents (a .w) (now (a .«record»)))
-    ≡ c .conflicting .result
+    ≡ c .pending-alike .result
+unfolding conflicting alike
 conflict-read c = cc
 
 again-read : (c : tie.After-sent-again)
@@ -145,8 +147,8 @@ returns-4 c =
       c .if4 .taken,
     )
 
-conflicting-requires : tie.Need-conflicting-requires
-conflicting-requires c κs =
+pending-alike-requires : tie.Need-pending-alike-requires
+pending-alike-requires c κs =
     let fine = c .before .before .before .before in
     let stood = fine .before .before .before in
     let a = stood .before .before .before .before .before .args in (
@@ -158,6 +160,7 @@ conflicting-requires c κs =
     )
 
 sent-again-requires : tie.Need-sent-again-requires
+unfolding conflicting alike
 sent-again-requires c κs =
     let untaken = c .before in
     let fine = untaken .before .before .before .before in
@@ -167,7 +170,7 @@ sent-again-requires c κs =
     let some = some-process (processCount (now (a .«record»))) (a .mask) (a .clock) (a .labels) (within .0)
     (mask-word (stood .before .before)) (event-passed fine) in
     let event = untaken .before .before .before .offered-event in
-    (search needs, (right (stood .before .before), (within .1, (rw (event .ensures) some, c .conflicting .ensures))))
+    (search needs, (right (stood .before .before), (within .1, (rw (event .ensures) some, c .pending-alike .ensures))))
 
 pending-count-requires : tie.Need-pending-count-requires
 pending-count-requires c κs =
@@ -197,7 +200,7 @@ returns-5 c =
     (c .pending-word .ensures
     ∙ ap
     (λ (n : ℕ). cond (searched .sent-again .result) 256
-    (cond (compared .conflicting .result) 32 (cond (leb 32 n) 33 0)))
+    (cond (compared .pending-alike .result) 32 (cond (leb 32 n) 33 0)))
     (counted .pending-count .ensures .0))
 
 pub unaccepted-word-spec : {M : Type 1} → statement M
@@ -215,7 +218,7 @@ unaccepted-word-spec =
     taken-counts-requires
     already-taken-requires
     returns-4
-    conflicting-requires
+    pending-alike-requires
     sent-again-requires
     pending-count-requires
     pending-word-requires

@@ -1,50 +1,49 @@
--- No pending event passed is the same; the first that does decides: the laws `search-next`, `search-here` and
+-- No pending event passed is like it; the first that does decides: the laws `search-next`, `search-here` and
 -- `search-none`.
-use Rattle.repeats.proofs.repeated.Tie as tie
+use Rattle.repeats.proofs.pending_alike.Tie as tie
 use Prim.Native.Nat.{_-_, _≤_}
 use native.Mathlib.Omega.{arith}
 use mathlib.Core.Path.{_≡_, refl, sym, ap, _∙_}
 use borrow.Author.Needs.{needs}
 use denote.Ref.{now}
-use Rattle.repeats.proofs.repeated.Statement.{statement}
+use Rattle.repeats.proofs.pending_alike.Statement.{statement}
 use Rattle.records.specs.Record.{pendingAt, pendingEvents}
-use Rattle.clocks.specs.SameEvent.{sameEvent}
-use Rattle.repeats.specs.Repeats.{repeated}
+use Rattle.clocks.specs.Bounded.{anyOf}
+use Rattle.repeats.specs.RepeatsCode.{alike}
 use Rattle.records.specs.PendingSearch.{passesFrom, search-here, search-next, search-none}
 
 abbrev Inv-loop : tie.InvT-loop
-Inv-loop s w e n i₀ i = (i ≤ n) × (repeated e (pendingEvents w s) ≡ passesFrom w s (sameEvent e) i)
+Inv-loop s w e whole n i₀ i = (i ≤ n) × (anyOf (alike whole e) (pendingEvents w s) ≡ passesFrom w s (alike whole e) i)
 
 abbrev μ-loop : tie.MeasureT-loop
-μ-loop s w e n i₀ i = n - i
+μ-loop s w e whole n i₀ i = n - i
 
 pending-count-requires : tie.Need-pending-count-requires Inv-loop μ-loop
 pending-count-requires c κs = search needs
 
 loop-holds : tie.Need-loop-holds Inv-loop μ-loop
-unfolding repeated
 loop-holds c = (search needs, refl)
 
 pending-event-requires : tie.Need-pending-event-requires Inv-loop μ-loop
 pending-event-requires c κs = search needs
 
-same-event-requires : tie.Need-same-event-requires Inv-loop μ-loop
-same-event-requires c κs = search needs
+alike-requires : tie.Need-alike-requires Inv-loop μ-loop
+alike-requires c κs = search needs
 
 -- The call's answer is that of pending event number i.
-here : (c : tie.After-same-event Inv-loop μ-loop)
-    → sameEvent (c .before .before .before .before .before .before .args .e)
+here : (c : tie.After-alike Inv-loop μ-loop)
+    → alike (c .before .before .before .before .before .before .args .whole) (c .before .before .before .before .before .before .args .e)
     (pendingAt (c .before .before .before .before .before .before .args .w)
     (now (c .before .before .before .before .before .before .args .«record»)) (c .before .before .before .loop .i))
-    ≡ c .same-event .result
-here c = sym (c .same-event .ensures
-    ∙ ap (sameEvent (c .before .before .before .before .before .before .args .e)) (c .before .pending-event .ensures))
+    ≡ c .alike .result
+here c = sym (c .alike .ensures
+    ∙ ap (alike (c .before .before .before .before .before .before .args .whole) (c .before .before .before .before .before .before .args .e)) (c .before .pending-event .ensures))
 
 returns : tie.Need-returns Inv-loop μ-loop
 returns c =
     let a = c .before .before .before .before .before .before .before .args in
     let l = c .before .before .before .before .loop in
-    sym (l .inv .1 ∙ search-here (a .w) (now (a .«record»)) (sameEvent (a .e)) (l .i) (omega arith)
+    sym (l .inv .1 ∙ search-here (a .w) (now (a .«record»)) (alike (a .whole) (a .e)) (l .i) (omega arith)
     (here (c .before) ∙ c .if1 .taken))
 
 add-i : tie.Need-add-i Inv-loop μ-loop
@@ -59,7 +58,7 @@ loop-again c =
     let l = c .before .before .before .before .loop in (
       search needs,
       l .inv .1
-          ∙ search-next (a .w) (now (a .«record»)) (sameEvent (a .e)) (l .i) (omega arith)
+          ∙ search-next (a .w) (now (a .«record»)) (alike (a .whole) (a .e)) (l .i) (omega arith)
           (here (c .before) ∙ c .if1 .left),
     )
 
@@ -67,10 +66,10 @@ returns-2 : tie.Need-returns-2 Inv-loop μ-loop
 returns-2 c =
     let a = c .before .before .before .before .args in
     let l = c .before .loop in
-    sym (l .inv .1 ∙ search-none (a .w) (now (a .«record»)) (sameEvent (a .e)) (l .i) (omega arith))
+    sym (l .inv .1 ∙ search-none (a .w) (now (a .«record»)) (alike (a .whole) (a .e)) (l .i) (omega arith))
 
-pub repeated-spec : {M : Type 1} → statement M
-repeated-spec =
+pub pending-alike-spec : {M : Type 1} → statement M
+pending-alike-spec =
     tie.close
     (tie.spec
     Inv-loop
@@ -78,7 +77,7 @@ repeated-spec =
     pending-count-requires
     loop-holds
     pending-event-requires
-    same-event-requires
+    alike-requires
     returns
     add-i
     loop-less
