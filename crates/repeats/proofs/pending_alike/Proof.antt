@@ -1,5 +1,4 @@
--- No pending event passed is like it; the first that does decides: the laws `search-next`, `search-here` and
--- `search-none`.
+-- No pending event passed is alike; the first that is decides: the laws `search-next`, `search-here`, `search-none`.
 use Rattle.repeats.proofs.pending_alike.Tie as tie
 use Prim.Native.Nat.{_-_, _≤_}
 use native.Mathlib.Omega.{arith}
@@ -32,12 +31,12 @@ alike-requires c κs = search needs
 
 -- The call's answer is that of pending event number i.
 here : (c : tie.After-alike Inv-loop μ-loop)
-    → alike (c .before .before .before .before .before .before .args .whole) (c .before .before .before .before .before .before .args .e)
-    (pendingAt (c .before .before .before .before .before .before .args .w)
-    (now (c .before .before .before .before .before .before .args .«record»)) (c .before .before .before .loop .i))
+    → let a = c .before .before .before .before .before .before .args in
+    alike (a .whole) (a .e) (pendingAt (a .w) (now (a .«record»)) (c .before .before .before .loop .i))
     ≡ c .alike .result
-here c = sym (c .alike .ensures
-    ∙ ap (alike (c .before .before .before .before .before .before .args .whole) (c .before .before .before .before .before .before .args .e)) (c .before .pending-event .ensures))
+here c =
+    let a = c .before .before .before .before .before .before .args in
+    sym (c .alike .ensures ∙ ap (alike (a .whole) (a .e)) (c .before .pending-event .ensures))
 
 returns : tie.Need-returns Inv-loop μ-loop
 returns c =
