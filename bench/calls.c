@@ -243,6 +243,58 @@ static void small_pieces(void) {
     }
 }
 
+/* ---- clocks: the kept frontiers are looked through for what an event knows of ---- */
+
+static uint64_t offer_next(struct side *s, unsigned p, const uint16_t *known) {
+    uint16_t clock[8];
+    memcpy(clock, known, sizeof clock);
+    clock[p]++;
+    return offer_event(s, 1u << p, clock);
+}
+
+/* Free events of k processes in turn, until one stays pending for want of room. The counts taken are left in reached. */
+static void fill(unsigned k, uint16_t *reached) {
+    saved.k = k, saved.rule = RULE_8, saved.length = WINDOW;
+    start_over(&plain);
+    open_watch(&plain);
+    memset(reached, 0, 8 * sizeof *reached);
+    for (unsigned p = 0;; p = (p + 1) % k) {
+        uint16_t known[8] = {0};
+        known[p] = reached[p];
+        offer_next(&plain, p, known);
+        if (watch_number(take_event(&plain)) == WATCH_NO_ROOM) return;
+        reached[p]++;
+    }
+}
+
+/* The last frontier is the one; a frontier that is not kept is looked for; each of eight ready events is tried. */
+static void clocks(void) {
+    uint16_t reached[8], known[8];
+    fill(2, reached);
+    save(&plain);
+    saved.record[2] = 0;
+    memset(saved.record + WATCH_RECORD_BYTES - 32 * 32, 0, 32 * 32);
+    start_over(&plain);
+    memcpy(known, reached, sizeof known);
+    offer_next(&plain, 0, known);
+    save(&plain);
+    measure("take, it knows the last of 1,024 kept", one_take, 1, ROUNDS);
+    start_over(&plain);
+    take_event(&plain);
+    known[0]++, known[1] = 0;
+    offer_next(&plain, 0, known);
+    save(&plain);
+    measure("take, a false clock", one_take, 1, ROUNDS);
+    fill(8, reached);
+    for (unsigned p = 0; p < 8; p++) {
+        memset(known, 0, sizeof known);
+        known[p] = reached[p];
+        offer_next(&plain, p, known);
+    }
+    save(&plain);
+    measure("take, eight ready, none fits", one_take, 1, ROUNDS);
+}
+
 int main(void) {
     printf("| work | frontiers after | proved (us a call) | plain C (us) | ratio |\n|---|---|---|---|---|\n");
     wide(2, RULE_8, "8", true);
@@ -257,5 +309,6 @@ int main(void) {
     measure("find, full window, line true nowhere", find_none, FINDS, ROUNDS);
     small_pieces();
     repeats();
+    clocks();
     return 0;
 }

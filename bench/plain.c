@@ -43,16 +43,14 @@ static bool ready(const uint8_t *event, const struct counts *taken) {
     return true;
 }
 
-static bool true_clock(const uint8_t *event, const uint8_t *record) {
-    struct counts c = load(event + 8), join = {{0}};
-    for (unsigned set = event[0]; set != 0; set &= set - 1) {
-        unsigned p = (unsigned)__builtin_ctz(set);
-        struct counts last = load(record + CLOCKS_AT + 16 * p);
-        for (int q = 0; q < PROCESSES; q++) join.at[q] = join.at[q] < last.at[q] ? last.at[q] : join.at[q];
-    }
-    for (int q = 0; q < PROCESSES; q++)
-        if (c.at[q] != join.at[q] + (event[0] >> q & 1u)) return false;
-    return true;
+/* What the event knows of, its clock less itself, is one of the kept frontiers. */
+static bool true_clock(const uint8_t *event, const uint8_t *record, const uint8_t *window) {
+    struct counts known = load(event + 8);
+    uint32_t kept = load_kept(record);
+    for (unsigned p = 0; p < PROCESSES; p++) known.at[p] = (uint16_t)(known.at[p] - (event[0] >> p & 1));
+    for (uint32_t i = 0; i < kept; i++)
+        if (memcmp(window + FRONTIER * i, &known, sizeof known) == 0) return true;
+    return false;
 }
 
 static void leave(uint8_t *record, unsigned i) {
@@ -153,7 +151,7 @@ uint64_t plain_take(uint8_t *record, size_t record_len, uint8_t *window, size_t 
     for (unsigned i = 0; i < record[2]; i++) {
         const uint8_t *event = record + PENDING_AT + EVENT * i;
         if (!ready(event, &taken)) continue;
-        if (!true_clock(event, record)) {
+        if (!true_clock(event, record, window)) {
             leave(record, i);
             answer = 35;
             break;

@@ -12,11 +12,12 @@ use Rattle.clocks.specs.stored.CountsLaws.{length-listOf, getD-listOf}
 use Rattle.frontiers.specs.declared.Frontier.{Frontier}
 use Rattle.frontiers.specs.Bytes.{frontiers}
 use Rattle.window.specs.Step.{Setting, fits, keptAfter}
-use Rattle.call_take.specs.declared.Choice.the-variants.{Undecided, Falsified, Chosen}
+use Rattle.trial.specs.declared.Choice.the-variants.{Undecided, Falsified, Chosen}
 use Rattle.records.specs.Record.{keptCount, pendingCount, pendingAt, pendingEvents, readyIn}
-use Rattle.call_take.specs.Take.{Decision, undecided, false-clock, chosen, tried, settingIn, decided, takeWithin}
-use Rattle.call_take.specs.TrialLaws.{Outcome, outcome, none-decides, falsifies, chooses}
-use Rattle.call_take.specs.TakeCode.{choiceFor}
+use Rattle.trial.specs.Trial.{Decision, undecided, false-clock, chosen, validAmong, settingIn, trial}
+use Rattle.call_take.specs.Take.{decided, takeWithin}
+use Rattle.trial.specs.TrialLaws.{Outcome, outcome, none-decides, falsifies, chooses}
+use Rattle.trial.specs.TrialCode.{choiceFor}
 
 -- Of an event that is taken: it is pending and ready, and so many frontiers, at least one and no more than are allowed,
 -- are kept.
@@ -32,14 +33,11 @@ unfolding fits
 fits-e t allowed fs h = (ltb→lt 0 (keptAfter t fs) (and-l (ltb 0 (keptAfter t fs)) (leb (keptAfter t fs) allowed) h), leb→le (keptAfter t fs) allowed (and-r (ltb 0 (keptAfter t fs)) (leb (keptAfter t fs) allowed) h))
 
 module _ (w : ℕ) (s : List ℕ) (allowed : ℕ) (fs : List Frontier) where
-  abbrev trial : Decision
-  trial = tried w s allowed fs 0 false (pendingEvents w s)
-
   abbrev first : Event
   first = pendingAt w s 0
 
-  came : Outcome w s allowed fs 0 false (pendingEvents w s) first
-  came = outcome w s allowed fs first 0 false (pendingEvents w s)
+  came : Outcome w s (validAmong fs) allowed fs 0 false (pendingEvents w s) first
+  came = outcome w s (validAmong fs) allowed fs first 0 false (pendingEvents w s)
 
   count : length (pendingEvents w s) ≡ pendingCount s
   unfolding pendingEvents
@@ -68,22 +66,22 @@ module _ (w : ℕ) (s : List ℕ) (allowed : ℕ) (fs : List Frontier) where
   from-chosen i kept (false-clock j) e = let z : _≡_ {A = ℕ} 0 1 = cc in absurd (omega arith)
   from-chosen i kept (chosen j) e = let same : i ≡ j = cc in (cc, cc)
 
-  pub choice-undecided : (seen : Bool) → Undecided seen ≡ choiceFor w s fs trial → trial ≡ undecided seen
-  choice-undecided seen h = from-undecided seen trial h
+  pub choice-undecided : (seen : Bool) → Undecided seen ≡ choiceFor w s fs (trial w s allowed fs) → (trial w s allowed fs) ≡ undecided seen
+  choice-undecided seen h = from-undecided seen (trial w s allowed fs) h
 
   -- ---- What holds of the event
-  pub choice-falsified : (i : ℕ) → Falsified i ≡ choiceFor w s fs trial → (trial ≡ false-clock i) × (i < pendingCount s)
-  choice-falsified i h = (from-falsified i trial h, go came (from-falsified i trial h))
+  pub choice-falsified : (i : ℕ) → Falsified i ≡ choiceFor w s fs (trial w s allowed fs) → ((trial w s allowed fs) ≡ false-clock i) × (i < pendingCount s)
+  choice-falsified i h = (from-falsified i (trial w s allowed fs) h, go came (from-falsified i (trial w s allowed fs) h))
     where
-      go : Outcome w s allowed fs 0 false (pendingEvents w s) first → trial ≡ false-clock i → i < pendingCount s
+      go : Outcome w s (validAmong fs) allowed fs 0 false (pendingEvents w s) first → (trial w s allowed fs) ≡ false-clock i → i < pendingCount s
       go (none-decides after t u o) d = let z : _≡_ {A = ℕ} 0 1 = cc in absurd (omega arith)
       go (falsifies j l t r n u) d = let same : i ≡ 0 + j = cc in omega (arith, count)
       go (chooses j l t r v f u) d = let z : _≡_ {A = ℕ} 0 1 = cc in absurd (omega arith)
 
-  pub choice-chosen : (i kept : ℕ) → Chosen i kept ≡ choiceFor w s fs trial → (trial ≡ chosen i) × Taking w s allowed fs i kept
-  choice-chosen i kept h = let c = from-chosen i kept trial h in (c .0, go came (c .0) (c .1))
+  pub choice-chosen : (i kept : ℕ) → Chosen i kept ≡ choiceFor w s fs (trial w s allowed fs) → ((trial w s allowed fs) ≡ chosen i) × Taking w s allowed fs i kept
+  choice-chosen i kept h = let c = from-chosen i kept (trial w s allowed fs) h in (c .0, go came (c .0) (c .1))
     where
-      go : Outcome w s allowed fs 0 false (pendingEvents w s) first → trial ≡ chosen i → kept ≡ keptAfter (settingIn w s (pendingAt w s i)) fs → Taking w s allowed fs i kept
+      go : Outcome w s (validAmong fs) allowed fs 0 false (pendingEvents w s) first → (trial w s allowed fs) ≡ chosen i → kept ≡ keptAfter (settingIn w s (pendingAt w s i)) fs → Taking w s allowed fs i kept
       go (none-decides after t u o) d k = let z : _≡_ {A = ℕ} 0 1 = cc in absurd (omega arith)
       go (falsifies j l t r n u) d k = let z : _≡_ {A = ℕ} 0 1 = cc in absurd (omega arith)
       go (chooses j l t r v f u) d k =
@@ -99,7 +97,7 @@ module _ (w : ℕ) (s : List ℕ) (allowed : ℕ) (fs : List Frontier) where
           }
 
 -- A take within so many frontiers, by its decision.
-pub within-by : (w allowed : ℕ) (s window : List ℕ) (d : Decision) → tried w s allowed (frontiers w window (keptCount s)) 0 false (pendingEvents w s) ≡ d
+pub within-by : (w allowed : ℕ) (s window : List ℕ) (d : Decision) → trial w s allowed (frontiers w window (keptCount s)) ≡ d
     → takeWithin w allowed s window ≡ decided w s window (frontiers w window (keptCount s)) d
 unfolding takeWithin
 within-by w allowed s window d e = rw e

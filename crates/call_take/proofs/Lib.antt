@@ -2,4 +2,3 @@
 pub mod ChoiceSteps
 pub mod TakeCallSteps
 pub mod TakenSteps
-pub mod TrialSteps

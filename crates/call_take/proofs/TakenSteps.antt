@@ -26,7 +26,8 @@ use Rattle.window.specs.StepCode.{Fitting}
 use Rattle.window.specs.SteppedCount.{stepped-many}
 use Rattle.frontiers.specs.WindowLaws.{length-frontiers, getD-frontiers}
 use Rattle.records.specs.Record.{pendingAt, pendingCount, pendingPlace, eventLength, removed, takenCounts, counted, lineTotal, readyIn}
-use Rattle.call_take.specs.Take.{settingIn, decided, chosen}
+use Rattle.trial.specs.Trial.{settingIn, chosen}
+use Rattle.call_take.specs.Take.{decided}
 use Rattle.answers.specs.Answer.{replyWord, flag, stateOf}
 
 -- A pending event's parts fit where they were read from.

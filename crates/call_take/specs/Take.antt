@@ -1,17 +1,17 @@
--- Take (01, The calls): goes through the ready pending events from the lowest process up and stops at the first that
--- has a false clock or whose window fits.
-use Prim.Native.Nat.{ℕ, _+_, _-_}
-use mathlib.Core.Bool.{Bool, true, false, not, cond, _||_}
-use mathlib.Core.List.{List, [], _∷_}
+-- Take (01, The calls): the pending events are tried, and the one that this decides on is taken, or leaves with a false
+-- clock.
+use Prim.Native.Nat.{ℕ}
+use mathlib.Core.Bool.{not, cond, _||_}
+use mathlib.Core.List.{List}
 use lib.Dec.{eqb}
 use lib.ListN.{length, replicate}
 use Rattle.frontiers.specs.declared.Frontier.{Frontier}
-use Rattle.clocks.specs.declared.Event.{Event}
-use Rattle.window.specs.Step.{Setting, stepped, fits}
+use Rattle.window.specs.Step.{stepped}
 use Rattle.frontiers.specs.Bytes.{frontiers, replaced}
 use Rattle.clocks.specs.Event.{apply}
 use Rattle.clocks.specs.Counts.{at, listOf}
-use Rattle.records.specs.Record.{processCount, lineTotal, keptCount, takenCounts, tableLines, pendingAt, pendingEvents, removed, counted, readyIn, validIn}
+use Rattle.records.specs.Record.{lineTotal, keptCount, takenCounts, pendingAt, removed, counted}
+use Rattle.trial.specs.Trial.{settingIn, Decision, undecided, false-clock, chosen, trial}
 use Rattle.refusals.specs.Refusals.{badRecordLength, badWindowLength, roomOf, badState}
 use Rattle.answers.specs.Answer.{Answer, turnedBack, nothingReady, stateOf}
 use Rattle.numbers.specs.Refusal.{falseClockNumber, lengthNumber, noRoomNumber, stateNumber}
@@ -22,33 +22,6 @@ pub record Taken : Type 0 where
   pub bytes : List ℕ
   pub window : List ℕ
   pub scratch : List ℕ
-
--- The setting of a step for an event, as the record's bytes have it; no process is closed.
-unfoldable pub settingIn : ℕ → List ℕ → Event → Setting
-settingIn w s e = record {
-  stored = 8;
-  processes = processCount s;
-  closed = 0;
-  table = tableLines w s;
-  event = e;
-  reached = apply e (at (takenCounts w s));
-}
-
--- What take decides: on nothing (was some event ready?), that pending event i has a false clock, or to take event i.
-pub data Decision : Type 0 where
-  undecided : Bool → Decision
-  false-clock : ℕ → Decision
-  chosen : ℕ → Decision
-
--- The pending events from number i on are tried, where `seen` says that one before was ready; `allowed` frontiers fit.
-unfoldable pub tried : ℕ → List ℕ → ℕ → List Frontier → ℕ → Bool → List Event → Decision
-tried w s allowed fs i seen [] = undecided seen
-tried w s allowed fs i seen (e ∷ es) =
-    cond (readyIn w s e)
-    (cond (validIn w s e)
-    (cond (fits (settingIn w s e) allowed fs) (chosen i) (tried w s allowed fs (i + 1) true es))
-    (false-clock i))
-    (tried w s allowed fs (i + 1) seen es)
 
 -- What a decision leads to. The scratch is all 0 afterwards.
 unfoldable pub decided : ℕ → List ℕ → List ℕ → List Frontier → Decision → Taken
@@ -68,7 +41,7 @@ decided w s window fs (chosen i) =
 unfoldable pub takeWithin : ℕ → ℕ → List ℕ → List ℕ → Taken
 takeWithin w allowed s window =
     let fs = frontiers w window (keptCount s) in
-    decided w s window fs (tried w s allowed fs 0 false (pendingEvents w s))
+    decided w s window fs (trial w s allowed fs)
 
 unfoldable pub takeCall : ℕ → List ℕ → List ℕ → List ℕ → Taken
 takeCall w s window scratch =

@@ -1,5 +1,5 @@
-// Take (01, The calls): the ready pending events are tried in their order; the first that is decided is taken or
-// leaves.
+// Take (01, The calls): the pending events are tried; the first that is decided on is taken, or leaves with a false
+// clock.
 
 use answers::state_word;
 use clocks::Event;
@@ -8,9 +8,7 @@ use numbers::refusal::LENGTH;
 use numbers::refusal::NO_ROOM;
 use numbers::refusal::STATE;
 use records::fields::kept_count;
-use records::fields::last_clocks;
 use records::fields::line_total;
-use records::fields::pending_count;
 use records::fields::pending_event;
 use records::fields::process_count;
 use records::fields::table_place;
@@ -19,13 +17,15 @@ use refusals::bad_record_length;
 use refusals::bad_state;
 use refusals::bad_window_length;
 use refusals::room_of;
+use trial::Choice;
+use trial::decide;
 use updates::count_taken;
 use updates::remove_event;
 use window_step::Stepping;
 ghost use Prim.Native.Nat.{ℕ, _-_, _^_, _≤_, _<_};
 ghost use mathlib.Core.Path.{_≡_};
-ghost use mathlib.Core.Bool.{false, cond, _&&_};
-ghost use lib.Dec.{T, ltb, leb};
+ghost use mathlib.Core.Bool.{cond};
+ghost use lib.Dec.{T};
 ghost use mathlib.Core.List.{map};
 ghost use lib.ListN.{length, getD, replicate};
 ghost use Rattle.codec.specs.Bit.{bit};
@@ -36,93 +36,11 @@ ghost use Rattle.window.specs.Step.{keptAfter, stepped};
 ghost use Rattle.window.specs.StepCode.{Fitting};
 ghost use Rattle.window.specs.Room.{RoomFor};
 ghost use Rattle.window.specs.Marks.{Marked};
-ghost use Rattle.records.specs.Record.{recordLength, processCount, lineTotal, pendingCount, keptCount, pendingAt, pendingEvents, removed, counted, readyIn};
+ghost use Rattle.records.specs.Record.{recordLength, processCount, lineTotal, pendingCount, keptCount, pendingAt, removed, counted, readyIn};
 ghost use Rattle.answers.specs.Answer.{turnedBack, nothingReady, replyWord};
-ghost use Rattle.call_take.specs.Take.{settingIn, tried, chosen, decided, takeWithin, takeCall};
-ghost use Rattle.call_take.specs.TakeCode.{choiceFor, MarkedFor, takeFault};
-
-// What take decides on: nothing (was some event ready?), a pending event that has a false clock, or one that is taken
-// and the frontiers that are kept then.
-pub enum Choice {
-    Undecided { seen: bool },
-    Falsified { place: usize },
-    Chosen { place: usize, kept: usize },
-}
-
-// How many frontiers are kept once a ready event is taken; the marks say what comes of each.
-pub fn kept_with(
-    record: &[u8],
-    w: usize,
-    window: &[u8],
-    marks: &mut [u8],
-    n: usize,
-    e: Event,
-) -> usize
-    requires { ⌜ Width w ⌝ }
-    requires { ⌜ length (now «record») ≡ recordLength w ⌝ }
-    requires { ⌜ processCount (now «record») ≤ 8 ⌝ }
-    requires { ⌜ RoomFor w n (now window) ⌝ }
-    requires { ⌜ T (readyIn w (now «record») e) ⌝ }
-    requires { ⌜ n ≤ length (now marks) ⌝ }
-    ensures { λ r. ⌜ r ≡ keptAfter (settingIn w (now («record» .entry)) e) (frontiers w (now (window .entry)) n) ⌝ }
-    ensures { λ r. ⌜ Marked (settingIn w (now («record» .entry)) e) w (now (window .entry)) n (now (marks .exit)) ⌝ }
-{
-    let k = process_count(record);
-    let reached = clocks::step::apply(e, taken_counts(record, w));
-    window::kept::count_after(window, marks, w, n, k, 0, e, reached)
-}
-
-// So many frontiers fit where at most so many are allowed; none at all never fit.
-fn fitting(kept: usize, allowed: usize) -> bool
-    ensures { λ r. ⌜ r ≡ (ltb 0 kept && leb kept allowed) ⌝ }
-{
-    if kept == 0 {
-        return false;
-    }
-    kept <= allowed
-}
-
-// The first pending event that has a false clock, or that fits, with its marks; or none, and whether one was ready.
-pub fn decide(
-    record: &[u8],
-    w: usize,
-    window: &[u8],
-    marks: &mut [u8],
-    n: usize,
-    allowed: usize,
-) -> Choice
-    requires { ⌜ Width w ⌝ }
-    requires { ⌜ length (now «record») ≡ recordLength w ⌝ }
-    requires { ⌜ processCount (now «record») ≤ 8 ⌝ }
-    requires { ⌜ pendingCount (now «record») ≤ 32 ⌝ }
-    requires { ⌜ RoomFor w n (now window) ⌝ }
-    requires { ⌜ n ≤ length (now marks) ⌝ }
-    ensures { λ r. ⌜ r ≡ choiceFor w (now («record» .entry)) (frontiers w (now (window .entry)) n) (tried w (now («record» .entry)) allowed (frontiers w (now (window .entry)) n) 0 false (pendingEvents w (now («record» .entry)))) ⌝ }
-    ensures { λ r. ⌜ MarkedFor w (now («record» .entry)) (now (window .entry)) n (now (marks .exit)) r ⌝ }
-{
-    let taken = taken_counts(record, w);
-    let last = last_clocks(record, w);
-    let pending = pending_count(record);
-    let mut choice = Choice::Undecided { seen: false };
-    let mut i = 0;
-    'events: while i < pending {
-        let e = pending_event(record, w, i);
-        if clocks::step::ready(e, taken) {
-            if !clocks::join::valid(e, last) {
-                choice = Choice::Falsified { place: i };
-                break 'events;
-            }
-            let kept = kept_with(record, w, window, marks, n, e);
-            if fitting(kept, allowed) {
-                choice = Choice::Chosen { place: i, kept };
-                break 'events;
-            }
-            choice = Choice::Undecided { seen: true };
-        }
-        i += 1;
-    }
-    choice
-}
+ghost use Rattle.trial.specs.Trial.{settingIn, chosen};
+ghost use Rattle.call_take.specs.Take.{decided, takeWithin, takeCall};
+ghost use Rattle.call_take.specs.TakeCode.{takeFault};
 
 // The window's step for a ready event, by the record's table and counts.
 fn step_window(

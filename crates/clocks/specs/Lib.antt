@@ -4,6 +4,8 @@
 pub mod Event
 pub mod History
 pub mod Valid
+pub mod Apart
+pub mod Joined
 pub mod Kept
 pub mod Counts
 pub mod Refusal
@@ -12,7 +14,6 @@ pub mod SameEvent
 -- The same as tests that compute
 pub mod Bounded
 pub mod Tested
-pub mod ValidTest
 -- What is proved
 pub mod cuts
 pub mod validity

@@ -1,22 +1,19 @@
--- Valid clocks: the base's rule by the join of the last clocks, and what any such rule must grant (01, Clocks and cuts:
--- true).
-use Prim.Native.Nat.{ℕ, zero, suc, _+_, _≤_, max}
+-- Valid clocks: what the clock of an event that is taken may count (02 [2]; 01, Clocks and cuts: true), and all that the
+-- theory knows of such a rule.
+use Prim.Native.Nat.{ℕ, _≤_}
 use mathlib.Core.Path.{_≡_}
-use mathlib.Core.Bool.{Bool, false, cond}
+use mathlib.Core.Bool.{false}
 use mathlib.Core.List.{List, [], _∷_}
 use Rattle.clocks.specs.declared.Event.{Event}
-use Rattle.clocks.specs.Event.{Cut, one, involved, count, Ready, lowered}
-use Rattle.clocks.specs.History.{taken, lastClock, Consistent, Agree, Occupied}
+use Rattle.clocks.specs.Event.{involved, count, Ready, lowered}
+use Rattle.clocks.specs.History.{taken, Consistent, Agree, Occupied}
 
--- The largest, count by count, of the clocks of those of the first n processes that are members.
-unfoldable pub joinTo : ℕ → (ℕ → Bool) → (ℕ → Cut) → Cut
-joinTo zero member last q = 0
-joinTo (suc p) member last q = cond (member p) (max (last p q) (joinTo p member last q)) (joinTo p member last q)
-
--- The base's rule: the clock is the largest of the last clocks of the processes that take part, plus 1 at those
--- processes (01: its clock is true). The processes are the first n.
-pub record Joined (n : ℕ) (ts : List Event) (e : Event) : Type 0 where
-  pub each : (q : ℕ) → count e q ≡ joinTo n (involved e) (lastClock ts) q + one (involved e q)
+-- The clock is valid: 1 less at the processes that take part, it is a consistent cut of the events taken. So an event
+-- may know of events of other processes, from messages that they left, and with an event knows all that this one knew.
+-- (02 says "a kept frontier": of a ready event, in a watch written by calls, it is one exactly if the cut is
+-- consistent; demands statements/Messages.)
+abbrev pub Known : List Event → Event → Type 0
+Known ts e = Consistent ts (lowered e)
 
 -- An event of a watch of k processes: some process takes part, and none from k up is named or counted.
 pub record WellFormed (k : ℕ) (e : Event) : Type 0 where

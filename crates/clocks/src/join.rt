@@ -1,14 +1,10 @@
-// The join of clocks, and valid clocks (01, Clocks and cuts: its clock is true).
+// The join of clocks (01, Clocks and cuts: the largest, count by count).
 
-use crate::Event;
-use crate::step::is_next;
-ghost use Prim.Native.Nat.{_+_, max};
+ghost use Prim.Native.Nat.{max};
 ghost use mathlib.Core.Path.{_≡_};
-ghost use lib.Dec.{eqb};
 ghost use Rattle.codec.specs.Bit.{bit};
-ghost use Rattle.clocks.specs.Event.{one, upper};
-ghost use Rattle.clocks.specs.Valid.{joinTo};
-ghost use Rattle.clocks.specs.ValidTest.{validBy};
+ghost use Rattle.clocks.specs.Event.{upper};
+ghost use Rattle.clocks.specs.Joined.{joinTo};
 ghost use Rattle.clocks.specs.Counts.{at, listOf, rows};
 
 // The larger of two counts.
@@ -47,31 +43,4 @@ pub fn join(last: [[u32; 8]; 8], mask: u8) -> [u32; 8]
         p += 1;
     }
     out
-}
-
-// What a valid clock has at one process, given the join there.
-fn valid_at(involved: bool, n: u32, j: u32) -> bool
-    ensures { λ r. ⌜ r ≡ eqb n (j + one involved) ⌝ }
-{
-    if involved {
-        return is_next(n, j);
-    }
-    n == j
-}
-
-// Whether the event's clock is valid after events with these last clocks.
-pub fn valid(e: Event, last: [[u32; 8]; 8]) -> bool
-    ensures { λ r. ⌜ r ≡ validBy 8 e (rows last) ⌝ }
-{
-    let known = join(last, e.mask);
-    let mask = e.mask as u64;
-    let mut q: u32 = 0;
-    while q < 8 {
-        let i = q as usize;
-        if !valid_at(codec::has_bit(mask, q), e.clock[i], known[i]) {
-            return false;
-        }
-        q += 1;
-    }
-    true
 }

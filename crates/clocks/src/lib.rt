@@ -4,7 +4,7 @@
 pub mod refusal;
 // When an event may be taken, and where it leads.
 pub mod step;
-// The join of clocks, and valid clocks.
+// The join of clocks.
 pub mod join;
 // The order of the pending events.
 pub mod order;

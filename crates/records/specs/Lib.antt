@@ -4,4 +4,3 @@
 pub mod Record
 -- What is proved of them
 pub mod RecordLaws
-pub mod PendingSearch

@@ -11,9 +11,8 @@ use Rattle.codec.specs.Little.{number, put}
 use Rattle.frontiers.specs.Bytes.{countBytes}
 use Rattle.pactl.specs.TableBytes.{linesOf}
 use Rattle.clocks.specs.Event.{involved, apply}
-use Rattle.clocks.specs.Counts.{listOf, rows, at}
+use Rattle.clocks.specs.Counts.{listOf, at}
 use Rattle.clocks.specs.Tested.{ready}
-use Rattle.clocks.specs.ValidTest.{validBy}
 
 -- ---- Places
 
@@ -75,12 +74,9 @@ pendingEvents w s = listOf (pendingCount s) (pendingAt w s)
 
 -- ---- By the fields
 
--- The event is ready, its clock valid, by the record's bytes.
+-- The event is ready, by the record's bytes.
 unfoldable pub readyIn : ℕ → List ℕ → Event → Bool
 readyIn w s e = ready 8 e (at (takenCounts w s))
-
-unfoldable pub validIn : ℕ → List ℕ → Event → Bool
-validIn w s e = validBy 8 e (rows (lastClocks w s))
 
 -- ---- Setting
 

@@ -5,7 +5,7 @@ ghost use Prim.Native.Nat.{_+_, _*_, _≤_, _<_};
 ghost use mathlib.Core.Path.{_≡_};
 ghost use lib.ListN.{length, getD};
 ghost use Rattle.frontiers.specs.Width.{Width};
-ghost use Rattle.records.specs.Record.{tablePlace, eventLength, pendingPlace, recordLength, processCount, lineTotal, pendingCount, keptCount, takenCounts, lastClocks, pendingAt};
+ghost use Rattle.records.specs.Record.{tablePlace, eventLength, pendingPlace, recordLength, processCount, lineTotal, pendingCount, keptCount, takenCounts, pendingAt};
 
 // A byte of the record.
 fn byte(record: &[u8], at: usize) -> u32
@@ -54,23 +54,6 @@ pub fn taken_counts(record: &[u8], w: usize) -> [u32; 8]
     ensures { λ r. ⌜ r ≡ takenCounts w (now («record» .entry)) ⌝ }
 {
     frontiers::counts::read_counts(record, 8, w)
-}
-
-// The clock of each process's last event.
-pub fn last_clocks(record: &[u8], w: usize) -> [[u32; 8]; 8]
-    requires { ⌜ Width w ⌝ }
-    requires { ⌜ 8 + 72 * w ≤ length (now «record») ⌝ }
-    ensures { λ r. ⌜ r ≡ lastClocks w (now («record» .entry)) ⌝ }
-{
-    let mut clocks = [[0u32; 8]; 8];
-    let mut place = 8 + 8 * w;
-    let mut p = 0;
-    while p < 8 {
-        clocks[p] = frontiers::counts::read_counts(record, place, w);
-        place = place + 8 * w;
-        p = p + 1;
-    }
-    clocks
 }
 
 // The place of the table.

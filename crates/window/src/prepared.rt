@@ -1,46 +1,52 @@
 // Tests of a frontier's counts without a branch for each process, by what a counting pass makes once.
 
 use clocks::Event;
-ghost use Prim.Native.Nat.{ℕ, _≤_};
+ghost use Prim.Native.Nat.{ℕ, _≤_, _<_};
 ghost use mathlib.Core.Path.{_≡_};
 ghost use mathlib.Core.Bool.{Bool, true, false, not, _&&_};
 ghost use lib.Dec.{eqb, ltb};
+ghost use Rattle.codec.specs.Bit.{bit};
 ghost use Rattle.clocks.specs.Counts.{at};
+ghost use Rattle.clocks.specs.Event.{one};
 ghost use Rattle.clocks.specs.Tested.{readyAt, ready};
 ghost use Rattle.clocks.specs.declared.Event as event;
 ghost use Rattle.window.specs.StepCode.{complete, staysWith};
 ghost use Rattle.window.specs.Prepared.{lowest, highest, bound, boundCounts, openOnes};
 
-// The lowest count of a process at which the event may be taken; n is the event's count there.
-fn lowest_count(involved: bool, n: u32) -> u32
-    ensures { λ r. ⌜ r ≡ lowest involved n ⌝ }
+// 1 for a process that takes part, 0 for another. As a number, so that the bounds of eight processes are made by the same
+// arithmetic: of truths the compiler makes a choice for each process, and then no longer tests eight counts at once.
+fn part(mask: u64, p: u32) -> u32
+    requires { ⌜ p < 64 ⌝ }
+    ensures { λ r. ⌜ (r ≡ one (bit mask p)) × (r ≤ 1) ⌝ }
 {
-    if involved {
-        if n == 0 { 1 } else { n - 1 }
-    } else {
-        n
-    }
+    ((mask >> p) % 2) as u32
 }
 
-// The highest one.
-fn highest_count(involved: bool, n: u32) -> u32
-    ensures { λ r. ⌜ r ≡ highest involved n ⌝ }
+// The lowest count of a process at which the event may be taken; n is the event's count there.
+fn lowest_count(part: u32, n: u32) -> u32
+    ensures { λ r. ⌜ r ≡ lowest part n ⌝ }
 {
-    if involved {
-        if n == 0 { 0 } else { n - 1 }
-    } else {
-        4294967295
-    }
+    if n < part { 1 } else { n - part }
+}
+
+// The highest one: all bits set where the process does not take part.
+fn highest_count(part: u32, n: u32) -> u32
+    requires { ⌜ part ≤ 1 ⌝ }
+    ensures { λ r. ⌜ r ≡ highest part n ⌝ }
+{
+    let before = if n < part { 0 } else { n - part };
+    before | (1 - part) * 4294967295
 }
 
 // The highest or the lowest one.
-fn bound_count(high: bool, involved: bool, n: u32) -> u32
-    ensures { λ r. ⌜ r ≡ bound high involved n ⌝ }
+fn bound_count(high: bool, part: u32, n: u32) -> u32
+    requires { ⌜ part ≤ 1 ⌝ }
+    ensures { λ r. ⌜ r ≡ bound high part n ⌝ }
 {
     if high {
-        highest_count(involved, n)
+        highest_count(part, n)
     } else {
-        lowest_count(involved, n)
+        lowest_count(part, n)
     }
 }
 
@@ -53,7 +59,7 @@ pub fn bound_counts(e: Event, high: bool) -> [u32; 8]
     let mut p: u32 = 0;
     while p < 8 {
         let i = p as usize;
-        out[i] = bound_count(high, codec::has_bit(mask, p), e.clock[i]);
+        out[i] = bound_count(high, part(mask, p), e.clock[i]);
         p = p + 1;
     }
     out
@@ -61,7 +67,7 @@ pub fn bound_counts(e: Event, high: bool) -> [u32; 8]
 
 // Whether the event may be taken at a count of a process, by the lowest and the highest.
 fn between(low: u32, high: u32, c: u32) -> bool
-    ensures { λ r. ⌜ ((involved : Bool) (n : ℕ) → low ≡ lowest involved n → high ≡ highest involved n → r ≡ readyAt involved n c) ⌝ }
+    ensures { λ r. ⌜ ((involved : Bool) (n : ℕ) → low ≡ lowest (one involved) n → high ≡ highest (one involved) n → r ≡ readyAt involved n c) ⌝ }
 {
     (low <= c) & (c <= high)
 }

@@ -14,8 +14,8 @@ use Rattle.frontiers.specs.Bytes.{frontiers}
 use Rattle.window.specs.Step.{Setting, keptAfter}
 use Rattle.window.specs.StepCode.{settingWith}
 use Rattle.records.specs.Record.{takenCounts, readyIn}
-use Rattle.call_take.specs.Take.{settingIn}
-use Rattle.call_take.proofs.TrialSteps.{setting-lent}
+use Rattle.trial.specs.Trial.{settingIn}
+use Rattle.trial.specs.SettingLaws.{setting-lent}
 
 -- ---- Places in the walk: the start, and where the processes are counted
 

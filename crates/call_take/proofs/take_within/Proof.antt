@@ -15,8 +15,9 @@ use Rattle.call_take.proofs.take_within.Statement.{statement}
 use Rattle.answers.specs.Answer.{replyWord}
 use Rattle.call_take.proofs.ChoiceSteps.{within-by, choice-undecided, choice-falsified, choice-chosen}
 use Rattle.records.specs.Record.{keptCount, pendingEvents}
-use Rattle.call_take.specs.Take.{Taken, tried, decided}
-use Rattle.call_take.specs.TakeCode.{choiceFor}
+use Rattle.trial.specs.Trial.{trial}
+use Rattle.call_take.specs.Take.{Taken, decided}
+use Rattle.trial.specs.TrialCode.{choiceFor}
 
 abbrev kept : ℕ → List ℕ → List ℕ → List Frontier
 kept w s window = frontiers w window (keptCount s)
@@ -61,7 +62,7 @@ decide-requires c κs =
 
 -- What is to be known of the call that decides: its frontiers are those that the record says are kept.
 decision : (c : tie.After-decide) → let a = start (counted c) .args in
-    c .decide .result ≡ choiceFor (a .w) (now (a .«record»)) (kept (a .w) (now (a .«record»)) (now (a .window))) (tried (a .w) (now (a .«record»)) (a .allowed) (kept (a .w) (now (a .«record»)) (now (a .window))) 0 false (pendingEvents (a .w) (now (a .«record»))))
+    c .decide .result ≡ choiceFor (a .w) (now (a .«record»)) (kept (a .w) (now (a .«record»)) (now (a .window))) (trial (a .w) (now (a .«record»)) (a .allowed) (kept (a .w) (now (a .«record»)) (now (a .window))))
 decision c = rw (← (counted c .kept-count .ensures)) (c .decide .ensures .0)
 
 enum-known-choice : tie.Need-enum-known-choice

@@ -6,7 +6,7 @@ use mathlib.Core.Bool.{Bool, true, false}
 use Rattle.clocks.specs.Event.{Cut, upper}
 use Rattle.clocks.specs.Counts.{at, listOf}
 use Rattle.clocks.specs.stored.CountsLaws.{listOf-same, at-listOf}
-use Rattle.clocks.specs.Valid.{joinTo}
+use Rattle.clocks.specs.Joined.{joinTo}
 
 module _ (n p : ℕ) (member : ℕ → Bool) (last : ℕ → Cut) where
   -- a member's clock is joined to those before,

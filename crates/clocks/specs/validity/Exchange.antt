@@ -1,37 +1,24 @@
--- Exchange: two events taken one right after the other, with no common process and neither's clock counting the other,
--- may be taken either way round, with the same counts, last clocks, consistent cuts and what precedes what (01, Clocks
--- and cuts; 02, [2]).
-
--- ---- Definitions
-
--- No process takes part in both.
+-- Exchange: two events without a common process, one taken right after the other, may be taken either way round exactly
+-- if neither's clock counts the other (02 [2]); under any rule for valid clocks, and whatever was taken after them. The
+-- two histories have the same events, and so the same counts, last clocks, consistent cuts and what precedes what
+-- (cuts/SameEvents).
 use Prim.Native.Nat.{ℕ, _≤_}
 use native.Mathlib.Omega.{arith}
 use native.Mathlib.Decide.{decLe}
 use mathlib.Core.Path.{_≡_, sym, ap, _∙_}
 use mathlib.Core.Bool.{false, true≢false, true}
-use mathlib.Core.List.{List, _∷_, List·Memᴰ·head, List·Memᴰ·tail, List·Memᴰ·cases-cons}
-use mathlib.Core.Logic.{_⊎_, inl, inr, ⊎-elim}
+use mathlib.Core.List.{List, [], _∷_, _++_, List·Memᴰ·head, List·Memᴰ·tail, List·Memᴰ·cases-cons}
+use mathlib.Core.Logic.{_⊎_, inl, inr, ⊎-elim, _↔_}
 use Rattle.clocks.specs.declared.Event.{Event}
-use Rattle.clocks.specs.History.{taken, lastClock, In, Causal}
-use Rattle.clocks.specs.Event.{one, involved, count, Ready, lowered}
-use Rattle.clocks.specs.validity.ClockRule.{history-causal}
+use Rattle.clocks.specs.Apart.{Apart, Counts, NeitherCounts}
+use Rattle.clocks.specs.History.{taken, In, Causal}
+use Rattle.clocks.specs.Event.{involved, count, Ready, lowered}
+use Rattle.clocks.specs.Valid.{Takeable, History, ClockRule}
 use Rattle.clocks.specs.cuts.EventLaws.{either, ready-next, ready-known, ready-i, lowered-ready}
-use Rattle.clocks.specs.validity.JoinedClock.{joined-rule}
-use Rattle.clocks.specs.cuts.Step.{clock-old}
 use Rattle.clocks.specs.cuts.HistoryLaws.{taken-other, taken-up}
-use Rattle.clocks.specs.validity.JoinLaws.{join-least}
 use Rattle.clocks.specs.cuts.Agree.{agree-sym, agree-old}
-use Rattle.clocks.specs.Valid.{joinTo, Joined, Takeable, History, ClockRule}
-use Rattle.clocks.specs.cuts.CausalLaws.{clock-within}
-use Rattle.clocks.specs.cuts.SameEvents.{Same}
-
-pub record Apart (e f : Event) : Type 0 where
-  pub none-common : (p : ℕ) → involved e p ≡ true → involved f p ≡ false
-
--- The clock of f counts e: it has reached e's count at a process of e.
-abbrev pub Counts : Event → Event → Type 0
-Counts f e = (p : ℕ) × (involved e p ≡ true) × (count e p ≤ count f p)
+use Rattle.clocks.specs.cuts.SameEvents.{Same, same-taken, same-agree}
+use Rattle.clocks.specs.validity.ClockRule.{history-causal}
 
 -- ---- Laws
 pub apart-sym : (e f : Event) → Apart e f → Apart f e
@@ -96,29 +83,62 @@ exchange k valid r e f ts h a n =
     } in
     (et, fh)
 
--- ---- Theorem: for the base's rule no common process is enough
--- the second's clock is the join of clocks of processes that the first did not touch
-joined-counts : (k n : ℕ) (e f : Event) (ts : List Event) → History k (Joined n) (f ∷ e ∷ ts) → Apart e f → Counts f e → ⊥
-unfolding lastClock
-joined-counts k n e f ts h a c =
-    omega (arith, c .2, ready-next e (taken ts) (h .1 .0 .ready) p (c .1), h .0 .true-clock .each p, ap one b, bound)
+-- ---- Whatever was taken after them
+
+-- Lists with the same events have them still with others in front.
+same-more : (u : Event) (ts ts′ : List Event) → Same ts ts′ → Same (u ∷ ts) (u ∷ ts′)
+same-more u ts ts′ s = record {
+  there = λ e m. more (s .there e) (List·Memᴰ·cases-cons m);
+  back = λ e m. more (s .back e) (List·Memᴰ·cases-cons m);
+}
   where
-    p : ℕ
-    p = c .0
+    more : {xs ys : List Event} {e : Event} → (In e xs → In e ys) → (e ≡ u) ⊎ In e xs → In e (u ∷ ys)
+    more f (inl q) = List·Memᴰ·head q
+    more f (inr m) = List·Memᴰ·tail (f m)
 
-    b : involved f p ≡ false
-    b = a .none-common p (c .1)
+same-behind : (us ts ts′ : List Event) → Same ts ts′ → Same (us ++ ts) (us ++ ts′)
+same-behind [] ts ts′ s = s
+same-behind (u ∷ us) ts ts′ s = same-more u (us ++ ts) (us ++ ts′) (same-behind us ts ts′ s)
 
-    cs : Causal ts
-    cs = history-causal k (Joined n) (joined-rule k n) ts (h .1 .1)
+module _ (k : ℕ) (valid : List Event → Event → Type 0) (r : ClockRule k valid) where
+  -- what could be taken after a history can be taken after the same events in another order
+  takeable-same : (u : Event) (ts ts′ : List Event) → Same ts ts′ → History k valid ts → History k valid ts′
+      → Takeable k valid ts u → Takeable k valid ts′ u
+  takeable-same u ts ts′ s h h′ t = record {
+    formed = t .formed;
+    ready = ready;
+    true-clock = r .local ts ts′ u h h′ (t .ready) ready (same-agree ts ts′ c c′ s (lowered u)) (t .true-clock);
+  }
+    where
+      c : Causal ts
+      c = history-causal k valid r ts h
 
-    each : (q : ℕ) → involved f q ≡ true → lastClock (e ∷ ts) q p ≤ taken ts p
-    each q d =
-        let x : involved e q ≡ false = apart-sym e f a .none-common q d in
-        rw (taken-other e ts q x, clock-old e ts q (taken ts q) (omega arith) p) (clock-within ts cs q (taken ts q) p)
+      c′ : Causal ts′
+      c′ = history-causal k valid r ts′ h′
 
-    bound : joinTo n (involved f) (lastClock (e ∷ ts)) p ≤ taken ts p
-    bound = join-least n (involved f) (lastClock (e ∷ ts)) p (taken ts p) (λ q l d. each q d)
+      ready : Ready u (taken ts′)
+      ready = rw (← same-taken ts ts′ c c′ s) (t .ready)
 
-pub exchange-joined : (k n : ℕ) (e f : Event) (ts : List Event) → History k (Joined n) (f ∷ e ∷ ts) → Apart e f → History k (Joined n) (e ∷ f ∷ ts)
-exchange-joined k n e f ts h a = exchange k (Joined n) (joined-rule k n) e f ts h a (joined-counts k n e f ts h a)
+  carried : (us ts ts′ : List Event) → Same ts ts′ → History k valid (us ++ ts) → History k valid ts′
+      → History k valid (us ++ ts′)
+  carried [] ts ts′ s h h′ = h′
+  carried (u ∷ us) ts ts′ s h h′ =
+      let rest = carried us ts ts′ s (h .1) h′ in
+      (takeable-same u (us ++ ts) (us ++ ts′) (same-behind us ts ts′ s) (h .1) rest (h .0), rest)
+
+  earlier : (us ts : List Event) → History k valid (us ++ ts) → History k valid ts
+  earlier [] ts h = h
+  earlier (u ∷ us) ts h = earlier us ts (h .1)
+
+  -- ---- Theorem
+  pub exchange-exactly : (us : List Event) (e f : Event) (ts : List Event) → History k valid (us ++ (f ∷ e ∷ ts)) → Apart e f
+      → History k valid (us ++ (e ∷ f ∷ ts)) ↔ NeitherCounts e f
+  exchange-exactly us e f ts h a = (there, λ n. carried us (f ∷ e ∷ ts) (e ∷ f ∷ ts) (swapped-same e f ts) h (exchange k valid r e f ts ef a (n .1)))
+    where
+      ef : History k valid (f ∷ e ∷ ts)
+      ef = earlier us (f ∷ e ∷ ts) h
+
+      there : History k valid (us ++ (e ∷ f ∷ ts)) → NeitherCounts e f
+      there g =
+          let fe = earlier us (e ∷ f ∷ ts) g in
+          (first-counts e f ts (ef .1 .0 .ready) (ef .0 .ready) a, first-counts f e ts (fe .1 .0 .ready) (fe .0 .ready) (apart-sym e f a))

@@ -9,7 +9,7 @@ use mathlib.Core.Bool.{Bool, true, false, true≢false}
 use mathlib.Core.Logic.{_⊎_, inl, inr}
 use Rattle.clocks.specs.Event.{Cut}
 use Rattle.clocks.specs.cuts.EventLaws.{either}
-use Rattle.clocks.specs.Valid.{joinTo}
+use Rattle.clocks.specs.Joined.{joinTo}
 
 pub join-least : (n : ℕ) (member : ℕ → Bool) (last : ℕ → Cut) (q b : ℕ) → ((p : ℕ) → p < n → member p ≡ true → last p q ≤ b) → joinTo n member last q ≤ b
 unfolding joinTo

@@ -7,7 +7,7 @@ use mathlib.Core.Logic.{⊎-elim}
 use borrow.Author.Needs.{needs}
 use Rattle.codec.specs.Bit.{bit}
 use Rattle.clocks.specs.Counts.{listOf, rows, at}
-use Rattle.clocks.specs.Valid.{joinTo}
+use Rattle.clocks.specs.Joined.{joinTo}
 use Rattle.clocks.proofs.join.JoinSteps.{join-next, join-skip}
 use Rattle.clocks.proofs.join.join.Statement.{statement}
 use Rattle.clocks.proofs.join.join.Tie as tie

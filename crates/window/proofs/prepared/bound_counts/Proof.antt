@@ -2,17 +2,16 @@
 use borrow.Author.Needs.{needs}
 use Prim.Native.Nat.{ℕ, _≤_, _<_, _-_}
 use mathlib.Core.Path.{_≡_, ap, _∙_}
-use mathlib.Core.Bool.{Bool}
 use lib.ListN.{length, getD}
 use Rattle.clocks.specs.Counts.{at}
-use Rattle.clocks.specs.Event.{involved, count}
+use Rattle.clocks.specs.Event.{one, involved, count}
 use Rattle.clocks.specs.stored.CountsLaws.{filled, fill-next}
 use Rattle.window.specs.Prepared.{bound}
 use Rattle.window.proofs.prepared.bound_counts.Statement.{statement}
 use Rattle.window.proofs.prepared.bound_counts.Tie as tie
 
 abbrev Inv-loop : tie.InvT-loop
-Inv-loop high e mask out₀ p₀ out p = (p ≤ 8) × (length out ≡ 8) × ((q : ℕ) → q < p → getD out q 0 ≡ bound high (involved e q) (count e q))
+Inv-loop high e mask out₀ p₀ out p = (p ≤ 8) × (length out ≡ 8) × ((q : ℕ) → q < p → getD out q 0 ≡ bound high (one (involved e q)) (count e q))
 
 abbrev μ-loop : tie.MeasureT-loop
 μ-loop high e mask out₀ p₀ out p = 8 - p
@@ -26,8 +25,8 @@ loop-holds c = search needs
 cast-i : tie.Need-cast-i Inv-loop μ-loop
 cast-i c = search needs
 
-has-bit-requires : tie.Need-has-bit-requires Inv-loop μ-loop
-has-bit-requires c κs = search needs
+part-requires : tie.Need-part-requires Inv-loop μ-loop
+part-requires c κs = search needs
 
 mul-bound-count : tie.Need-mul-bound-count Inv-loop μ-loop
 mul-bound-count c = search needs
@@ -53,13 +52,13 @@ loop-less c = search needs
 -- What is stored is the bound there.
 stored : (c : tie.After-bound-count Inv-loop μ-loop) → let b = c .before .before .before .before in
     let a = b .before .args in
-    c .bound-count .result ≡ bound (a .high) (involved (a .t1) (b .loop .p)) (count (a .t1) (b .loop .p))
+    c .bound-count .result ≡ bound (a .high) (one (involved (a .t1) (b .loop .p))) (count (a .t1) (b .loop .p))
 unfolding involved count
 stored c =
     let b = c .before .before .before .before in
     let a = b .before .args in
     let p = b .loop .p in
-    c .bound-count .ensures ∙ ap (λ (b : Bool). bound (a .high) b (at (a .t1 .clock) p)) (c .before .before .has-bit .ensures)
+    c .bound-count .ensures ∙ ap (λ (u : ℕ). bound (a .high) u (at (a .t1 .clock) p)) (c .before .before .part .ensures .0)
 
 loop-again : tie.Need-loop-again Inv-loop μ-loop
 loop-again c =
@@ -78,7 +77,7 @@ bound-counts-spec =
     cast-mask
     loop-holds
     cast-i
-    has-bit-requires
+    part-requires
     mul-bound-count
     element-copy-out-bound-count
     bound-count-requires

@@ -1,17 +1,17 @@
 -- The counts that the event leads to are the setting's, and the table does not matter for how many frontiers are kept,
 -- nor for their marks.
-use Rattle.call_take.proofs.kept_with.Tie as tie
+use Rattle.trial.proofs.kept_with.Tie as tie
 use native.Mathlib.Omega.{arith}
 use mathlib.Core.Path.{_≡_, ap, _∙_}
 use Prim.Native.Nat.{ℕ, _<_}
 use mathlib.Core.List.{List}
 use borrow.Author.Needs.{needs}
 use denote.Ref.{now}
-use Rattle.call_take.proofs.kept_with.Statement.{statement}
+use Rattle.trial.proofs.kept_with.Statement.{statement}
 use Rattle.clocks.specs.Event.{apply}
 use Rattle.clocks.specs.Counts.{at, listOf}
 use Rattle.records.specs.Record.{takenCounts, readyIn}
-use Rattle.call_take.proofs.TrialSteps.{setting-with}
+use Rattle.trial.specs.SettingLaws.{setting-with}
 
 -- The start of the walk.
 abbrev start : tie.After-process-count → tie.Start

@@ -1,8 +1,8 @@
 -- Nothing never fits; else the numbers decide.
-use Rattle.call_take.proofs.fitting.Tie as tie
+use Rattle.trial.proofs.fitting.Tie as tie
 use borrow.Author.Tests.{lt-ltb}
 use native.Mathlib.Omega.{arith}
-use Rattle.call_take.proofs.fitting.Statement.{statement}
+use Rattle.trial.proofs.fitting.Statement.{statement}
 
 returns : tie.Need-returns
 returns c = rw (c .if1 .taken)
