@@ -2,7 +2,7 @@
 -- before left them.
 use Prim.Native.Nat.{ℕ, _^_, _<_}
 use mathlib.Core.Path.{_≡_}
-use mathlib.Core.Bool.{false, cond}
+use mathlib.Core.Bool.{cond}
 use mathlib.Core.List.{List, [], _∷_, _++_}
 use lib.Dec.{eqb}
 use lib.ListN.{length, replicate}
@@ -10,7 +10,8 @@ use Rattle.clocks.specs.declared.Event.{Event}
 use Rattle.frontiers.specs.Bytes.{frontiers}
 use Rattle.clocks.specs.Counts.{at}
 use Rattle.call_find.specs.Find.{findCall}
-use Rattle.call_take.specs.Take.{Decision, tried, takeCall, undecided, false-clock, chosen}
+use Rattle.trial.specs.Trial.{Decision, undecided, false-clock, chosen, trial}
+use Rattle.call_take.specs.Take.{takeCall}
 use Rattle.records.specs.Record.{keptCount, pendingAt, pendingEvents}
 use Rattle.refusals.specs.Refusals.{roomOf}
 use Rattle.call_open.specs.Open.{Opened}
@@ -49,7 +50,7 @@ pub record Watch : Type 0 where
 -- The trial of the pending events that a take makes (call_take Take: takeWithin), and the number of the event at
 -- which it stopped.
 unfoldable pub trialOf : ℕ → List ℕ → List ℕ → Decision
-trialOf w s window = tried w s (roomOf w (length window)) (frontiers w window (keptCount s)) 0 false (pendingEvents w s)
+trialOf w s window = trial w s (roomOf w (length window)) (frontiers w window (keptCount s))
 
 unfoldable pub stoppedAt : Decision → ℕ
 stoppedAt (undecided seen) = 0

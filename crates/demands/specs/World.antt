@@ -7,7 +7,7 @@ use Rattle.clocks.specs.declared.Event.{Event}
 use Rattle.window_laws.specs.Represents.{World, Sorted, modelOf, frontierOf}
 use Rattle.clocks.specs.Event.{Cut}
 use Rattle.clocks.specs.History.{taken, lastClock, Consistent}
-use Rattle.clocks.specs.Valid.{Joined}
+use Rattle.clocks.specs.Valid.{Known}
 use Rattle.demands.specs.Ledger.{Ledger}
 use Rattle.demands.specs.Status.{Status}
 use mathlib.Core.Path.{_≡_}
@@ -29,9 +29,10 @@ modelAfter k f start ts = modelOf (worldOf k (linesAt 0 f) start) ts
 abbrev pub frontierAfter : ℕ → Formula → Cut → List Event → Cut → Frontier
 frontierAfter k f start ts S = frontierOf (worldOf k (linesAt 0 f) start) ts S
 
--- The rule for valid clocks of a watch (01, Clocks and cuts: true).
+-- The rule for valid clocks of a watch: what the event knows of is a consistent cut of the events taken (02 [2]; 01,
+-- Clocks and cuts: true).
 abbrev pub Valid : List Event → Event → Type 0
-Valid = Joined 8
+Valid = Known
 
 -- The kept cuts of a history, each once, in ascending order of their counts: exactly the consistent cuts in which some
 -- process has all its taken events (01, The window; demand 2). There is one such list.

@@ -19,8 +19,9 @@ use Rattle.frontiers.specs.Bytes.{frontiers}
 use Rattle.window.specs.Step.{fits, keptAfter}
 use Rattle.window.specs.SteppedCount.{stepped-many}
 use Rattle.refusals.specs.RefusalLaws.{right-length, room-few}
-use Rattle.call_take.specs.Take.{Taken, settingIn, undecided, false-clock, chosen as takes, tried, decided, takeWithin, takeCall}
-use Rattle.call_take.specs.TrialLaws.{Outcome, outcome, none-decides, falsifies, chooses}
+use Rattle.trial.specs.Trial.{validAmong, settingIn, undecided, false-clock, chosen as takes, tried}
+use Rattle.call_take.specs.Take.{Taken, decided, takeWithin, takeCall}
+use Rattle.trial.specs.TrialLaws.{Outcome, outcome, none-decides, falsifies, chooses}
 use Rattle.program.specs.TakenCountsLaws.{first-taken, counted-taken}
 use Rattle.rules.specs.Fault.{Fault}
 use Rattle.rules.specs.grammar.GrammarTheorem.{reader-first-fault}
@@ -138,7 +139,7 @@ module _ (w room : ℕ) (s window : List ℕ) (b : Bytes s) (long : length s ≡
   -- The ready pending events are gone through.
   within-told : TakeTold w (takeWithin w room s window)
   unfolding takeWithin pendingEvents
-  within-told = go (outcome w s room kept first 0 false pending)
+  within-told = go (outcome w s (validAmong kept) room kept first 0 false pending)
     where
       first : Event
       first = pendingAt w s 0
@@ -149,8 +150,8 @@ module _ (w room : ℕ) (s window : List ℕ) (b : Bytes s) (long : length s ≡
       many : length pending ≡ pendingCount s
       many = length-listOf (pendingCount s) (pendingAt w s)
 
-      go : Outcome w s room kept 0 false pending first
-          → TakeTold w (decided w s window kept (tried w s room kept 0 false pending))
+      go : Outcome w s (validAmong kept) room kept 0 false pending first
+          → TakeTold w (decided w s window kept (tried w s (validAmong kept) room kept 0 false pending))
       go (none-decides after t u o) = rw t (none-told after)
       go (falsifies j l t r n u) = rw t (falsified-told (0 + j))
       go (chooses j l t r a f u) =

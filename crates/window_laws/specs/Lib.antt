@@ -6,6 +6,7 @@ pub mod StartTheorem
 pub mod StepTheorem
 pub mod Unique
 pub mod Verdict
+pub mod KnownCuts
 -- What leads to them
 pub mod OrderCuts
 pub mod MergeLaws

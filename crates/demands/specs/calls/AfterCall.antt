@@ -28,11 +28,12 @@ use Rattle.demands.specs.Ledger.{Ledger}
 use Rattle.demands.specs.Run.{Passed, Watch, offeredLedger, after, offers, Call, run, takes, finds, takenLedger, stoppedAt, trialOf}
 use Rattle.call_offer.specs.OfferCases.{OfferCase, offer-case, turned, repeats, accepted}
 use Rattle.demands.specs.calls.OfferLaws.{accepted-watching}
-use Rattle.call_take.specs.Take.{Decision, tried, decided, takeCall, settingIn, Taken}
-use Rattle.records.specs.Record.{readyIn, validIn, keptCount, removed}
+use Rattle.trial.specs.Trial.{validAmong, Decision, tried, settingIn}
+use Rattle.call_take.specs.Take.{decided, takeCall, Taken}
+use Rattle.records.specs.Record.{readyIn, keptCount, removed}
 use Rattle.refusals.specs.Refusals.{badRecordLength, badWindowLength, roomOf, badState}
 use Rattle.answers.specs.Answer.{turnedBack}
-use Rattle.call_take.specs.TrialLaws.{Outcome, outcome, none-decides, falsifies, chooses}
+use Rattle.trial.specs.TrialLaws.{Outcome, outcome, none-decides, falsifies, chooses}
 use Rattle.demands.specs.calls.TakeLaws.{falsified-watching, taken-watching, taken-window}
 use Rattle.demands.specs.Status.{removeAt}
 use Rattle.refusals.specs.RefusalLaws.{room-few}
@@ -104,7 +105,7 @@ module _ (w k : ℕ) (table : List Line) (start : Cut) (R : Rule w k table start
 
     -- else it goes through the pending events
     abbrev pub decision : Decision
-    decision = tried w bytes (roomOf w (length lent)) (X .kept) 0 false (L .pending)
+    decision = tried w bytes (validAmong (X .kept)) (roomOf w (length lent)) (X .kept) 0 false (L .pending)
 
     read : frontiers w lent (keptCount bytes) ≡ X .kept
     read = ap (λ (s : List ℕ). frontiers w s (keptCount bytes)) (X .window-is) ∙ says-frontiers w k table start R L bytes lent X (length lent)
@@ -123,8 +124,8 @@ module _ (w k : ℕ) (table : List Line) (start : Cut) (R : Rule w k table start
         whole = rw (h, n) (within-trial w bytes lent ∙ ap₂ (decided w bytes lent) read same)
 
     -- what the trial comes to
-    pub trial : Outcome w bytes (roomOf w (length lent)) (X .kept) 0 false (L .pending) noEvent
-    trial = outcome w bytes (roomOf w (length lent)) (X .kept) noEvent 0 false (L .pending)
+    pub trial : Outcome w bytes (validAmong (X .kept)) (roomOf w (length lent)) (X .kept) 0 false (L .pending) noEvent
+    trial = outcome w bytes (validAmong (X .kept)) (roomOf w (length lent)) (X .kept) noEvent 0 false (L .pending)
 
     -- of a pending event, by the taken events
     module _ (j : ℕ) (l : j < length (L .pending)) where
@@ -137,11 +138,11 @@ module _ (w k : ℕ) (table : List Line) (start : Cut) (R : Rule w k table start
       pub is-ready : T (readyIn w bytes e) → Ready e (taken (L .history))
       is-ready = ready-in w k table start R L bytes lent X e formed .0
 
-      pub is-valid : T (validIn w bytes e) → Valid (L .history) e
-      is-valid = valid-in w k table start R L bytes lent X e formed .0
+      pub is-valid : T (readyIn w bytes e) → T (validAmong (X .kept) e) → Valid (L .history) e
+      is-valid r = valid-in w k table start R L bytes lent X e formed (is-ready r) .0
 
-      is-false : validIn w bytes e ≡ false → Valid (L .history) e → ⊥
-      is-false h t = subst T h (valid-in w k table start R L bytes lent X e formed .1 t)
+      is-false : T (readyIn w bytes e) → validAmong (X .kept) e ≡ false → Valid (L .history) e → ⊥
+      is-false r h t = subst T h (valid-in w k table start R L bytes lent X e formed (is-ready r) .1 t)
 
       abbrev gs : List Frontier
       gs = stepped (settingOf (worldOf k table start) (L .history) e) (X .kept)
@@ -166,20 +167,20 @@ module _ (w k : ℕ) (table : List Line) (start : Cut) (R : Rule w k table start
     unfolding ledgerAfter decided
     take-right h = go trial
       where
-        go : Outcome w bytes (roomOf w (length lent)) (X .kept) 0 false (L .pending) noEvent
+        go : Outcome w bytes (validAmong (X .kept)) (roomOf w (length lent)) (X .kept) 0 false (L .pending) noEvent
             → Watching w k table start (ledgerAfter w bytes L decision) (decided w bytes lent (X .kept) decision .bytes) (decided w bytes lent (X .kept) decision .window)
         go (none-decides b q u o) = rw q X
         go (falsifies j l q r n x) =
             let i : 0 + j ≡ j = omega arith in
             rw (q, i, says-event w k table start R L bytes lent X j noEvent l)
             (subst (Watching w k table start (record { history = L .history; pending = removeAt j (L .pending); falsified = getD (L .pending) j noEvent ∷ L .falsified }) (removed w bytes j)) (sym (X .window-is))
-            (falsified-watching w k table start R L bytes lent X j noEvent l (is-ready j l r) (is-false j l n) (length lent) (omega arith)))
+            (falsified-watching w k table start R L bytes lent X j noEvent l (is-ready j l r) (is-false j l r n) (length lent) (omega arith)))
         go (chooses j l q r v f x) =
             let i : 0 + j ≡ j = omega arith in
             let many : length (gs j l) ≤ roomOf w (length lent) = fits-room j l f in
             let fit = room-iff w (length (gs j l)) (length lent) .0 many in
-            rw (q, i, says-event w k table start R L bytes lent X j noEvent l, setting-in w k table start R L bytes lent X (getD (L .pending) j noEvent), taken-window w k table start R L bytes lent X j noEvent l (is-ready j l r) (is-valid j l v) fit)
-            (taken-watching w k table start R L bytes lent X j noEvent l (is-ready j l r) (is-valid j l v) (length lent)
+            rw (q, i, says-event w k table start R L bytes lent X j noEvent l, setting-in w k table start R L bytes lent X (getD (L .pending) j noEvent), taken-window w k table start R L bytes lent X j noEvent l (is-ready j l r) (is-valid j l r v) fit)
+            (taken-watching w k table start R L bytes lent X j noEvent l (is-ready j l r) (is-valid j l r v) (length lent)
             fit (le-trans many (room-1024 h)))
 
   -- ---- Theorem

@@ -9,7 +9,8 @@ use Rattle.frontiers.specs.Bytes.{frontiers}
 use Rattle.records.specs.Record.{keptCount, pendingAt}
 use Rattle.refusals.specs.Refusals.{roomOf}
 use Rattle.answers.specs.Answer.{stateOf}
-use Rattle.call_take.specs.Take.{Decision, undecided, false-clock, chosen, decided, takeWithin}
+use Rattle.trial.specs.Trial.{Decision, undecided, false-clock, chosen}
+use Rattle.call_take.specs.Take.{decided, takeWithin}
 use Rattle.demands.specs.Ledger.{Ledger}
 use Rattle.demands.specs.Run.{trialOf, stoppedAt, takenLedger}
 use Rattle.demands.specs.Status.{removeAt}

@@ -13,10 +13,11 @@ use Rattle.demands.specs.Watching.{Rule, Watching}
 use Rattle.records.specs.Record.{pendingCount}
 use Rattle.demands.specs.bytes.RecordLaws.{pendingCount-recordBytes}
 use Rattle.demands.specs.Status.{removeAt}
-use Rattle.call_take.specs.Take.{takeCall, Taken, Decision, decided, undecided}
+use Rattle.trial.specs.Trial.{validAmong, Decision, undecided}
+use Rattle.call_take.specs.Take.{takeCall, Taken, decided}
 use Rattle.refusals.specs.Refusals.{roomOf}
 use Rattle.answers.specs.Answer.{turnedBack, nothingReady}
-use Rattle.call_take.specs.TrialLaws.{Outcome, none-decides, falsifies, chooses}
+use Rattle.trial.specs.TrialLaws.{Outcome, none-decides, falsifies, chooses}
 use Rattle.demands.specs.Ledger.{Ledger}
 use Rattle.demands.specs.bytes.InsertLaws.{length-removeAt}
 use Rattle.demands.specs.calls.AfterCall.{noEvent, badLengths, decision, take-6, take-else, take-right, trial}
@@ -59,7 +60,7 @@ module _ (w k : ℕ) (table : List Line) (start : Cut) (R : Rule w k table start
               let v = length-removeAt (0 + j) (L .pending) (omega arith) in
               omega (arith, after, u, v, many L bytes lent X)
 
-          go : Outcome w bytes (roomOf w (length lent)) (X .kept) 0 false (L .pending) noEvent → pendingCount (took .bytes) + 1 ≡ pendingCount bytes
+          go : Outcome w bytes (validAmong (X .kept)) (roomOf w (length lent)) (X .kept) 0 false (L .pending) noEvent → pendingCount (took .bytes) + 1 ≡ pendingCount bytes
           go (none-decides false q u o) = absurd (n0 (answered (undecided false) q))
           go (none-decides true q u o) = absurd (n36 (answered (undecided true) q))
           go (falsifies j l q r n u) = without j l (ap (λ (d : Decision). ledgerAfter w bytes L d .pending) q)

@@ -12,23 +12,26 @@ use borrow.Author.Tests.{le-ltb, ne-eqb}
 use Rattle.pactl.specs.declared.Line.{Line}
 use Rattle.clocks.specs.declared.Event.{Event}
 use Rattle.window_laws.specs.Verdict.{some-frontier}
-use Rattle.window_laws.specs.Represents.{World, Proper, settingOf}
+use Rattle.codec.specs.BitLaws.{bit-zero}
+use Rattle.window_laws.specs.Represents.{World, openIn, Proper, settingOf}
+use Rattle.window_laws.specs.KnownCuts.{known-among}
 use Rattle.clocks.specs.History.{taken, lastClock}
 use Rattle.clocks.specs.Event.{Cut, Ready, apply}
 use Rattle.clocks.specs.validity.ClockRule.{taken-silent}
 use Rattle.clocks.specs.Counts.{at, listOf, rows}
 use Rattle.clocks.specs.stored.CountsLaws.{getD-listOf, at-listOf, at-listOf-all}
 use Rattle.clocks.specs.Valid.{History, WellFormed}
-use Rattle.clocks.specs.validity.ValidTestLaws.{valid-same, valid-test}
+use Rattle.clocks.specs.Joined.{Joined, joinedBy}
+use Rattle.clocks.specs.validity.JoinedTest.{joined-same, joined-test}
 use Rattle.clocks.specs.stored.TestedLaws.{ready-test}
 use Rattle.frontiers.specs.WindowLaws.{frontiers-windowBytes}
 use Rattle.frontiers.specs.Bytes.{frontierLength, frontiers, framed, windowBytes}
 use Rattle.demands.specs.Watching.{Rule, Watching}
-use Rattle.records.specs.Record.{recordLength, processCount, lineTotal, pendingCount, keptCount, takenCounts, lastClocks, tableLines, pendingAt, pendingEvents, readyIn, validIn}
+use Rattle.records.specs.Record.{recordLength, processCount, lineTotal, pendingCount, keptCount, takenCounts, lastClocks, tableLines, pendingAt, pendingEvents, readyIn}
 use Rattle.refusals.specs.Refusals.{badProcesses, badState}
 use Rattle.demands.specs.Ledger.{Ledger}
 use Rattle.demands.specs.Status.{Status}
-use Rattle.call_take.specs.Take.{settingIn}
+use Rattle.trial.specs.Trial.{validAmong, settingIn}
 use Rattle.demands.specs.bytes.PendingLaws.{pendingAt-recordBytes, pendingEvents-recordBytes}
 use Rattle.demands.specs.bytes.RecordLaws.{processCount-recordBytes, lineTotal-recordBytes, pendingCount-recordBytes, tableLines-recordBytes, length-recordBytes, keptCount-recordBytes, takenCounts-recordBytes, lastClocks-recordBytes}
 use Rattle.demands.specs.calls.StoredFits.{proper, sized, kept-shaped}
@@ -124,9 +127,16 @@ module _ (w k : ℕ) (table : List Line) (start : Cut) (R : Rule w k table start
   unfolding readyIn
   ready-in e f = rw says-taken (ready-test 8 e (formed-eight e f) (taken ts))
 
-  pub valid-in : (e : Event) → WellFormed k e → T (validIn w bytes e) ↔ Valid ts e
-  unfolding validIn
-  valid-in e f = rw (valid-same 8 e (rows (lastClocks w bytes)) (lastClock ts) says-clocks) (valid-test k 8 Valid ts (R .eight-processes) history e f)
+  none-closed : (p : ℕ) → T (openIn world p)
+  none-closed p = rw (bit-zero p) tt
+
+  pub valid-in : (e : Event) → WellFormed k e → Ready e (taken ts) → T (validAmong (X .kept) e) ↔ Valid ts e
+  unfolding validAmong
+  valid-in e f r = known-among world Valid ts P (X .kept) (X .represents) e f r (λ p b. none-closed p)
+
+  -- ... and so is the test by the join of last clocks, which took its place before
+  pub joined-in : (e : Event) → WellFormed k e → T (joinedBy 8 e (rows (lastClocks w bytes))) ↔ Joined 8 ts e
+  joined-in e f = rw (joined-same 8 e (rows (lastClocks w bytes)) (lastClock ts) says-clocks) (joined-test k 8 Valid ts (R .eight-processes) history e f)
 
   pub setting-in : (e : Event) → settingIn w bytes e ≡ settingOf world ts e
   unfolding settingIn taken apply

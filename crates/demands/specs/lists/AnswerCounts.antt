@@ -17,7 +17,8 @@ use Rattle.codec.specs.Bit.{bit}
 use Rattle.records.specs.Record.{lineTotal, keptCount}
 use Rattle.refusals.specs.Refusals.{roomOf, badRecordLength, badWindowLength, badState}
 use Rattle.answers.specs.Answer.{Answer, turnedBack, again, found, absent, stateOf}
-use Rattle.call_take.specs.Take.{Decision, undecided, false-clock, chosen, decided}
+use Rattle.trial.specs.Trial.{Decision, undecided, false-clock, chosen}
+use Rattle.call_take.specs.Take.{decided}
 use Rattle.call_find.specs.Find.{findFrom, findCall}
 use Rattle.demands.specs.Ledger.{Ledger}
 use Rattle.demands.specs.Run.{Watch, Call, offers, takes, finds, offeredLedger, acceptedBy, after}

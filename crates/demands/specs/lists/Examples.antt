@@ -10,13 +10,11 @@ use Rattle.clocks.specs.declared.Event.{Event}
 use Rattle.frontiers.specs.declared.Frontier.{Frontier}
 use Rattle.codec.specs.Bit.{bit}
 use Rattle.codec.specs.Little.{bytesOf, valueOf, number, put}
-use Rattle.clocks.specs.Event.{involved, count, apply, minus}
+use Rattle.clocks.specs.Event.{involved, count, apply, minus, less, lowered}
 use Rattle.clocks.specs.History.{taken, isNumber, event, clockOf}
 use Rattle.clocks.specs.Counts.{at, listOf}
 use Rattle.clocks.specs.Bounded.{allBelow, anyBelow, anyOf}
 use Rattle.clocks.specs.Tested.{ready, consistent}
-use Rattle.clocks.specs.Valid.{joinTo}
-use Rattle.clocks.specs.ValidTest.{validBy}
 use Rattle.clocks.specs.Kept.{served, redundantWithin, redundant}
 use Rattle.clocks.specs.Key.{lowest, keyOf, keyBefore}
 use Rattle.clocks.specs.Refusal.{badMask, badClock, badLabels, badStart}
@@ -34,11 +32,12 @@ use Rattle.window.specs.Step.{stays, enabledAt, advanced, filtered, slotCounts,
 use Rattle.window.specs.Start.{startFrontier}
 use Rattle.frontiers.specs.Bytes.{frontierLength, countBytes, frontierBytes, frontierFrom, frontierAt, frontiers, framed, windowBytes, replaced}
 use Rattle.answers.specs.Answer.{Answer, turnedBack, state, held, again, stateOf}
-use Rattle.records.specs.Record.{keptCount, takenCounts, lastClocks, tableLines, pendingAt, pendingEvents, eventBytes, inserted, removed, clocksSet, counted, readyIn, validIn}
+use Rattle.records.specs.Record.{keptCount, takenCounts, lastClocks, tableLines, pendingAt, pendingEvents, eventBytes, inserted, removed, clocksSet, counted, readyIn}
 use Rattle.refusals.specs.Refusals.{badRecordLength, badWindowLength, roomOf, badProcesses, badState, alreadyTaken, conflicts, conflicting}
 use Rattle.call_open.specs.Open.{firstRecord, openTable, openRead, openCall}
 use Rattle.call_offer.specs.Offer.{placeAmong, offerCall}
-use Rattle.call_take.specs.Take.{settingIn, tried, decided, takeWithin, takeCall}
+use Rattle.trial.specs.Trial.{validAmong, settingIn, tried}
+use Rattle.call_take.specs.Take.{decided, takeWithin, takeCall}
 use Rattle.demands.specs.Status.{insertAt, removeAt}
 use Rattle.demands.specs.Run.{Call, offers, takes, Watch, trialOf, stoppedAt, takenLedger, offeredLedger, after, run}
 use Rattle.demands.specs.EveryList.{atEnd}
@@ -85,15 +84,19 @@ sent-a1 = offers 1 (eight 1 0 0) (eight 1 0 0)
 abbrev pub a1-twice : List Call
 a1-twice = sent-a1 ∷ sent-a1 ∷ takes 0 (replicate 200 0) ∷ sent-a1 ∷ []
 
--- An event of both, and two that process 0 may have next.
+-- An event of both; two that process 0 may have next, one of which knows of a message that process 1 left; and one that
+-- may come behind that, but has forgotten it.
 abbrev pub both : List Call
 both = comes (record { mask = 3; clock = eight 3 2 0; labels = eight 0 0 0 })
 
-abbrev pub a3-false : List Call
-a3-false = comes (record { mask = 1; clock = eight 3 1 0; labels = eight 0 0 0 })
-
 abbrev pub a3 : List Call
 a3 = comes (record { mask = 1; clock = eight 3 0 0; labels = eight 0 0 0 })
+
+abbrev pub a3-knows : List Call
+a3-knows = comes (record { mask = 1; clock = eight 3 1 0; labels = eight 0 0 0 })
+
+abbrev pub a4-forgets : List Call
+a4-forgets = comes (record { mask = 1; clock = eight 4 0 0; labels = eight 0 0 0 })
 
 -- Of three processes, an event of 0 and 1, and then one of 1 and 2.
 abbrev pub first : Event
@@ -137,11 +140,16 @@ pub record StarredExamples : Type 0 where
   pub same-window : watch 2 someOrder (a1 ++ a2 ++ b1) .window ≡ watch 2 someOrder (b1 ++ a1 ++ a2) .window
   -- then an event of both processes, with clock (3 2): yes, 1 kept.
   pub then-both : watch 2 someOrder (b1 ++ a1 ++ a2 ++ both) .answers ≡ state (eight 3 2 0) true 1 ∷ held 1 ∷ answersBA
-  -- at (2 1), an event of process 0 alone: with clock (3 1) it gives 35; with (3 0), right away or after that, it is
-  -- taken, 5 kept.
-  pub alone-false : watch 2 someOrder (a1 ++ a2 ++ b1 ++ a3-false ++ a3) .answers
-      ≡ state (eight 3 1 0) true 5 ∷ held 1 ∷ turnedBack 35 0 ∷ held 1 ∷ answersAB
+  -- at (2 1), an event of process 0 alone, with clock (3 0): yes, 5 kept.
   pub alone : watch 2 someOrder (a1 ++ a2 ++ b1 ++ a3) .answers ≡ state (eight 3 1 0) true 5 ∷ held 1 ∷ answersAB
+  -- with clock (3 1), so that it knows of b1: yes, 4 kept, as (3 0) is no consistent cut then (02 [2]).
+  pub knows : watch 2 someOrder (a1 ++ a2 ++ b1 ++ a3-knows) .answers
+      ≡ state (eight 3 1 0) true 4 ∷ held 1 ∷ answersAB
+  pub knows-cuts : keptCuts (watch 2 someOrder (a1 ++ a2 ++ b1 ++ a3-knows))
+      ≡ (eight 0 1 0 ∷ eight 1 1 0 ∷ eight 2 1 0 ∷ eight 3 1 0 ∷ [])
+  -- after that, process 0 with clock (4 0), which no longer knows of b1: 35.
+  pub forgets : watch 2 someOrder (a1 ++ a2 ++ b1 ++ a3-knows ++ a4-forgets) .answers
+      ≡ turnedBack 35 0 ∷ held 1 ∷ state (eight 3 1 0) true 4 ∷ held 1 ∷ answersAB
   -- a1 twice: again while it is pending, 31 once it is taken (02 [1]).
   pub sent-again : watch 2 (ascii "(at 0 0)") a1-twice .answers
       ≡ (turnedBack 31 0 ∷ state (eight 1 0 0) true 2 ∷ again ∷ held 1 ∷ state (eight 0 0 0) false 1 ∷ [])
@@ -173,7 +181,7 @@ frontiersAt21 =
     ∷ []
 
 pub starred : StarredExamples
-unfolding repeated sameEvent badStart restAt aWordAt eWordAt wordAt andThen expect expectDigit closeAt atomAt innerWith unaryWith binaryWith bodyWith formAt readRule lineCount constantWeight unaryWeight binaryWeight trueLines constantLines linesBefore linesAfter linesBetween linesAfterBoth linesAt startFrontier firstRecord openTable openRead openCall trailingZeros bit bytesOf valueOf number put involved count apply minus listOf allBelow anyBelow anyOf ready joinTo validBy lowest keyOf keyBefore badMask badClock badLabels stays enabledAt advanced filtered slotCounts mergeInto merge slots sought withoutLast consider gathered judgedBy lay stepped keptAfter fits frontierLength countBytes frontierBytes frontierFrom frontierAt frontiers framed windowBytes replaced before same standing bisect gallop seek tableBytes goodLine goodFrom lineAt linesFrom propositionJudged notJudged andJudged eyJudged esJudged asJudged judgeLine judgeFrom takenCounts lastClocks tableLines pendingAt pendingEvents eventBytes inserted removed clocksSet counted badRecordLength badWindowLength roomOf badProcesses badState alreadyTaken conflicts conflicting placeAmong offerCall settingIn readyIn validIn tried stateOf decided takeWithin takeCall after run trialOf stoppedAt takenLedger offeredLedger insertAt removeAt headed vectors sourceKeeps consistent redundant redundantWithin served taken clockOf event isNumber
+unfolding repeated sameEvent badStart restAt aWordAt eWordAt wordAt andThen expect expectDigit closeAt atomAt innerWith unaryWith binaryWith bodyWith formAt readRule lineCount constantWeight unaryWeight binaryWeight trueLines constantLines linesBefore linesAfter linesBetween linesAfterBoth linesAt startFrontier firstRecord openTable openRead openCall trailingZeros bit bytesOf valueOf number put involved count apply minus listOf allBelow anyBelow anyOf ready less lowered validAmong lowest keyOf keyBefore badMask badClock badLabels stays enabledAt advanced filtered slotCounts mergeInto merge slots sought withoutLast consider gathered judgedBy lay stepped keptAfter fits frontierLength countBytes frontierBytes frontierFrom frontierAt frontiers framed windowBytes replaced before same standing bisect gallop seek tableBytes goodLine goodFrom lineAt linesFrom propositionJudged notJudged andJudged eyJudged esJudged asJudged judgeLine judgeFrom takenCounts lastClocks tableLines pendingAt pendingEvents eventBytes inserted removed clocksSet counted badRecordLength badWindowLength roomOf badProcesses badState alreadyTaken conflicts conflicting placeAmong offerCall settingIn readyIn tried stateOf decided takeWithin takeCall after run trialOf stoppedAt takenLedger offeredLedger insertAt removeAt headed vectors sourceKeeps consistent redundant redundantWithin served taken clockOf event isNumber
 starred =
     let ab : watch 2 someOrder (a1 ++ a2 ++ b1) .window ≡ windowBytes 2 200 frontiersAt21 = refl in
     let ba : watch 2 someOrder (b1 ++ a1 ++ a2) .window ≡ windowBytes 2 200 frontiersAt21 = refl in
@@ -185,8 +193,10 @@ starred =
       other-order = refl;
       same-window = ab ∙ sym ba;
       then-both = refl;
-      alone-false = refl;
       alone = refl;
+      knows = refl;
+      knows-cuts = refl;
+      forgets = refl;
       sent-again = refl;
       in-every-order = refl;
       ap-start = refl;

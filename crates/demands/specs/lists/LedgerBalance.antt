@@ -13,7 +13,8 @@ use Rattle.demands.specs.bytes.InsertLaws.{length-insertAt, length-remov
 use Rattle.demands.specs.Watching.{Rule, Watching}
 use Rattle.records.specs.Record.{pendingAt, pendingEvents}
 use Rattle.refusals.specs.Refusals.{roomOf}
-use Rattle.call_take.specs.TrialLaws.{Outcome, none-decides, falsifies, chooses}
+use Rattle.trial.specs.Trial.{validAmong}
+use Rattle.trial.specs.TrialLaws.{Outcome, none-decides, falsifies, chooses}
 use Rattle.demands.specs.calls.WatchingLaws.{says-event}
 use Rattle.call_offer.specs.Offer.{placeAmong, offeredEvent}
 use Rattle.demands.specs.Ledger.{occurrences, Ledger}
@@ -76,7 +77,7 @@ module _ (w k : ℕ) (table : List Line) (start : Cut) (R : Rule w k table start
       event-is : (j : ℕ) → j < length (L .pending) → pendingAt w bytes j ≡ getD (L .pending) j noEvent
       event-is j l = says-event w k table start R L bytes lent X′ j noEvent l
 
-      decide : Outcome w bytes (roomOf w (length lent)) (X′ .kept) 0 false (L .pending) noEvent
+      decide : Outcome w bytes (validAmong (X′ .kept)) (roomOf w (length lent)) (X′ .kept) 0 false (L .pending) noEvent
           → ledgerThen w k table start R L bytes lent X′ scratch ≡ ledgerAfter w bytes L (decision w k table start R L bytes lent X′ scratch) → WatchBalanced (after w (takes more scratch) W)
       decide (none-decides b q u o) t = rw (t, q) B
       decide (falsifies j l q r n x) t =

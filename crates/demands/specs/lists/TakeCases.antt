@@ -21,11 +21,12 @@ use Rattle.codec.specs.Bit.{bit}
 use Rattle.window.specs.SteppedCount.{stepped-many}
 use Rattle.frontiers.specs.ListLaws.{place-member, member-place}
 use Rattle.demands.specs.Watching.{Rule, Watching}
-use Rattle.call_take.specs.Take.{takeCall, Taken, settingIn, Decision, decided, undecided, false-clock, chosen}
-use Rattle.records.specs.Record.{readyIn, validIn}
+use Rattle.trial.specs.Trial.{validAmong, settingIn, Decision, undecided, false-clock, chosen}
+use Rattle.call_take.specs.Take.{takeCall, Taken, decided}
+use Rattle.records.specs.Record.{readyIn}
 use Rattle.refusals.specs.Refusals.{roomOf}
 use Rattle.answers.specs.Answer.{turnedBack, state, nothingReady, stateOf}
-use Rattle.call_take.specs.TrialLaws.{Indecisive, Outcome, none-decides, falsifies, chooses}
+use Rattle.trial.specs.TrialLaws.{Indecisive, Outcome, none-decides, falsifies, chooses}
 use Rattle.demands.specs.calls.WatchingLaws.{ready-in, valid-in, setting-in, says-lines, says-event, says-taken}
 use Rattle.demands.specs.Ledger.{Ledger, Settled}
 use Rattle.demands.specs.calls.AfterCall.{noEvent, badLengths, decision, take-else, trial, ledgerThen}
@@ -104,8 +105,8 @@ module _ (w k : ℕ) (f : Formula) (start : Cut) (R : Rule w k (linesAt 0 f) sta
   ready-at j l =
       ready-in w k table start R L bytes lent X (pendingEvent j) (X .right .formed (pendingEvent j) (place-member (L .pending) j noEvent l))
 
-  valid-at : (j : ℕ) → j < length (L .pending)
-      → T (validIn w bytes (pendingEvent j)) ↔ Valid (L .history) (pendingEvent j)
+  valid-at : (j : ℕ) → j < length (L .pending) → Ready (pendingEvent j) (taken (L .history))
+      → T (validAmong (X .kept) (pendingEvent j)) ↔ Valid (L .history) (pendingEvent j)
   valid-at j l =
       valid-in w k table start R L bytes lent X (pendingEvent j) (X .right .formed (pendingEvent j) (place-member (L .pending) j noEvent l))
 
@@ -129,23 +130,23 @@ module _ (w k : ℕ) (f : Formula) (start : Cut) (R : Rule w k (linesAt 0 f) sta
         let s : Setting = settingOf (worldOf k table start) (L .history) (pendingEvent j) in
         rw (setting-in w k table start R L bytes lent X (pendingEvent j), ← stepped-many s (X .kept), lt-ltb 0 (length (keptWith (pendingEvent j))) (stepped-some w k table start R L bytes lent X j noEvent l r v))
 
-  over : (j : ℕ) → j < length (L .pending) → Indecisive w bytes room (X .kept) (pendingEvent j)
+  over : (j : ℕ) → j < length (L .pending) → Indecisive w bytes (validAmong (X .kept)) room (X .kept) (pendingEvent j)
       → PassedOver k room (L .history) (pendingEvent j)
   over j l d r =
       let x = d (ready-at j l .1 r) in
-      let v : Valid (L .history) (pendingEvent j) = valid-at j l .0 (x .0) in
+      let v : Valid (L .history) (pendingEvent j) = valid-at j l r .0 (x .0) in
       (v, (length (keptWith (pendingEvent j)), kept-number j l r v, leb-false (length (keptWith (pendingEvent j))) room (sym (fits-is j l r v) ∙ x .1)))
 
-  over-member : (e : Event) → List·Memᴰ e (L .pending) → Indecisive w bytes room (X .kept) e
+  over-member : (e : Event) → List·Memᴰ e (L .pending) → Indecisive w bytes (validAmong (X .kept)) room (X .kept) e
       → PassedOver k room (L .history) e
   over-member e m d = go (member-place (L .pending) e noEvent m)
     where
       go : (j : ℕ) × (j < length (L .pending)) × (pendingEvent j ≡ e) → PassedOver k room (L .history) e
       go p =
-          subst (PassedOver k room (L .history)) (p .2) (over (p .0) (p .1) (subst⁻¹ (Indecisive w bytes room (X .kept)) (p .2) d))
+          subst (PassedOver k room (L .history)) (p .2) (over (p .0) (p .1) (subst⁻¹ (Indecisive w bytes (validAmong (X .kept)) room (X .kept)) (p .2) d))
 
   stops : (j : ℕ) (l : j < length (L .pending)) → Ready (pendingEvent j) (taken (L .history))
-      → ((i : ℕ) → i < j → Indecisive w bytes room (X .kept) (pendingEvent i)) → StopsAt k room L (pendingEvent j)
+      → ((i : ℕ) → i < j → Indecisive w bytes (validAmong (X .kept)) room (X .kept) (pendingEvent i)) → StopsAt k room L (pendingEvent j)
   stops j l r u = record {
     before = take j (L .pending);
     behind = drop (suc j) (L .pending);
@@ -168,20 +169,20 @@ module _ (w k : ℕ) (f : Formula) (start : Cut) (R : Rule w k (linesAt 0 f) sta
       ledgers : (d : Decision) → decision w k table start R L bytes lent X scratch ≡ d → then ≡ ledgerAfter w bytes L d
       ledgers d q = take-else w k table start R L bytes lent X scratch h .1 ∙ ap (ledgerAfter w bytes L) q
 
-      go : Outcome w bytes room (X .kept) 0 false (L .pending) noEvent → Answered
+      go : Outcome w bytes (validAmong (X .kept)) room (X .kept) 0 false (L .pending) noEvent → Answered
       go (none-decides false q u o) =
           nothing (answers (undecided false) q) (λ e m r. o .1 (inr (e, m, ready-in w k table start R L bytes lent X e (X .right .formed e m) .1 r)))
       go (none-decides true q u o) = ⊎-elim (λ x. absurd x)
           (λ x. full (answers (undecided true) q) ((x .0, x .1, ready-in w k table start R L bytes lent X (x .0) (X .right .formed (x .0) (x .1)) .0 (x .2)), λ e m. over-member e m (u e m))) (o .0 tt)
       go (falsifies j l q r n u) =
           let i : 0 + j ≡ j = omega arith in
-          falsified (answers (false-clock (0 + j)) q) (pendingEvent j, stops j l (ready-at j l .0 r) u, λ v. subst T n (valid-at j l .1 v))
+          falsified (answers (false-clock (0 + j)) q) (pendingEvent j, stops j l (ready-at j l .0 r) u, λ v. subst T n (valid-at j l (ready-at j l .0 r) .1 v))
           (ledgers (false-clock (0 + j)) q ∙ rw (i, says-event w k table start R L bytes lent X j noEvent l))
       go (chooses j l q r v g u) =
           let i : 0 + j ≡ j = omega arith in
           let e : Event = pendingEvent j in
           let R′ : Ready e (taken (L .history)) = ready-at j l .0 r in
-          let J : Valid (L .history) e = valid-at j l .0 v in
+          let J : Valid (L .history) e = valid-at j l R′ .0 v in
           took (listOf 8 (taken (e ∷ L .history))) (bit (getD (map (λ g. g .values) (keptWith e)) (length (keptWith e) - 1) 0) (length table - 1)) (length (keptWith e))
           (answers (chosen (0 + j)) q ∙ rw (i, says-event w k table start R L bytes lent X j noEvent l, setting-in w k table start R L bytes lent X e, says-lines w k table start R L bytes lent X, says-taken w k table start R L bytes lent X))
           (record {

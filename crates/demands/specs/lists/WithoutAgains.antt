@@ -16,7 +16,8 @@ use Rattle.answers.specs.Turns.{by-test}
 use Rattle.call_open.specs.Open.{openCall, openTable}
 use Rattle.call_offer.specs.Offer.{offerCall}
 use Rattle.call_offer.specs.OfferCases.{OfferCase, offer-case, turned, repeats, accepted}
-use Rattle.call_take.specs.Take.{Decision, undecided, false-clock, chosen, tried, decided, Taken, takeWithin, takeCall}
+use Rattle.trial.specs.Trial.{Decision, undecided, false-clock, chosen, trial}
+use Rattle.call_take.specs.Take.{decided, Taken, takeWithin, takeCall}
 use Rattle.call_find.specs.Find.{findFrom, findCall}
 use Rattle.demands.specs.Run.{Call, offers, takes, finds, Watch, offeredLedger, acceptedBy, after, run, opened}
 use Rattle.demands.specs.calls.OpenLaws.{OpenCase, open-case, turned-back, opens}
@@ -41,7 +42,7 @@ take-other w s window scratch =
     let wrong = badWindowLength w (length window) || not (eqb (length scratch) (length window)) in
     by (badRecordLength w (length s) || wrong) (back 6) _ (λ _. refl) λ _.
     by (badState w (roomOf w (length window)) s) (back 34) _ (λ _. refl) λ _.
-    decided-other w s window fs (tried w s (roomOf w (length window)) fs 0 false (pendingEvents w s))
+    decided-other w s window fs (trial w s (roomOf w (length window)) fs)
 
 found-other : (line i : ℕ) (fs : List Frontier) → isAgain (findFrom line i fs) ≡ false
 unfolding findFrom

@@ -21,6 +21,7 @@ pending-count-requires : tie.Need-pending-count-requires Inv-loop μ-loop
 pending-count-requires c κs = search needs
 
 loop-holds : tie.Need-loop-holds Inv-loop μ-loop
+unfolding pendingEvents
 loop-holds c = (search needs, refl)
 
 pending-event-requires : tie.Need-pending-event-requires Inv-loop μ-loop
