@@ -1,7 +1,7 @@
 -- Take (01, The calls): the pending events are tried, and the one that this decides on is taken, or leaves with a false
 -- clock.
 use Prim.Native.Nat.{ℕ}
-use mathlib.Core.Bool.{not, cond, _||_}
+use mathlib.Core.Bool.{Bool, not, cond, _||_}
 use mathlib.Core.List.{List}
 use lib.Dec.{eqb}
 use lib.ListN.{length, replicate}
@@ -43,9 +43,13 @@ takeWithin w allowed s window =
     let fs = frontiers w window (keptCount s) in
     decided w s window fs (trial w s allowed fs)
 
+-- 6: the record, the window or the scratch, by their lengths in this order, has a wrong one.
+abbrev pub badLengths : ℕ → ℕ → ℕ → ℕ → Bool
+badLengths w s window scratch = badRecordLength w s || (badWindowLength w window || not (eqb scratch window))
+
 unfoldable pub takeCall : ℕ → List ℕ → List ℕ → List ℕ → Taken
 takeCall w s window scratch =
     let turned : ℕ → Taken = λ n. record { answer = turnedBack n 0; bytes = s; window = window; scratch = scratch } in
-    cond (badRecordLength w (length s) || (badWindowLength w (length window) || not (eqb (length scratch) (length window)))) (turned lengthNumber)
+    cond (badLengths w (length s) (length window) (length scratch)) (turned lengthNumber)
     (cond (badState w (roomOf w (length window)) s) (turned stateNumber)
     (takeWithin w (roomOf w (length window)) s window))

@@ -7,6 +7,7 @@ pub mod Status
 pub mod World
 pub mod Verdict
 pub mod EveryList
+pub mod Earlier
 -- What is stated of every list, with no proofs: statements/X is proved in lists/X
 pub mod statements
 -- The invariant of a watch that was written by calls only

@@ -11,7 +11,7 @@ use Rattle.frontiers.specs.Bytes.{frontiers}
 use Rattle.clocks.specs.Counts.{at}
 use Rattle.call_find.specs.Find.{findCall}
 use Rattle.trial.specs.Trial.{Decision, undecided, false-clock, chosen, trial}
-use Rattle.call_take.specs.Take.{takeCall}
+use Rattle.call_take.specs.Take.{Taken, takeCall}
 use Rattle.records.specs.Record.{keptCount, pendingAt, pendingEvents}
 use Rattle.refusals.specs.Refusals.{roomOf}
 use Rattle.call_open.specs.Open.{Opened}
@@ -94,6 +94,16 @@ acceptedBy e es nothingReady = es
 acceptedBy e es (found i) = es
 acceptedBy e es absent = es
 
+-- The watch after a take, by what it answered and left and by its trial.
+abbrev pub afterTake : ℕ → Taken → Decision → Watch → Watch
+afterTake w r d W = record {
+  bytes = r .bytes;
+  window = r .window;
+  ledger = takenLedger w (W .bytes) (stoppedAt d) (W .ledger) (r .answer);
+  accepted = W .accepted;
+  answers = r .answer ∷ W .answers;
+}
+
 unfoldable pub after : ℕ → Call → Watch → Watch
 after w (offers mask clock labels) W =
     let r = offerCall w mask clock labels (W .bytes) in
@@ -107,14 +117,7 @@ after w (offers mask clock labels) W =
     }
 after w (takes zeros scratch) W =
     let lent = W .window ++ replicate zeros 0 in
-    let r = takeCall w (W .bytes) lent scratch in
-    record {
-      bytes = r .bytes;
-      window = r .window;
-      ledger = takenLedger w (W .bytes) (stoppedAt (trialOf w (W .bytes) lent)) (W .ledger) (r .answer);
-      accepted = W .accepted;
-      answers = r .answer ∷ W .answers;
-    }
+    afterTake w (takeCall w (W .bytes) lent scratch) (trialOf w (W .bytes) lent) W
 after w (finds line) W =
     record {
       bytes = W .bytes;

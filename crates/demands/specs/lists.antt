@@ -14,3 +14,5 @@ pub mod OrderIndependent
 pub mod Find
 pub mod WithoutAgains
 pub mod Again
+pub mod Messages
+pub mod Earlier

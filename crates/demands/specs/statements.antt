@@ -5,3 +5,5 @@ pub mod TakeAnswers
 pub mod Balance
 pub mod Find
 pub mod Again
+pub mod Messages
+pub mod Earlier

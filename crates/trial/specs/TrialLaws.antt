@@ -11,7 +11,7 @@ use lib.ListN.{length, getD}
 use Rattle.frontiers.specs.declared.Frontier.{Frontier}
 use Rattle.clocks.specs.declared.Event.{Event}
 use Rattle.window.specs.Step.{fits}
-use Rattle.clocks.specs.cuts.EventLaws.{true-T}
+use Rattle.clocks.specs.cuts.EventLaws.{true-T, T-true}
 use Rattle.clocks.specs.Counts.{at}
 use Rattle.trial.specs.Trial.{settingIn, tried, undecided, false-clock, chosen}
 use Rattle.records.specs.Record.{readyIn}
@@ -59,3 +59,27 @@ module _ (w : ℕ) (s : List ℕ) (valid : Event → Bool) (allowed : ℕ) (fs :
       go true p false q c t rest = falsifies 0 (omega arith) (rw (p, q) (ap false-clock (omega arith))) (true-T p) q (λ x m. absurd (omega arith))
       go true p true q true t rest = chooses 0 (omega arith) (rw (p, q, t) (ap chosen (omega arith))) (true-T p) (true-T q) (true-T t) (λ x m. absurd (omega arith))
       go true p true q false t rest = passed-over i seen true e es (rw (p, q, t)) (λ x. (true-T q, t)) ((λ x. inr (true-T p)), λ x. tt) (rest true)
+
+-- ---- Two tests of a clock
+
+-- Where a test lets pass every ready event that another does, a trial by the other that meets no false clock is a trial
+-- by it.
+pub same-trial : (w : ℕ) (s : List ℕ) (valid valid′ : Event → Bool) (allowed : ℕ) (fs : List Frontier) (i : ℕ) (seen : Bool) (es : List Event)
+    → ((e : Event) → List·Memᴰ e es → T (readyIn w s e) → T (valid e) → T (valid′ e))
+    → ((j : ℕ) → tried w s valid allowed fs i seen es ≡ false-clock j → ⊥)
+    → tried w s valid allowed fs i seen es ≡ tried w s valid′ allowed fs i seen es
+unfolding tried
+same-trial w s valid valid′ allowed fs i seen [] more none = refl
+same-trial w s valid valid′ allowed fs i seen (e ∷ es) more none =
+    go (readyIn w s e) refl (valid e) refl (fits (settingIn w s e) allowed fs) refl
+    (λ b. same-trial w s valid valid′ allowed fs (i + 1) b es (λ f m. more f (List·Memᴰ·tail m)))
+  where
+    go : (a : Bool) → readyIn w s e ≡ a → (b : Bool) → valid e ≡ b → (c : Bool) → fits (settingIn w s e) allowed fs ≡ c
+        → ((seen′ : Bool) → ((j : ℕ) → tried w s valid allowed fs (i + 1) seen′ es ≡ false-clock j → ⊥)
+        → tried w s valid allowed fs (i + 1) seen′ es ≡ tried w s valid′ allowed fs (i + 1) seen′ es)
+        → tried w s valid allowed fs i seen (e ∷ es) ≡ tried w s valid′ allowed fs i seen (e ∷ es)
+    go false p b q c t rest = rw p (rest seen (λ j h. none j (rw p h)))
+    go true p false q c t rest = absurd (none i (rw (p, q)))
+    go true p true q true t rest = rw (p, q, t, T-true (valid′ e) (more e (List·Memᴰ·head refl) (true-T p) (true-T q)))
+    go true p true q false t rest =
+        rw (p, q, t, T-true (valid′ e) (more e (List·Memᴰ·head refl) (true-T p) (true-T q))) (rest true (λ j h. none j (rw (p, q, t) h)))

@@ -5,7 +5,7 @@ use native.Mathlib.Omega.{arith}
 use mathlib.Core.Path.{_≡_, refl, sym, subst, _∙_}
 use mathlib.Core.Bool.{Bool, true, false, not, _&&_}
 use mathlib.Core.List.{List}
-use lib.Dec.{T, eqb, leb, ltb, eqb·suc-zero, eqb→eq, leb→le, le→leb, ltb→lt, lt→ltb}
+use lib.Dec.{T, eqb, leb, ltb, eqb→eq, leb→le, le→leb, ltb→lt, lt→ltb}
 use lib.ListN.{getD}
 use lib.Bits.{bitOr, bitAnd, or-zero-r, or-add-and, and-mask}
 use borrow.Author.Tests.{eq-eqb, le-ltb}

@@ -1,11 +1,11 @@
 -- The window alone tells whether a ready event's clock is valid: what the event knows of is among the kept frontiers
 -- exactly if it is a consistent cut of the history (02 [2]). For the processes that take part have all their taken
 -- events in it, so that it is kept.
-use Prim.Native.Nat.{ℕ, _≤_, _<_}
+use Prim.Native.Nat.{ℕ, _≤_}
 use native.Mathlib.Omega.{arith}
 use mathlib.Core.Path.{_≡_, sym, ap, subst, _∙_}
 use mathlib.Core.Bool.{true}
-use mathlib.Core.List.{List, List·Memᴰ, map}
+use mathlib.Core.List.{List, List·Memᴰ}
 use mathlib.Core.Logic.{_↔_}
 use lib.Dec.{T}
 use Rattle.clocks.specs.declared.Event.{Event}

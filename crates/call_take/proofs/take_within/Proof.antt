@@ -4,7 +4,6 @@ use Prim.Native.Nat.{ℕ}
 use native.Mathlib.Nat.{mul-le-mul-right}
 use native.Mathlib.Omega.{arith}
 use mathlib.Core.Path.{_≡_, sym, ap, _∙_}
-use mathlib.Core.Bool.{false}
 use mathlib.Core.List.{List}
 use lib.ListN.{length, replicate}
 use borrow.Author.Needs.{needs}
@@ -14,7 +13,7 @@ use Rattle.frontiers.specs.Bytes.{frontierLength, frontiers}
 use Rattle.call_take.proofs.take_within.Statement.{statement}
 use Rattle.answers.specs.Answer.{replyWord}
 use Rattle.call_take.proofs.ChoiceSteps.{within-by, choice-undecided, choice-falsified, choice-chosen}
-use Rattle.records.specs.Record.{keptCount, pendingEvents}
+use Rattle.records.specs.Record.{keptCount}
 use Rattle.trial.specs.Trial.{trial}
 use Rattle.call_take.specs.Take.{Taken, decided}
 use Rattle.trial.specs.TrialCode.{choiceFor}

@@ -12,7 +12,6 @@ use borrow.Author.Tests.{eq-eqb}
 use Rattle.clocks.specs.declared.Event.{Event}
 use Rattle.clocks.specs.Event.{Cut, one, involved, count}
 use Rattle.clocks.specs.History.{taken, lastClock}
-use Rattle.clocks.specs.Bounded.{allBelow}
 use Rattle.clocks.specs.stored.BoundedLaws.{all-i, all-e, same-test}
 use Rattle.clocks.specs.cuts.HistoryLaws.{event-numbered}
 use Rattle.clocks.specs.cuts.CausalLaws.{clock-cases}

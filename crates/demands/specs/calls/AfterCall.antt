@@ -29,6 +29,7 @@ use Rattle.demands.specs.Run.{Passed, Watch, offeredLedger, after, offer
 use Rattle.call_offer.specs.OfferCases.{OfferCase, offer-case, turned, repeats, accepted}
 use Rattle.demands.specs.calls.OfferLaws.{accepted-watching}
 use Rattle.trial.specs.Trial.{validAmong, Decision, tried, settingIn}
+use Rattle.call_take.specs.Take as take
 use Rattle.call_take.specs.Take.{decided, takeCall, Taken}
 use Rattle.records.specs.Record.{readyIn, keptCount, removed}
 use Rattle.refusals.specs.Refusals.{badRecordLength, badWindowLength, roomOf, badState}
@@ -93,7 +94,7 @@ module _ (w k : ℕ) (table : List Line) (start : Cut) (R : Rule w k table start
   module _ (L : Ledger) (bytes lent : List ℕ) (X : Watching w k table start L bytes lent) (scratch : List ℕ) where
     -- 6, of the three lent buffers
     unfoldable pub badLengths : Bool
-    badLengths = badRecordLength w (length bytes) || (badWindowLength w (length lent) || not (eqb (length scratch) (length lent)))
+    badLengths = take.badLengths w (length bytes) (length lent) (length scratch)
 
     -- the ledger after the take
     abbrev pub ledgerThen : Ledger

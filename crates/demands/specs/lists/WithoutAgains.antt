@@ -9,7 +9,7 @@ use lib.ListN.{length, replicate}
 use Rattle.codec.specs.Bit.{bit}
 use Rattle.frontiers.specs.declared.Frontier.{Frontier}
 use Rattle.frontiers.specs.Bytes.{frontiers}
-use Rattle.records.specs.Record.{lineTotal, keptCount, pendingEvents}
+use Rattle.records.specs.Record.{lineTotal, keptCount}
 use Rattle.refusals.specs.Refusals.{roomOf, badRecordLength, badWindowLength, badState}
 use Rattle.answers.specs.Answer.{Answer, turnedBack, again, found, stateOf}
 use Rattle.answers.specs.Turns.{by-test}

@@ -9,13 +9,11 @@ use mathlib.Core.List.{List}
 use lib.Dec.{T}
 use lib.ListN.{length}
 use mathlib.Core.Logic.{⊎-elim}
-use borrow.Author.Tests.{not-false, not-true}
 use borrow.Author.Needs.{needs}
 use denote.Ref.{now}
 use Rattle.trial.proofs.decide.Statement.{statement}
 use Rattle.clocks.specs.declared.Event.{Event}
 use Rattle.clocks.specs.Event.{lowered}
-use Rattle.clocks.specs.Counts.{listOf}
 use Rattle.clocks.specs.Bounded.{anyOf}
 use Rattle.clocks.specs.cuts.EventLaws.{true-T}
 use Rattle.clocks.specs.stored.SearchLaws.{passesFrom, search-here, search-next, search-none}

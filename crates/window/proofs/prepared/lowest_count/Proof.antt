@@ -1,6 +1,5 @@
 -- The cases of the definition.
 use borrow.Author.Tests.{lt-ltb, le-ltb}
-use native.Mathlib.Omega.{arith}
 use Rattle.window.proofs.prepared.lowest_count.Statement.{statement}
 use Rattle.window.proofs.prepared.lowest_count.Tie as tie
 

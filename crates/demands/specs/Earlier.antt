@@ -1,0 +1,47 @@
+-- Lists of calls by the rule for valid clocks that stood before 02 [2]: the join of the last clocks (01, Clocks and cuts:
+-- its clock is true). Take alone differs. They are kept to say what the change left as it was: statements/Earlier.
+use Prim.Native.Nat.{ℕ}
+use mathlib.Core.Bool.{Bool, false, cond, _||_}
+use mathlib.Core.List.{List, [], _∷_, _++_}
+use lib.ListN.{length, replicate}
+use Rattle.clocks.specs.declared.Event.{Event}
+use Rattle.clocks.specs.Counts.{rows}
+use Rattle.clocks.specs.Joined.{joinedBy}
+use Rattle.frontiers.specs.Bytes.{frontiers}
+use Rattle.records.specs.Record.{keptCount, lastClocks, pendingEvents}
+use Rattle.refusals.specs.Refusals.{roomOf, badState}
+use Rattle.trial.specs.Trial.{Decision, tried}
+use Rattle.call_open.specs.Open.{openCall}
+use Rattle.call_take.specs.Take.{Taken, decided, badLengths, takeCall}
+use Rattle.demands.specs.Run.{Call, offers, takes, finds, Watch, afterTake, after, opened}
+
+-- The clock is the largest of the last clocks, in the record, of the processes that take part, plus 1 there.
+unfoldable pub joinedIn : ℕ → List ℕ → Event → Bool
+joinedIn w s e = joinedBy 8 e (rows (lastClocks w s))
+
+-- Take's trial of the pending events by this rule.
+unfoldable pub earlierTrial : ℕ → List ℕ → List ℕ → Decision
+earlierTrial w s window =
+    tried w s (joinedIn w s) (roomOf w (length window)) (frontiers w window (keptCount s)) 0 false (pendingEvents w s)
+
+-- Take by it: turned back as it is now, and else as the trial decides.
+unfoldable pub earlierTake : ℕ → List ℕ → List ℕ → List ℕ → Taken
+earlierTake w s window scratch =
+    cond (badLengths w (length s) (length window) (length scratch) || badState w (roomOf w (length window)) s)
+    (takeCall w s window scratch)
+    (decided w s window (frontiers w window (keptCount s)) (earlierTrial w s window))
+
+-- Calls, and a list of them, by it.
+unfoldable pub earlierAfter : ℕ → Call → Watch → Watch
+earlierAfter w (takes zeros scratch) W =
+    let lent = W .window ++ replicate zeros 0 in
+    afterTake w (earlierTake w (W .bytes) lent scratch) (earlierTrial w (W .bytes) lent) W
+earlierAfter w (offers mask clock labels) W = after w (offers mask clock labels) W
+earlierAfter w (finds line) W = after w (finds line) W
+
+unfoldable pub earlierRun : ℕ → List Call → Watch → Watch
+earlierRun w [] W = W
+earlierRun w (c ∷ cs) W = earlierRun w cs (earlierAfter w c W)
+
+abbrev pub earlierAtEnd : ℕ → List ℕ → ℕ → List ℕ → List ℕ → List ℕ → List Call → Watch
+earlierAtEnd w text k labels s window cs = earlierRun w cs (opened (openCall w text k labels s window))
