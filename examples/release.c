@@ -22,7 +22,7 @@ static const char rule[] = "(ep (and (at 1 0) (at 2 0)))";
 /* A report as the network brings it, not always in the order in which things happened. */
 struct report {
     unsigned desks;              /* who took part */
-    uint16_t clock[DESKS];       /* events of each desk in this one's history, itself included */
+    uint16_t clock[DESKS];       /* events of each desk that this one knows of, itself included */
     bool on_bench, drawing;      /* what holds afterwards at repair and at transfer, if they took part */
     int copy;                    /* the copy that is finished with this, or 0 */
 };
@@ -43,6 +43,17 @@ static const struct report tuesday[] = {
     {TRANSFER, {0, 0, 2}, false, false, 102},
     {REPAIR, {0, 1, 0}, true, false, 0},
     {REPAIR, {0, 2, 0}, false, false, 0},
+    {VAULT | REPAIR | TRANSFER, {1, 3, 3}, false, false, 0},
+};
+
+/* Repair left a note on the desk when the original was off its bench, and transfer read it before it drew copy 103. No
+ * step was taken together; but transfer's clock counts what the note told, so the two cannot have been at once. */
+static const struct report wednesday[] = {
+    {TRANSFER, {0, 2, 1}, false, true, 0},            /* overtook what it knows of, and waits for it */
+    {REPAIR, {0, 1, 0}, true, false, 0},
+    {REPAIR, {0, 2, 0}, false, false, 0},             /* and left the note */
+    {TRANSFER, {0, 0, 2}, false, false, 0},           /* a clock that has forgotten the note */
+    {TRANSFER, {0, 2, 2}, false, false, 103},         /* as it should have been sent */
     {VAULT | REPAIR | TRANSFER, {1, 3, 3}, false, false, 0},
 };
 
@@ -140,5 +151,6 @@ static void watch_day(const char *name, const struct report *reports, size_t n) 
 int main(void) {
     watch_day("Monday", monday, sizeof monday / sizeof monday[0]);
     watch_day("Tuesday", tuesday, sizeof tuesday / sizeof tuesday[0]);
+    watch_day("Wednesday", wednesday, sizeof wednesday / sizeof wednesday[0]);
     return 0;
 }

@@ -15,7 +15,14 @@
  *
  * Processes are numbered from 0, at most eight. A word of labels has process p's byte at bits 8p to 8p + 7, of which
  * bit b says whether proposition b holds there. A clock is two words: counts of processes 0 to 3 and of 4 to 7, 16
- * bits each, the lower process lower. */
+ * bits each, the lower process lower.
+ *
+ * A clock counts, for each process, the events that this one knows of, itself included. A process knows of its own
+ * events, of a step that it took part in, and of what a message told it that another process left; and with an event it
+ * knows all that this event knew. So each process keeps a clock. When it reads a message it raises its counts to those
+ * that the sender's clock had, where they are larger; in a step of several processes all raise theirs to the largest of
+ * them; then each process that takes part adds 1 to its own count, and that is the event's clock. Nothing is forgotten:
+ * no count of a process ever falls. */
 #ifndef WATCH_H
 #define WATCH_H
 
@@ -26,8 +33,8 @@
 extern "C" {
 #endif
 
-#define WATCH_VERSION "0.3.0"    /* of this header and of the library that it was installed with */
-#define WATCH_VERSION_NUMBER 300 /* the same as a number: 10000 major + 100 minor + patch */
+#define WATCH_VERSION "0.4.0"    /* of this header and of the library that it was installed with */
+#define WATCH_VERSION_NUMBER 400 /* the same as a number: 10000 major + 100 minor + patch */
 
 #define WATCH_PROCESSES 8        /* at most so many processes */
 #define WATCH_LINES 64           /* a rule has at most so many lines */
@@ -54,7 +61,7 @@ enum {
     WATCH_CONFLICT = 32,    /* offer: another event is pending that has the same count at a common process */
     WATCH_FULL = 33,        /* offer: 32 events are pending: take, or wait for what is missing */
     WATCH_DAMAGED = 34,     /* the record is none, or it says more frontiers than the lent window has */
-    WATCH_CLOCK_FALSE = 35, /* take: an event's clock cannot be; that event, and nothing else, is gone */
+    WATCH_CLOCK_FALSE = 35, /* take: what an event says it knew cannot be; that event, and nothing else, is gone */
     WATCH_NO_ROOM = 36      /* take: events are ready but none fits; lend a longer window */
 };
 
@@ -83,9 +90,9 @@ static inline int watch_accepted(uint64_t reply) { return watch_value(reply) > 0
 uint64_t watch_open(const uint8_t *rule, size_t rule_len, uint64_t k, uint64_t start_labels,
                     uint8_t *record, size_t record_len, uint8_t *window, size_t window_len);
 
-/* Offers an event: bit p of the mask says that process p took part, its clock counts each process's events in its
- * history, itself included, its labels hold afterwards. In any order: an event that comes early is pending until take
- * can take it.
+/* Offers an event: bit p of the mask says that process p took part, its clock counts each process's events that it
+ * knows of, itself included, its labels hold afterwards. In any order: an event that comes before an earlier one of its
+ * processes, or before one that it knows of from a message, is pending until take can take it.
  * Accepted, exactly if the value is above 0 (watch_accepted): value is the number of pending events, this one among
  * them. Writes the record only.
  * Again, the word WATCH_AGAIN (watch_again): a pending event has the same mask, the same eight counts and the same
@@ -99,8 +106,9 @@ uint64_t watch_offer(uint64_t mask, uint64_t clock_low, uint64_t clock_high, uin
  * Accepted: flag is the rule's truth at the largest cut, value the number of frontiers kept (never 0); the counts
  * that the verdict is for are the record's (watch_taken). The whole reply is 0 if nothing is ready: record and window
  * are as they were.
- * Refused: 6 any buffer, or 34: nothing is written. 35: the event left, window and counts are as they were.
- * 36: nothing changed.
+ * Refused: 6 any buffer, or 34: nothing is written. 35: the event that came to its turn has a false clock: 1 less at its
+ * processes, it is none of the kept frontiers, on all eight counts. So it has forgotten what its process knew, or knows
+ * of an event without all that this one knew. The event left, window and counts are as they were. 36: nothing changed.
  * The window may be longer than at the call before, if the new bytes are 0. The scratch may hold anything and is all
  * 0 afterwards, unless the refusal was 6 or 34. */
 uint64_t watch_take(uint8_t *record, size_t record_len, uint8_t *window, size_t window_len,
