@@ -106,9 +106,10 @@ uint64_t watch_offer(uint64_t mask, uint64_t clock_low, uint64_t clock_high, uin
  * Accepted: flag is the rule's truth at the largest cut, value the number of frontiers kept (never 0); the counts
  * that the verdict is for are the record's (watch_taken). The whole reply is 0 if nothing is ready: record and window
  * are as they were.
- * Refused: 6 any buffer, or 34: nothing is written. 35: the event that came to its turn has a false clock: 1 less at its
- * processes, it is none of the kept frontiers, on all eight counts. So it has forgotten what its process knew, or knows
- * of an event without all that this one knew. The event left, window and counts are as they were. 36: nothing changed.
+ * Refused: 6 any buffer, or 34: nothing is written. 35: the event that came to its turn has a false clock: 1 less at
+ * its processes, it is none of the kept frontiers, on all eight counts. So it has forgotten what its process knew, or
+ * knows of an event without all that this one knew. The event left, window and counts are as they were. 36: nothing
+ * changed.
  * The window may be longer than at the call before, if the new bytes are 0. The scratch may hold anything and is all
  * 0 afterwards, unless the refusal was 6 or 34. */
 uint64_t watch_take(uint8_t *record, size_t record_len, uint8_t *window, size_t window_len,
