@@ -66,22 +66,28 @@ module _ (w : ℕ) (s : List ℕ) (allowed : ℕ) (fs : List Frontier) where
   from-chosen i kept (false-clock j) e = let z : _≡_ {A = ℕ} 0 1 = cc in absurd (omega arith)
   from-chosen i kept (chosen j) e = let same : i ≡ j = cc in (cc, cc)
 
-  pub choice-undecided : (seen : Bool) → Undecided seen ≡ choiceFor w s fs (trial w s allowed fs) → (trial w s allowed fs) ≡ undecided seen
+  pub choice-undecided : (seen : Bool) → Undecided seen ≡ choiceFor w s fs (trial w s allowed fs)
+      → (trial w s allowed fs) ≡ undecided seen
   choice-undecided seen h = from-undecided seen (trial w s allowed fs) h
 
   -- ---- What holds of the event
-  pub choice-falsified : (i : ℕ) → Falsified i ≡ choiceFor w s fs (trial w s allowed fs) → ((trial w s allowed fs) ≡ false-clock i) × (i < pendingCount s)
-  choice-falsified i h = (from-falsified i (trial w s allowed fs) h, go came (from-falsified i (trial w s allowed fs) h))
+  pub choice-falsified : (i : ℕ) → Falsified i ≡ choiceFor w s fs (trial w s allowed fs)
+      → ((trial w s allowed fs) ≡ false-clock i) × (i < pendingCount s)
+  choice-falsified i h =
+      (from-falsified i (trial w s allowed fs) h, go came (from-falsified i (trial w s allowed fs) h))
     where
-      go : Outcome w s (validAmong fs) allowed fs 0 false (pendingEvents w s) first → (trial w s allowed fs) ≡ false-clock i → i < pendingCount s
+      go : Outcome w s (validAmong fs) allowed fs 0 false (pendingEvents w s) first
+          → (trial w s allowed fs) ≡ false-clock i → i < pendingCount s
       go (none-decides after t u o) d = let z : _≡_ {A = ℕ} 0 1 = cc in absurd (omega arith)
       go (falsifies j l t r n u) d = let same : i ≡ 0 + j = cc in omega (arith, count)
       go (chooses j l t r v f u) d = let z : _≡_ {A = ℕ} 0 1 = cc in absurd (omega arith)
 
-  pub choice-chosen : (i kept : ℕ) → Chosen i kept ≡ choiceFor w s fs (trial w s allowed fs) → ((trial w s allowed fs) ≡ chosen i) × Taking w s allowed fs i kept
+  pub choice-chosen : (i kept : ℕ) → Chosen i kept ≡ choiceFor w s fs (trial w s allowed fs)
+      → ((trial w s allowed fs) ≡ chosen i) × Taking w s allowed fs i kept
   choice-chosen i kept h = let c = from-chosen i kept (trial w s allowed fs) h in (c .0, go came (c .0) (c .1))
     where
-      go : Outcome w s (validAmong fs) allowed fs 0 false (pendingEvents w s) first → (trial w s allowed fs) ≡ chosen i → kept ≡ keptAfter (settingIn w s (pendingAt w s i)) fs → Taking w s allowed fs i kept
+      go : Outcome w s (validAmong fs) allowed fs 0 false (pendingEvents w s) first → (trial w s allowed fs) ≡ chosen i
+          → kept ≡ keptAfter (settingIn w s (pendingAt w s i)) fs → Taking w s allowed fs i kept
       go (none-decides after t u o) d k = let z : _≡_ {A = ℕ} 0 1 = cc in absurd (omega arith)
       go (falsifies j l t r n u) d k = let z : _≡_ {A = ℕ} 0 1 = cc in absurd (omega arith)
       go (chooses j l t r v f u) d k =
@@ -97,7 +103,8 @@ module _ (w : ℕ) (s : List ℕ) (allowed : ℕ) (fs : List Frontier) where
           }
 
 -- A take within so many frontiers, by its decision.
-pub within-by : (w allowed : ℕ) (s window : List ℕ) (d : Decision) → trial w s allowed (frontiers w window (keptCount s)) ≡ d
+pub within-by : (w allowed : ℕ) (s window : List ℕ) (d : Decision)
+    → trial w s allowed (frontiers w window (keptCount s)) ≡ d
     → takeWithin w allowed s window ≡ decided w s window (frontiers w window (keptCount s)) d
 unfolding takeWithin
 within-by w allowed s window d e = rw e

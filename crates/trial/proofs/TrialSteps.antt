@@ -21,18 +21,23 @@ module _ (w : ℕ) (s : List ℕ) (valid : Event → Bool) (allowed : ℕ) (fs :
   unfolding triedFrom tried pendingEvents
   tried-end l = rw (rest-end (pendingCount s) (pendingAt w s) i l)
 
-  pub tried-pass : i < pendingCount s → readyIn w s (pendingAt w s i) ≡ false → triedFrom w s valid allowed fs i seen ≡ triedFrom w s valid allowed fs (i + 1) seen
+  pub tried-pass : i < pendingCount s → readyIn w s (pendingAt w s i) ≡ false
+      → triedFrom w s valid allowed fs i seen ≡ triedFrom w s valid allowed fs (i + 1) seen
   unfolding triedFrom tried pendingEvents
   tried-pass l r = rw (rest-next (pendingCount s) (pendingAt w s) i l, r)
 
-  pub tried-false : i < pendingCount s → readyIn w s (pendingAt w s i) ≡ true → valid (pendingAt w s i) ≡ false → triedFrom w s valid allowed fs i seen ≡ false-clock i
+  pub tried-false : i < pendingCount s → readyIn w s (pendingAt w s i) ≡ true → valid (pendingAt w s i) ≡ false
+      → triedFrom w s valid allowed fs i seen ≡ false-clock i
   unfolding triedFrom tried pendingEvents
   tried-false l r v = rw (rest-next (pendingCount s) (pendingAt w s) i l, r, v)
 
-  pub tried-fits : i < pendingCount s → readyIn w s (pendingAt w s i) ≡ true → valid (pendingAt w s i) ≡ true → fits (settingIn w s (pendingAt w s i)) allowed fs ≡ true → triedFrom w s valid allowed fs i seen ≡ chosen i
+  pub tried-fits : i < pendingCount s → readyIn w s (pendingAt w s i) ≡ true → valid (pendingAt w s i) ≡ true
+      → fits (settingIn w s (pendingAt w s i)) allowed fs ≡ true → triedFrom w s valid allowed fs i seen ≡ chosen i
   unfolding triedFrom tried pendingEvents
   tried-fits l r v f = rw (rest-next (pendingCount s) (pendingAt w s) i l, r, v, f)
 
-  pub tried-full : i < pendingCount s → readyIn w s (pendingAt w s i) ≡ true → valid (pendingAt w s i) ≡ true → fits (settingIn w s (pendingAt w s i)) allowed fs ≡ false → triedFrom w s valid allowed fs i seen ≡ triedFrom w s valid allowed fs (i + 1) true
+  pub tried-full : i < pendingCount s → readyIn w s (pendingAt w s i) ≡ true → valid (pendingAt w s i) ≡ true
+      → fits (settingIn w s (pendingAt w s i)) allowed fs ≡ false
+      → triedFrom w s valid allowed fs i seen ≡ triedFrom w s valid allowed fs (i + 1) true
   unfolding triedFrom tried pendingEvents
   tried-full l r v f = rw (rest-next (pendingCount s) (pendingAt w s) i l, r, v, f)

@@ -17,9 +17,19 @@ use Rattle.records.specs.Record.{tablePlace, processCount, lineTotal, takenCoun
 use Rattle.trial.specs.Trial.{settingIn}
 
 pub setting-with : (w : ℕ) (s : List ℕ) (e : Event) → e .mask < 256
-    → settingIn w s e ≡ settingWith (processCount s) 0 (drop (tablePlace w) s) (lineTotal s) e (listOf 8 (apply e (at (takenCounts w s))))
+    → settingIn w s e
+    ≡ settingWith (processCount s) 0 (drop (tablePlace w) s) (lineTotal s) e
+    (listOf 8 (apply e (at (takenCounts w s))))
 unfolding settingIn tableLines apply involved takenCounts
-setting-with w s e m = ap (λ (c : Cut). record { stored = 8; processes = processCount s; closed = 0; table = linesOf (drop (tablePlace w) s) (lineTotal s); event = e; reached = c })
+setting-with w s e m =
+    ap (λ (c : Cut). record {
+      stored = 8;
+      processes = processCount s;
+      closed = 0;
+      table = linesOf (drop (tablePlace w) s) (lineTotal s);
+      event = e;
+      reached = c;
+    })
     (sym (at-listOf-all 8 (apply e (at (takenCounts w s))) (λ p l. silent p l)))
   where
     length-taken : length (takenCounts w s) ≡ 8
@@ -30,7 +40,8 @@ setting-with w s e m = ap (λ (c : Cut). record { stored = 8; processes = proces
 
 -- ... and with the part of the record that is lent as the table.
 pub setting-lent : (w : ℕ) (s : List ℕ) (e : Event) (k place lines : ℕ) (reached : List ℕ) → e .mask < 256
-    → k ≡ processCount s → place ≡ tablePlace w → lines ≡ lineTotal s → reached ≡ listOf 8 (apply e (at (takenCounts w s)))
+    → k ≡ processCount s → place ≡ tablePlace w → lines ≡ lineTotal s
+    → reached ≡ listOf 8 (apply e (at (takenCounts w s)))
     → settingIn w s e ≡ settingWith k 0 (take (length s - place) (drop place s)) lines e reached
 setting-lent w s e k place lines reached m p q l r =
     rw (p, l, r, take-all (length s - place) (drop place s) (simp length-drop (omega arith)), q) (setting-with w s e m)

@@ -18,4 +18,5 @@ choiceFor w s fs (chosen i) = Chosen i (keptAfter (settingIn w s (pendingAt w s 
 
 -- The marks of a window's n frontiers are those of the event that a choice takes.
 abbrev pub MarkedFor : ℕ → List ℕ → List ℕ → ℕ → List ℕ → Choice → Type 0
-MarkedFor w s window n marks c = (i kept : ℕ) → c ≡ Chosen i kept → Marked (settingIn w s (pendingAt w s i)) w window n marks
+MarkedFor w s window n marks c = (i kept : ℕ) → c ≡ Chosen i kept
+    → Marked (settingIn w s (pendingAt w s i)) w window n marks

@@ -29,9 +29,11 @@ digit-one (suc (suc x)) l = absurd (omega arith)
 
 -- All bits are set, whatever is added to them.
 or-full : (n : ℕ) → n < 2 ^ 32 → bitOr n (2 ^ 32 - 1) ≡ 2 ^ 32 - 1
-or-full n l = let same : bitAnd n (2 ^ 32 - 1) ≡ n = and-mask n 32 ∙ mod-eq-of-lt l in omega (arith, or-add-and n (2 ^ 32 - 1), same)
+or-full n l = let same : bitAnd n (2 ^ 32 - 1) ≡ n = and-mask n 32 ∙ mod-eq-of-lt l in
+    omega (arith, or-add-and n (2 ^ 32 - 1), same)
 
-pub highest-or : (u n before : ℕ) → u ≤ 1 → n < 2 ^ 32 → before ≡ n - u → bitOr before ((1 - u) * 4294967295) ≡ highest u n
+pub highest-or : (u n before : ℕ) → u ≤ 1 → n < 2 ^ 32 → before ≡ n - u
+    → bitOr before ((1 - u) * 4294967295) ≡ highest u n
 highest-or zero n before l m e = let all : before ≡ n = omega arith in rw all (or-full n m)
 highest-or (suc zero) n before l m e = or-zero-r before ∙ e
 highest-or (suc (suc u)) n before l m e = absurd (omega arith)
@@ -42,7 +44,8 @@ pub between-ready : (b : Bool) (n c : ℕ) → c < 4294967296
 between-ready false n c h =
     let less : n - 0 ≡ n = omega arith in
     rw (le-ltb n 0 (omega arith), less)
-    (same-test _ _ (and-l (leb n c) (leb c 4294967295)) (λ t. and-i (leb n c) (leb c 4294967295) t (le→leb c 4294967295 (omega arith))))
+    (same-test _ _ (and-l (leb n c) (leb c 4294967295))
+    (λ t. and-i (leb n c) (leb c 4294967295) t (le→leb c 4294967295 (omega arith))))
 between-ready true zero c h =
     same-test _ _
     (λ t. absurd (omega (arith, leb→le 1 c (and-l (leb 1 c) (leb c 0) t), leb→le c 0 (and-r (leb 1 c) (leb c 0) t))))

@@ -51,20 +51,24 @@ module _ (W : World) (valid : List Event → Event → Type 0) (ts : List Event)
           let c : Consistent ts (s .0) = R .kept (s .0) (s .1) .consistent in
           let q : listOf (W .stored) (s .0) ≡ listOf (W .stored) (lowered e) =
           sym (ap (λ (g : Frontier). g .counts) (s .2)) ∙ same-e (f .counts) (listOf (W .stored) (lowered e)) t in
-          subst (Consistent ts) (listOf-injective (W .stored) (s .0) (lowered e) (cut-silent (s .0) c) lowered-silent q) c
+          subst (Consistent ts)
+          (listOf-injective (W .stored) (s .0) (lowered e) (cut-silent (s .0) c) lowered-silent q) c
 
       there : T (anyOf (λ f. same (f .counts) (listOf (W .stored) (lowered e))) fs) → Consistent ts (lowered e)
-      there t = let w = any-of-e (λ f. same (f .counts) (listOf (W .stored) (lowered e))) fs t in cut-of (w .0) (w .1) (w .2)
+      there t = let w = any-of-e (λ f. same (f .counts) (listOf (W .stored) (lowered e))) fs t in
+          cut-of (w .0) (w .1) (w .2)
 
       kept : Consistent ts (lowered e) → KeptIn W ts (lowered e)
       kept c =
           let f : Follows ts e = record { occupied = formed .occupied; ready = ready; knows = c } in
           record {
             consistent = c;
-            kept = origin-kept (W .processes) (openIn W) e ts f (λ p b. (involved-below (W .processes) e formed p b, opens p b)) (lowered e) (own-enabled e ts f);
+            kept = origin-kept (W .processes) (openIn W) e ts f
+                (λ p b. (involved-below (W .processes) e formed p b, opens p b)) (lowered e) (own-enabled e ts f);
           }
 
       back : Consistent ts (lowered e) → T (anyOf (λ f. same (f .counts) (listOf (W .stored) (lowered e))) fs)
       back c =
           let m = mapped-i (frontierOf W ts) (R .cuts) (lowered e) (R .complete (lowered e) (kept c)) in
-          any-of-i (λ f. same (f .counts) (listOf (W .stored) (lowered e))) fs (frontierOf W ts (lowered e)) (rw (R .are) m) (same-refl (listOf (W .stored) (lowered e)))
+          any-of-i (λ f. same (f .counts) (listOf (W .stored) (lowered e))) fs (frontierOf W ts (lowered e))
+          (rw (R .are) m) (same-refl (listOf (W .stored) (lowered e)))

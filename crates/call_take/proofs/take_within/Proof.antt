@@ -61,7 +61,9 @@ decide-requires c κs =
 
 -- What is to be known of the call that decides: its frontiers are those that the record says are kept.
 decision : (c : tie.After-decide) → let a = start (counted c) .args in
-    c .decide .result ≡ choiceFor (a .w) (now (a .«record»)) (kept (a .w) (now (a .«record»)) (now (a .window))) (trial (a .w) (now (a .«record»)) (a .allowed) (kept (a .w) (now (a .«record»)) (now (a .window))))
+    c .decide .result
+    ≡ choiceFor (a .w) (now (a .«record»)) (kept (a .w) (now (a .«record»)) (now (a .window)))
+    (trial (a .w) (now (a .«record»)) (a .allowed) (kept (a .w) (now (a .«record»)) (now (a .window))))
 decision c = rw (← (counted c .kept-count .ensures)) (c .decide .ensures .0)
 
 enum-known-choice : tie.Need-enum-known-choice

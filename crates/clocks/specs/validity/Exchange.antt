@@ -131,14 +131,18 @@ module _ (k : ℕ) (valid : List Event → Event → Type 0) (r : ClockRule k va
   earlier (u ∷ us) ts h = earlier us ts (h .1)
 
   -- ---- Theorem
-  pub exchange-exactly : (us : List Event) (e f : Event) (ts : List Event) → History k valid (us ++ (f ∷ e ∷ ts)) → Apart e f
+  pub exchange-exactly : (us : List Event) (e f : Event) (ts : List Event) → History k valid (us ++ (f ∷ e ∷ ts))
+      → Apart e f
       → History k valid (us ++ (e ∷ f ∷ ts)) ↔ NeitherCounts e f
-  exchange-exactly us e f ts h a = (there, λ n. carried us (f ∷ e ∷ ts) (e ∷ f ∷ ts) (swapped-same e f ts) h (exchange k valid r e f ts ef a (n .1)))
+  exchange-exactly us e f ts h a =
+      (there, λ n. carried us (f ∷ e ∷ ts) (e ∷ f ∷ ts) (swapped-same e f ts) h (exchange k valid r e f ts ef a (n .1)))
     where
       ef : History k valid (f ∷ e ∷ ts)
       ef = earlier us (f ∷ e ∷ ts) h
 
       there : History k valid (us ++ (e ∷ f ∷ ts)) → NeitherCounts e f
       there g =
-          let fe = earlier us (e ∷ f ∷ ts) g in
-          (first-counts e f ts (ef .1 .0 .ready) (ef .0 .ready) a, first-counts f e ts (fe .1 .0 .ready) (fe .0 .ready) (apart-sym e f a))
+          let fe = earlier us (e ∷ f ∷ ts) g in (
+            first-counts e f ts (ef .1 .0 .ready) (ef .0 .ready) a,
+            first-counts f e ts (fe .1 .0 .ready) (fe .0 .ready) (apart-sym e f a),
+          )

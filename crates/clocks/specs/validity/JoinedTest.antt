@@ -21,20 +21,28 @@ use Rattle.clocks.specs.Valid.{WellFormed, History}
 use Rattle.clocks.specs.Joined.{joinTo, Joined, joinedBy}
 
 -- ---- The last clocks count no process from k up, and so their join does not
-last-silent : (k : ℕ) (valid : List Event → Event → Type 0) (ts : List Event) → History k valid ts → (p q : ℕ) → k ≤ q → lastClock ts p q ≡ 0
+last-silent : (k : ℕ) (valid : List Event → Event → Type 0) (ts : List Event) → History k valid ts → (p q : ℕ) → k ≤ q
+    → lastClock ts p q ≡ 0
 unfolding lastClock
 last-silent k valid ts h p q l =
-    clock-cases (λ x. x ≡ 0) ts p (taken ts p) q refl (λ f j. in-takeable k valid ts h f (event-numbered ts p (taken ts p) f j .among) .silent q l)
+    clock-cases (λ x. x ≡ 0) ts p (taken ts p) q refl
+    (λ f j. in-takeable k valid ts h f (event-numbered ts p (taken ts p) f j .among) .silent q l)
 
-join-silent : (k : ℕ) (valid : List Event → Event → Type 0) (ts : List Event) → History k valid ts → (n : ℕ) (member : ℕ → Bool) (q : ℕ) → k ≤ q → joinTo n member (lastClock ts) q ≡ 0
+join-silent : (k : ℕ) (valid : List Event → Event → Type 0) (ts : List Event) → History k valid ts
+    → (n : ℕ) (member : ℕ → Bool) (q : ℕ) → k ≤ q → joinTo n member (lastClock ts) q ≡ 0
 join-silent k valid ts h n member q l =
-    omega (arith, join-least n member (lastClock ts) q 0 (λ p j m. let z : lastClock ts p q ≡ 0 = last-silent k valid ts h p q l in omega arith))
+    omega (
+      arith,
+      join-least n member (lastClock ts) q 0
+          (λ p j m. let z : lastClock ts p q ≡ 0 = last-silent k valid ts h p q l in omega arith),
+    )
 
 -- ---- Only the first n clocks, and their first n counts, matter
 joined-at : ℕ → Event → (ℕ → Cut) → ℕ → Bool
 joined-at n e last q = eqb (count e q) (joinTo n (involved e) last q + one (involved e q))
 
-pub joined-same : (n : ℕ) (e : Event) (last last′ : ℕ → Cut) → ((p q : ℕ) → p < n → q < n → last p q ≡ last′ p q) → joinedBy n e last ≡ joinedBy n e last′
+pub joined-same : (n : ℕ) (e : Event) (last last′ : ℕ → Cut) → ((p q : ℕ) → p < n → q < n → last p q ≡ last′ p q)
+    → joinedBy n e last ≡ joinedBy n e last′
 unfolding joinedBy joined-at
 joined-same n e last last′ h =
     same-test (joinedBy n e last) (joinedBy n e last′)
@@ -45,14 +53,19 @@ joined-same n e last last′ h =
     same q l = join-same n (involved e) last last′ q (λ p j m. h p q j l)
 
 -- ---- Theorem
-pub joined-test : (k n : ℕ) (valid : List Event → Event → Type 0) (ts : List Event) → k ≤ n → History k valid ts → (e : Event) → WellFormed k e
+pub joined-test : (k n : ℕ) (valid : List Event → Event → Type 0) (ts : List Event) → k ≤ n → History k valid ts
+    → (e : Event) → WellFormed k e
     → T (joinedBy n e (lastClock ts)) ↔ Joined n ts e
 unfolding joinedBy joined-at
-joined-test k n valid ts fit h e w = (there, λ j. all-i n (joined-at n e (lastClock ts)) (λ q l. rw (eq-eqb _ _ (j .each q)) tt))
+joined-test k n valid ts fit h e w =
+    (there, λ j. all-i n (joined-at n e (lastClock ts)) (λ q l. rw (eq-eqb _ _ (j .each q)) tt))
   where
-    equal : T (joinedBy n e (lastClock ts)) → (q : ℕ) → Dec (q < n) → count e q ≡ joinTo n (involved e) (lastClock ts) q + one (involved e q)
+    equal : T (joinedBy n e (lastClock ts)) → (q : ℕ) → Dec (q < n)
+        → count e q ≡ joinTo n (involved e) (lastClock ts) q + one (involved e q)
     equal t q (yes l) = eqb→eq _ _ (all-e n (joined-at n e (lastClock ts)) t q l)
-    equal t q (no l) = rw (w .below q (omega arith)) (omega (arith, w .silent q (omega arith), join-silent k valid ts h n (involved e) q (omega arith)))
+    equal t q (no l) =
+        rw (w .below q (omega arith))
+        (omega (arith, w .silent q (omega arith), join-silent k valid ts h n (involved e) q (omega arith)))
 
     there : T (joinedBy n e (lastClock ts)) → Joined n ts e
     there t = record { each = λ q. equal t q (decLt q n) }

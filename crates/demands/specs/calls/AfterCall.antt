@@ -175,13 +175,21 @@ module _ (w k : ℕ) (table : List Line) (start : Cut) (R : Rule w k table start
             let i : 0 + j ≡ j = omega arith in
             rw (q, i, says-event w k table start R L bytes lent X j noEvent l)
             (subst (Watching w k table start (record { history = L .history; pending = removeAt j (L .pending); falsified = getD (L .pending) j noEvent ∷ L .falsified }) (removed w bytes j)) (sym (X .window-is))
-            (falsified-watching w k table start R L bytes lent X j noEvent l (is-ready j l r) (is-false j l r n) (length lent) (omega arith)))
+            (falsified-watching w k table start R L bytes lent X j noEvent l (is-ready j l r) (is-false j l r n)
+            (length lent) (omega arith)))
         go (chooses j l q r v f x) =
             let i : 0 + j ≡ j = omega arith in
             let many : length (gs j l) ≤ roomOf w (length lent) = fits-room j l f in
             let fit = room-iff w (length (gs j l)) (length lent) .0 many in
-            rw (q, i, says-event w k table start R L bytes lent X j noEvent l, setting-in w k table start R L bytes lent X (getD (L .pending) j noEvent), taken-window w k table start R L bytes lent X j noEvent l (is-ready j l r) (is-valid j l r v) fit)
-            (taken-watching w k table start R L bytes lent X j noEvent l (is-ready j l r) (is-valid j l r v) (length lent)
+            rw (
+              q,
+              i,
+              says-event w k table start R L bytes lent X j noEvent l,
+              setting-in w k table start R L bytes lent X (getD (L .pending) j noEvent),
+              taken-window w k table start R L bytes lent X j noEvent l (is-ready j l r) (is-valid j l r v) fit,
+            )
+            (taken-watching w k table start R L bytes lent X j noEvent l (is-ready j l r) (is-valid j l r v)
+            (length lent)
             fit (le-trans many (room-1024 h)))
 
   -- ---- Theorem

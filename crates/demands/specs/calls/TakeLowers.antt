@@ -60,7 +60,8 @@ module _ (w k : ℕ) (table : List Line) (start : Cut) (R : Rule w k table start
               let v = length-removeAt (0 + j) (L .pending) (omega arith) in
               omega (arith, after, u, v, many L bytes lent X)
 
-          go : Outcome w bytes (validAmong (X .kept)) (roomOf w (length lent)) (X .kept) 0 false (L .pending) noEvent → pendingCount (took .bytes) + 1 ≡ pendingCount bytes
+          go : Outcome w bytes (validAmong (X .kept)) (roomOf w (length lent)) (X .kept) 0 false (L .pending) noEvent
+              → pendingCount (took .bytes) + 1 ≡ pendingCount bytes
           go (none-decides false q u o) = absurd (n0 (answered (undecided false) q))
           go (none-decides true q u o) = absurd (n36 (answered (undecided true) q))
           go (falsifies j l q r n u) = without j l (ap (λ (d : Decision). ledgerAfter w bytes L d .pending) q)

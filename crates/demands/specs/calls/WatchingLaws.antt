@@ -136,7 +136,9 @@ module _ (w k : ℕ) (table : List Line) (start : Cut) (R : Rule w k table start
 
   -- ... and so is the test by the join of last clocks, which took its place before
   pub joined-in : (e : Event) → WellFormed k e → T (joinedBy 8 e (rows (lastClocks w bytes))) ↔ Joined 8 ts e
-  joined-in e f = rw (joined-same 8 e (rows (lastClocks w bytes)) (lastClock ts) says-clocks) (joined-test k 8 Valid ts (R .eight-processes) history e f)
+  joined-in e f =
+      rw (joined-same 8 e (rows (lastClocks w bytes)) (lastClock ts) says-clocks)
+      (joined-test k 8 Valid ts (R .eight-processes) history e f)
 
   pub setting-in : (e : Event) → settingIn w bytes e ≡ settingOf world ts e
   unfolding settingIn taken apply

@@ -45,7 +45,8 @@ module _ (w k : ℕ) (table : List Line) (start : Cut) (R : Rule w k table start
   fs = frontiers w lent (keptCount bytes)
 
   read : fs ≡ X .kept
-  read = ap (λ (s : List ℕ). frontiers w s (keptCount bytes)) (X .window-is) ∙ says-frontiers w k table start R L bytes lent X (length lent)
+  read = ap (λ (s : List ℕ). frontiers w s (keptCount bytes)) (X .window-is)
+      ∙ says-frontiers w k table start R L bytes lent X (length lent)
 
   -- a ready pending event whose clock is the join knows of a kept frontier
   passes : (e : Event) → List·Memᴰ e (pendingEvents w bytes) → T (readyIn w bytes e) → T (joinedIn w bytes e)
@@ -57,12 +58,17 @@ module _ (w k : ℕ) (table : List Line) (start : Cut) (R : Rule w k table start
       let known = joined-known 8 (L .history) e causal (joined-in w k table start R L bytes lent X e formed .0 j) in
       rw read (valid-in w k table start R L bytes lent X e formed ready .1 known)
 
-  same-decision : ((j : ℕ) → earlierTrial w bytes lent ≡ false-clock j → ⊥) → earlierTrial w bytes lent ≡ trialOf w bytes lent
+  same-decision : ((j : ℕ) → earlierTrial w bytes lent ≡ false-clock j → ⊥)
+      → earlierTrial w bytes lent ≡ trialOf w bytes lent
   unfolding earlierTrial trialOf
-  same-decision none = same-trial w bytes (joinedIn w bytes) (validAmong fs) (roomOf w (length lent)) fs 0 false (pendingEvents w bytes) passes none
+  same-decision none =
+      same-trial w bytes (joinedIn w bytes) (validAmong fs) (roomOf w (length lent)) fs 0 false
+      (pendingEvents w bytes) passes none
 
   never-bad : badState w (roomOf w (length lent)) bytes ≡ false
-  never-bad = never-34 w k table start R L bytes lent X (roomOf w (length lent)) (room-iff w (length (X .kept)) (length lent) .1 (X .room))
+  never-bad =
+      never-34 w k table start R L bytes lent X (roomOf w (length lent))
+      (room-iff w (length (X .kept)) (length lent) .1 (X .room))
 
   -- what it answers and leaves, and the ledger after it, are the same
   same-take : (scratch : List ℕ) → (earlierTake w bytes lent scratch .answer ≡ turnedBack 35 0 → ⊥) → (W : Watch)
@@ -75,12 +81,18 @@ module _ (w k : ℕ) (table : List Line) (start : Cut) (R : Rule w k table start
           → afterTake w (earlierTake w bytes lent scratch) (earlierTrial w bytes lent) W
           ≡ afterTake w (takeCall w bytes lent scratch) (trialOf w bytes lent) W
       go true h =
-          let one : earlierTake w bytes lent scratch ≡ record { answer = turnedBack 6 0; bytes = bytes; window = lent; scratch = scratch } = unfold earlierTake in (unfold takeCall in (rw h)) in
-          let two : takeCall w bytes lent scratch ≡ record { answer = turnedBack 6 0; bytes = bytes; window = lent; scratch = scratch } = unfold takeCall in (rw h) in
+          let one : earlierTake w bytes lent scratch
+          ≡ record { answer = turnedBack 6 0; bytes = bytes; window = lent; scratch = scratch } =
+          unfold earlierTake in (unfold takeCall in (rw h)) in
+          let two : takeCall w bytes lent scratch
+          ≡ record { answer = turnedBack 6 0; bytes = bytes; window = lent; scratch = scratch } = unfold takeCall in
+          (rw h) in
           rw (one, two) refl
       go false h =
-          let one : earlierTake w bytes lent scratch ≡ decided w bytes lent fs (earlierTrial w bytes lent) = unfold earlierTake in (rw (h, never-bad)) in
-          let two : takeCall w bytes lent scratch ≡ decided w bytes lent fs (trialOf w bytes lent) = unfold takeCall in (unfold takeWithin in (unfold trialOf in (rw (h, never-bad)))) in
+          let one : earlierTake w bytes lent scratch ≡ decided w bytes lent fs (earlierTrial w bytes lent) =
+          unfold earlierTake in (rw (h, never-bad)) in
+          let two : takeCall w bytes lent scratch ≡ decided w bytes lent fs (trialOf w bytes lent) = unfold takeCall in
+          (unfold takeWithin in (unfold trialOf in (rw (h, never-bad)))) in
           let same : earlierTrial w bytes lent ≡ trialOf w bytes lent =
           same-decision (λ j q. n (ap (λ (r : Taken). r .answer) (one ∙ ap (decided w bytes lent fs) q))) in
           ap₂ (λ (r : Taken) (d : Decision). afterTake w r d W) (one ∙ ap (decided w bytes lent fs) same ∙ sym two) same
@@ -94,7 +106,8 @@ earlier-more w (takes zeros scratch) W = (_, refl)
 earlier-more w (offers mask clock labels) W = (_, refl)
 earlier-more w (finds line) W = (_, refl)
 
-answers-stay : (w : ℕ) (cs : List Call) (W : Watch) (a : Answer) → List·Memᴰ a (W .answers) → List·Memᴰ a (earlierRun w cs W .answers)
+answers-stay : (w : ℕ) (cs : List Call) (W : Watch) (a : Answer) → List·Memᴰ a (W .answers)
+    → List·Memᴰ a (earlierRun w cs W .answers)
 unfolding earlierRun
 answers-stay w [] W a m = m
 answers-stay w (c ∷ cs) W a m = answers-stay w cs (earlierAfter w c W) a (rw (earlier-more w c W .1) (List·Memᴰ·tail m))
@@ -106,17 +119,21 @@ module _ (w k : ℕ) (table : List Line) (start : Cut) (R : Rule w k table start
   same-after (offers mask clock labels) W X n = refl
   same-after (finds line) W X n = refl
   same-after (takes zeros scratch) W X n =
-      same-take w k table start R (W .ledger) (W .bytes) (W .window ++ replicate zeros 0) (lengthened w k table start R (W .ledger) (W .bytes) (W .window) X zeros) scratch
+      same-take w k table start R (W .ledger) (W .bytes) (W .window ++ replicate zeros 0)
+      (lengthened w k table start R (W .ledger) (W .bytes) (W .window) X zeros) scratch
       (λ q. n (List·Memᴰ·head (sym q))) W
 
-  same-run : (cs : List Call) (W : Watch) → WatchRight w k table start W → AllPassed w cs → NoFalseClock (earlierRun w cs W .answers)
+  same-run : (cs : List Call) (W : Watch) → WatchRight w k table start W → AllPassed w cs
+      → NoFalseClock (earlierRun w cs W .answers)
       → earlierRun w cs W ≡ run w cs W
   unfolding earlierRun run
   same-run [] W X p n = refl
   same-run (c ∷ cs) W X p n =
-      let here : earlierAfter w c W ≡ after w c W = same-after c W X (λ m. n (answers-stay w cs (earlierAfter w c W) (turnedBack 35 0) m)) in
+      let here : earlierAfter w c W ≡ after w c W =
+      same-after c W X (λ m. n (answers-stay w cs (earlierAfter w c W) (turnedBack 35 0) m)) in
       let rest : earlierRun w cs (after w c W) ≡ run w cs (after w c W) =
-      same-run cs (after w c W) (after-right w k table start R W X c (p c (List·Memᴰ·head refl))) (λ d m. p d (List·Memᴰ·tail m)) (subst (λ (Y : Watch). NoFalseClock (earlierRun w cs Y .answers)) here n) in
+      same-run cs (after w c W) (after-right w k table start R W X c (p c (List·Memᴰ·head refl)))
+      (λ d m. p d (List·Memᴰ·tail m)) (subst (λ (Y : Watch). NoFalseClock (earlierRun w cs Y .answers)) here n) in
       ap (earlierRun w cs) here ∙ rest
 
 -- ---- Theorem
@@ -124,4 +141,5 @@ pub earlier-lists-stand : EarlierListsStand
 unfolding run
 earlier-lists-stand w pos text k labels eight s window a cs p n =
     let x = sound-run w pos text k labels eight s window a [] (λ c m. absurd (List·Memᴰ·not-nil m)) in
-    same-run w k (linesAt 0 (x .0)) (at labels) (x .3 .rule) cs (opened (openCall w text k labels s window)) (x .3 .right) p n
+    same-run w k (linesAt 0 (x .0)) (at labels) (x .3 .rule) cs (opened (openCall w text k labels s window))
+    (x .3 .right) p n

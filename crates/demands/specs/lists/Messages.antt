@@ -41,16 +41,25 @@ clock-exact-of w k f start Z S more e formed r =
     read : keptLent w Z more ≡ X .kept
     read =
         ap (λ (s : List ℕ). frontiers w s (keptCount (Z .bytes))) (X .window-is)
-        ∙ says-frontiers w k (linesAt 0 f) start (S .rule) (Z .ledger) (Z .bytes) (lentWindow Z more) X (length (lentWindow Z more))
+        ∙ says-frontiers w k (linesAt 0 f) start (S .rule) (Z .ledger) (Z .bytes) (lentWindow Z more) X
+        (length (lentWindow Z more))
 
-messages-exact-of : (w k : ℕ) (f : Formula) (start : Cut) (Z : Watch) → Sound w k f start Z → MessagesExact w k f start Z
+messages-exact-of : (w k : ℕ) (f : Formula) (start : Cut) (Z : Watch) → Sound w k f start Z
+    → MessagesExact w k f start Z
 messages-exact-of w k f start Z S = record {
   clock-exactly = clock-exact-of w k f start Z S;
-  exchange-exactly = λ later earlier e g q a. exchange.exchange-exactly k Valid (valid-rule k) later e g earlier (subst (History k Valid) q (S .right .right .by-rule)) a;
+  exchange-exactly =
+      λ later earlier e g q a. exchange.exchange-exactly k Valid (valid-rule k) later e g earlier
+      (subst (History k Valid) q (S .right .right .by-rule)) a;
 }
 
 -- ---- Theorem
 pub messages-exact : MessagesAreExact
 messages-exact w pos text k labels eight s window a cs p =
-    let x = sound-run w pos text k labels eight s window a cs p in
-    (x .0, x .1, x .2, reader-accepts text k (x .1) (x .0) .0 (x .2) .0, messages-exact-of w k (x .0) (at labels) (atEnd w text k labels s window cs) (x .3))
+    let x = sound-run w pos text k labels eight s window a cs p in (
+      x .0,
+      x .1,
+      x .2,
+      reader-accepts text k (x .1) (x .0) .0 (x .2) .0,
+      messages-exact-of w k (x .0) (at labels) (atEnd w text k labels s window cs) (x .3),
+    )

@@ -138,7 +138,8 @@ module _ (w k : ℕ) (f : Formula) (start : Cut) (R : Rule w k (linesAt 0 f) sta
             let b : t ≡ bit (getD (map (λ g. g .values) gs) (length gs - 1) 0) (length table - 1) = cc in
             rw b (state-true k f start w R (e ∷ L .history) h gs r c a)
 
-    decided-reporting : Outcome w bytes (validAmong (X′ .kept)) (roomOf w (length lent)) (X′ .kept) 0 false (L .pending) noEvent → After (decision w k table start R L bytes lent X′ scratch)
+    decided-reporting : Outcome w bytes (validAmong (X′ .kept)) (roomOf w (length lent)) (X′ .kept) 0 false
+        (L .pending) noEvent → After (decision w k table start R L bytes lent X′ scratch)
     unfolding ledgerAfter decided
     decided-reporting (none-decides false q u o) = rw q
         (record {
@@ -150,7 +151,8 @@ module _ (w k : ℕ) (f : Formula) (start : Cut) (R : Rule w k (linesAt 0 f) sta
     decided-reporting (chooses j l q r v g x) =
         let i : 0 + j ≡ j = omega arith in
         rw (q, i, says-event w k table start R L bytes lent X′ j noEvent l, setting-in w k table start R L bytes lent X′ (getD (L .pending) j noEvent), says-lines w k table start R L bytes lent X′, says-taken w k table start R L bytes lent X′)
-        (taken-reporting j l (is-ready w k table start R L bytes lent X′ scratch j l r) (is-valid w k table start R L bytes lent X′ scratch j l r v))
+        (taken-reporting j l (is-ready w k table start R L bytes lent X′ scratch j l r)
+        (is-valid w k table start R L bytes lent X′ scratch j l r v))
 
   -- ---- Theorem
   pub after-reporting : (W : Watch) → WatchRight w k table start W → Reporting (W .ledger) (W .answers) → (c : Call) → Reporting (after w c W .ledger) (after w c W .answers)

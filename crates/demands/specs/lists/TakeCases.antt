@@ -143,10 +143,12 @@ module _ (w k : ℕ) (f : Formula) (start : Cut) (R : Rule w k (linesAt 0 f) sta
     where
       go : (j : ℕ) × (j < length (L .pending)) × (pendingEvent j ≡ e) → PassedOver k room (L .history) e
       go p =
-          subst (PassedOver k room (L .history)) (p .2) (over (p .0) (p .1) (subst⁻¹ (Indecisive w bytes (validAmong (X .kept)) room (X .kept)) (p .2) d))
+          subst (PassedOver k room (L .history)) (p .2)
+          (over (p .0) (p .1) (subst⁻¹ (Indecisive w bytes (validAmong (X .kept)) room (X .kept)) (p .2) d))
 
   stops : (j : ℕ) (l : j < length (L .pending)) → Ready (pendingEvent j) (taken (L .history))
-      → ((i : ℕ) → i < j → Indecisive w bytes (validAmong (X .kept)) room (X .kept) (pendingEvent i)) → StopsAt k room L (pendingEvent j)
+      → ((i : ℕ) → i < j → Indecisive w bytes (validAmong (X .kept)) room (X .kept) (pendingEvent i))
+      → StopsAt k room L (pendingEvent j)
   stops j l r u = record {
     before = take j (L .pending);
     behind = drop (suc j) (L .pending);
@@ -176,7 +178,8 @@ module _ (w k : ℕ) (f : Formula) (start : Cut) (R : Rule w k (linesAt 0 f) sta
           (λ x. full (answers (undecided true) q) ((x .0, x .1, ready-in w k table start R L bytes lent X (x .0) (X .right .formed (x .0) (x .1)) .0 (x .2)), λ e m. over-member e m (u e m))) (o .0 tt)
       go (falsifies j l q r n u) =
           let i : 0 + j ≡ j = omega arith in
-          falsified (answers (false-clock (0 + j)) q) (pendingEvent j, stops j l (ready-at j l .0 r) u, λ v. subst T n (valid-at j l (ready-at j l .0 r) .1 v))
+          falsified (answers (false-clock (0 + j)) q)
+          (pendingEvent j, stops j l (ready-at j l .0 r) u, λ v. subst T n (valid-at j l (ready-at j l .0 r) .1 v))
           (ledgers (false-clock (0 + j)) q ∙ rw (i, says-event w k table start R L bytes lent X j noEvent l))
       go (chooses j l q r v g u) =
           let i : 0 + j ≡ j = omega arith in

@@ -12,7 +12,9 @@ use Rattle.repeats.specs.RepeatsCode.{alike}
 use Rattle.clocks.specs.stored.SearchLaws.{passesFrom, search-here, search-next, search-none}
 
 abbrev Inv-loop : tie.InvT-loop
-Inv-loop s w e whole n i₀ i = (i ≤ n) × (anyOf (alike whole e) (pendingEvents w s) ≡ passesFrom (pendingCount s) (pendingAt w s) (alike whole e) i)
+Inv-loop s w e whole n i₀ i =
+    (i ≤ n) × (anyOf (alike whole e) (pendingEvents w s)
+    ≡ passesFrom (pendingCount s) (pendingAt w s) (alike whole e) i)
 
 abbrev μ-loop : tie.MeasureT-loop
 μ-loop s w e whole n i₀ i = n - i
@@ -43,7 +45,9 @@ returns : tie.Need-returns Inv-loop μ-loop
 returns c =
     let a = c .before .before .before .before .before .before .before .args in
     let l = c .before .before .before .before .loop in
-    sym (l .inv .1 ∙ search-here (pendingCount (now (a .«record»))) (pendingAt (a .w) (now (a .«record»))) (alike (a .whole) (a .e)) (l .i) (omega arith)
+    sym (l .inv .1
+    ∙ search-here (pendingCount (now (a .«record»))) (pendingAt (a .w) (now (a .«record»)))
+    (alike (a .whole) (a .e)) (l .i) (omega arith)
     (here (c .before) ∙ c .if1 .taken))
 
 add-i : tie.Need-add-i Inv-loop μ-loop
@@ -58,7 +62,8 @@ loop-again c =
     let l = c .before .before .before .before .loop in (
       search needs,
       l .inv .1
-          ∙ search-next (pendingCount (now (a .«record»))) (pendingAt (a .w) (now (a .«record»))) (alike (a .whole) (a .e)) (l .i) (omega arith)
+          ∙ search-next (pendingCount (now (a .«record»))) (pendingAt (a .w) (now (a .«record»)))
+          (alike (a .whole) (a .e)) (l .i) (omega arith)
           (here (c .before) ∙ c .if1 .left),
     )
 
@@ -66,7 +71,9 @@ returns-2 : tie.Need-returns-2 Inv-loop μ-loop
 returns-2 c =
     let a = c .before .before .before .before .args in
     let l = c .before .loop in
-    sym (l .inv .1 ∙ search-none (pendingCount (now (a .«record»))) (pendingAt (a .w) (now (a .«record»))) (alike (a .whole) (a .e)) (l .i) (omega arith))
+    sym (l .inv .1
+    ∙ search-none (pendingCount (now (a .«record»))) (pendingAt (a .w) (now (a .«record»)))
+    (alike (a .whole) (a .e)) (l .i) (omega arith))
 
 pub pending-alike-spec : {M : Type 1} → statement M
 pending-alike-spec =

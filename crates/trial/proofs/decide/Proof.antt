@@ -34,7 +34,8 @@ stands known f = same (f .counts) known
 
 -- The trial from pending event i on.
 abbrev from : ℕ → List ℕ → ℕ → List ℕ → ℕ → ℕ → Bool → Decision
-from w s allowed window n i seen = triedFrom w s (validAmong (frontiers w window n)) allowed (frontiers w window n) i seen
+from w s allowed window n i seen =
+    triedFrom w s (validAmong (frontiers w window n)) allowed (frontiers w window n) i seen
 
 abbrev Inv-loop : tie.InvT-loop
 Inv-loop s w window marks n allowed taken pending i e known j₀ j =
@@ -46,7 +47,8 @@ abbrev μ-loop : tie.MeasureT-loop
 abbrev Inv-events : tie.InvT-events
 Inv-events s w window marks₀ n allowed taken pending choice₀ i₀ marks choice i =
     (i ≤ pending)
-    × ((seen : Bool) × (choice ≡ Undecided seen) × (trial w s allowed (frontiers w window n) ≡ from w s allowed window n i seen)
+    × ((seen : Bool) × (choice ≡ Undecided seen)
+    × (trial w s allowed (frontiers w window n) ≡ from w s allowed window n i seen)
     × (length marks ≡ length marks₀))
 
 abbrev μ-events : tie.MeasureT-events
@@ -57,10 +59,12 @@ abbrev μ-events : tie.MeasureT-events
 abbrev start : tie.After-ready Inv-loop μ-loop Inv-events μ-events → tie.Start Inv-loop μ-loop Inv-events μ-events
 start c = let read = c .before .before .before in read .before .before .before .before .before .before
 
-abbrev was-ready : tie.After-lowered Inv-loop μ-loop Inv-events μ-events → tie.After-ready Inv-loop μ-loop Inv-events μ-events
+abbrev was-ready : tie.After-lowered Inv-loop μ-loop Inv-events μ-events
+    → tie.After-ready Inv-loop μ-loop Inv-events μ-events
 was-ready c = c .before .before
 
-abbrev scanned : tie.After-counts-same Inv-loop μ-loop Inv-events μ-events → tie.After-lowered Inv-loop μ-loop Inv-events μ-events
+abbrev scanned : tie.After-counts-same Inv-loop μ-loop Inv-events μ-events
+    → tie.After-lowered Inv-loop μ-loop Inv-events μ-events
 scanned c = let head = c .before .before .before in head .before
 
 -- ---- The tests' answers are those of pending event number i
@@ -77,7 +81,8 @@ tested-ready : (c : tie.After-ready Inv-loop μ-loop Inv-events μ-events)
 unfolding readyIn
 tested-ready c =
     let head = c .before .before .before in
-    rw (← (c .before .pending-event .ensures), ← (head .before .before .taken-counts .ensures)) (sym (c .ready .ensures))
+    rw (← (c .before .pending-event .ensures), ← (head .before .before .taken-counts .ensures))
+    (sym (c .ready .ensures))
 
 -- What the event knows of is looked for among them,
 tested-valid : (c : tie.After-lowered Inv-loop μ-loop Inv-events μ-events)
@@ -88,37 +93,45 @@ tested-valid c = rw (← (was-ready c .before .pending-event .ensures), ← (c .
 -- and a frontier is compared with it.
 tested-here : (c : tie.After-counts-same Inv-loop μ-loop Inv-events μ-events)
     → let a = start (was-ready (scanned c)) .args in
-    stands (scanned c .lowered .result) (frontierAt (a .w) (now (a .window)) (c .before .before .before .loop .j)) ≡ c .counts-same .result
+    stands (scanned c .lowered .result) (frontierAt (a .w) (now (a .window)) (c .before .before .before .loop .j))
+    ≡ c .counts-same .result
 tested-here c = rw (← (c .before .counts-at .ensures)) (sym (c .counts-same .ensures))
 
 read-ready : (c : tie.After-lowered Inv-loop μ-loop Inv-events μ-events)
-    → let a = start (was-ready c) .args in T (readyIn (a .w) (now (a .«record»)) (was-ready c .before .pending-event .result))
+    → let a = start (was-ready c) .args in
+    T (readyIn (a .w) (now (a .«record»)) (was-ready c .before .pending-event .result))
 read-ready c =
     let a = start (was-ready c) .args in
     subst⁻¹ (λ (e : Event). T (readyIn (a .w) (now (a .«record»)) e)) (was-ready c .before .pending-event .ensures)
     (true-T (tested-ready (was-ready c) ∙ c .before .if1 .taken))
 
 -- Found, the event's clock is valid; looked for in vain, it is not.
-is-known : (c : tie.Then3 Inv-loop μ-loop Inv-events μ-events) → let r = was-ready (scanned (c .before)) in validAmong (kept r) (event r) ≡ true
+is-known : (c : tie.Then3 Inv-loop μ-loop Inv-events μ-events) → let r = was-ready (scanned (c .before)) in
+    validAmong (kept r) (event r) ≡ true
 is-known c =
     let low = scanned (c .before) in
     let a = start (was-ready low) .args in
     let l = c .before .before .before .before .loop in
     tested-valid low ∙ l .inv .1
-    ∙ search-here (a .n) (frontierAt (a .w) (now (a .window))) (stands (low .lowered .result)) (l .j) (search needs) (tested-here (c .before) ∙ c .if3 .taken)
+    ∙ search-here (a .n) (frontierAt (a .w) (now (a .window))) (stands (low .lowered .result)) (l .j) (search needs)
+    (tested-here (c .before) ∙ c .if3 .taken)
 
-not-known : (c : tie.Then2 Inv-loop μ-loop Inv-events μ-events) → let r = was-ready (c .before .before) in validAmong (kept r) (event r) ≡ false
+not-known : (c : tie.Then2 Inv-loop μ-loop Inv-events μ-events) → let r = was-ready (c .before .before) in
+    validAmong (kept r) (event r) ≡ false
 not-known c =
     let low = c .before .before in
     let a = start (was-ready low) .args in
     let l = c .before .loop in
-    tested-valid low ∙ l .inv .1 ∙ search-none (a .n) (frontierAt (a .w) (now (a .window))) (stands (low .lowered .result)) (l .j) (search needs)
+    tested-valid low ∙ l .inv .1
+    ∙ search-none (a .n) (frontierAt (a .w) (now (a .window))) (stands (low .lowered .result)) (l .j) (search needs)
 
 -- So many frontiers were counted, and fit or not.
-abbrev asked : tie.After-fitting Inv-loop μ-loop Inv-events μ-events → tie.After-kept-with-arg Inv-loop μ-loop Inv-events μ-events
+abbrev asked : tie.After-fitting Inv-loop μ-loop Inv-events μ-events
+    → tie.After-kept-with-arg Inv-loop μ-loop Inv-events μ-events
 asked c = let counted = c .before .before .before in counted .before
 
-abbrev trying : tie.After-fitting Inv-loop μ-loop Inv-events μ-events → tie.After-ready Inv-loop μ-loop Inv-events μ-events
+abbrev trying : tie.After-fitting Inv-loop μ-loop Inv-events μ-events
+    → tie.After-ready Inv-loop μ-loop Inv-events μ-events
 trying c = let found = asked c .before in was-ready (scanned (found .before))
 
 tested-fits : (c : tie.After-fitting Inv-loop μ-loop Inv-events μ-events)
@@ -126,7 +139,9 @@ tested-fits : (c : tie.After-fitting Inv-loop μ-loop Inv-events μ-events)
     let a = start r .args in
     fits (settingIn (a .w) (now (a .«record»)) (event r)) (a .allowed) (kept r) ≡ c .fitting .result
 unfolding fits
-tested-fits c = rw (← (trying c .before .pending-event .ensures), ← (c .before .before .before .kept-with .ensures .0)) (sym (c .fitting .ensures))
+tested-fits c =
+    rw (← (trying c .before .pending-event .ensures), ← (c .before .before .before .kept-with .ensures .0))
+    (sym (c .fitting .ensures))
 
 -- An event that is not ready is passed over, and so is one that does not fit.
 abbrev onward : tie.After-ready Inv-loop μ-loop Inv-events μ-events → ℕ → Bool → Decision
@@ -146,7 +161,8 @@ passed-full c =
     (tested-fits (c .before) ∙ c .if4 .left)
 
 still-long : (c : tie.Else4 Inv-loop μ-loop Inv-events μ-events)
-    → length (c .before .before .before .before .kept-with .last .1 .1 .1 .0) ≡ length (now (start (trying (c .before)) .args .marks))
+    → length (c .before .before .before .before .kept-with .last .1 .1 .1 .0)
+    ≡ length (now (start (trying (c .before)) .args .marks))
 still-long c = search needs
 
 -- ---- The needs
@@ -196,13 +212,16 @@ loop-again c =
     let l = c .before .before .before .before .loop in (
       search needs,
       l .inv .1
-          ∙ search-next (a .n) (frontierAt (a .w) (now (a .window))) (stands (scanned (c .before) .lowered .result)) (l .j) (search needs)
+          ∙ search-next (a .n) (frontierAt (a .w) (now (a .window))) (stands (scanned (c .before) .lowered .result))
+          (l .j) (search needs)
           (tested-here (c .before) ∙ c .if3 .left),
     )
 
 kept-with-requires : tie.Need-kept-with-requires Inv-loop μ-loop Inv-events μ-events
-kept-with-requires c κs =
-    (search needs, (search needs, (search needs, (search needs, (read-ready (scanned (c .before .before)), search needs)))))
+kept-with-requires c κs = (
+  search needs,
+  (search needs, (search needs, (search needs, (read-ready (scanned (c .before .before)), search needs)))),
+)
 
 fitting-requires : tie.Need-fitting-requires Inv-loop μ-loop Inv-events μ-events
 fitting-requires c κs = search needs
@@ -218,9 +237,33 @@ events-again c =
     let l = c .before .before .before .before .events in (
       search needs,
       ⊎-elim
-          (λ v. let past : tie.Else4 Inv-loop μ-loop Inv-events μ-events = record { before = record { before = record { before = record { before = record { before = record { before = record { before = record { before = record { before = record { before = record { before = record { before = record { before = c .before; if1 = v .0 }; lowered = v .1 }; loop = v .2 }; if2 = v .3 }; counts-at = v .4 }; counts-same = v .5 }; if3 = v .6 }; kept-with-arg = v .7 }; kept-with = v .8 }; marks = v .9 }; slice-known2 = v .10 }; fitting = v .11 }; if4 = v .12 } in
+          (λ v.
+          let ready : tie.Then1 Inv-loop μ-loop Inv-events μ-events = record { before = c .before; if1 = v .0 } in
+          let low : tie.After-lowered Inv-loop μ-loop Inv-events μ-events = record { before = ready; lowered = v .1 } in
+          let head : tie.At-loop Inv-loop μ-loop Inv-events μ-events = record { before = low; loop = v .2 } in
+          let more : tie.Else2 Inv-loop μ-loop Inv-events μ-events = record { before = head; if2 = v .3 } in
+          let read : tie.After-counts-at Inv-loop μ-loop Inv-events μ-events =
+          record { before = more; counts-at = v .4 } in
+          let compared : tie.After-counts-same Inv-loop μ-loop Inv-events μ-events =
+          record { before = read; counts-same = v .5 } in
+          let found : tie.Then3 Inv-loop μ-loop Inv-events μ-events = record { before = compared; if3 = v .6 } in
+          let lent : tie.After-kept-with-arg Inv-loop μ-loop Inv-events μ-events =
+          record { before = found; kept-with-arg = v .7 } in
+          let counted : tie.After-kept-with Inv-loop μ-loop Inv-events μ-events =
+          record { before = lent; kept-with = v .8 } in
+          let marked : tie.After-marks Inv-loop μ-loop Inv-events μ-events =
+          record { before = counted; marks = v .9 } in
+          let same : tie.After-slice-known2 Inv-loop μ-loop Inv-events μ-events =
+          record { before = marked; slice-known2 = v .10 } in
+          let fit : tie.After-fitting Inv-loop μ-loop Inv-events μ-events = record { before = same; fitting = v .11 } in
+          let past : tie.Else4 Inv-loop μ-loop Inv-events μ-events = record { before = fit; if4 = v .12 } in
           (true, v .14, l .inv .1 .2 ∙ passed-full past, ap length (v .13) ∙ still-long past))
-          (λ v. (l .inv .1 .0, v .2 ∙ l .inv .1 .1, l .inv .1 .2 ∙ passed (record { before = c .before; if1 = v .0 }), ap length (v .1) ∙ l .inv .1 .3))
+          (λ v. (
+            l .inv .1 .0,
+            v .2 ∙ l .inv .1 .1,
+            l .inv .1 .2 ∙ passed (record { before = c .before; if1 = v .0 }),
+            ap length (v .1) ∙ l .inv .1 .3,
+          ))
           (c .if1 .came),
     )
 
@@ -230,8 +273,10 @@ same-length c = search needs
 returns : tie.Need-returns Inv-loop μ-loop Inv-events μ-events
 unfolding choiceFor
 returns c =
-    let l = c .before .events in
-    (l .inv .1 .1 ∙ sym (ap (choiceFor _ _ _) (l .inv .1 .2 ∙ tried-end _ _ _ _ _ _ _ (omega arith))), λ i kept e. let z : _≡_ {A = ℕ} 0 1 = cc in absurd (omega arith))
+    let l = c .before .events in (
+      l .inv .1 .1 ∙ sym (ap (choiceFor _ _ _) (l .inv .1 .2 ∙ tried-end _ _ _ _ _ _ _ (omega arith))),
+      λ i kept e. let z : _≡_ {A = ℕ} 0 1 = cc in absurd (omega arith),
+    )
 
 same-length-2 : tie.Need-same-length-2 Inv-loop μ-loop Inv-events μ-events
 same-length-2 c = search needs
@@ -241,7 +286,10 @@ unfolding choiceFor
 returns-2 c =
     let low = c .before .before in
     let l = was-ready low .before .before .before .events in (
-      sym (ap (choiceFor _ _ _) (l .inv .1 .2 ∙ tried-false _ _ _ _ _ _ _ (omega arith) (tested-ready (was-ready low) ∙ low .before .if1 .taken) (not-known c))),
+      sym (ap (choiceFor _ _ _)
+          (l .inv .1 .2
+          ∙ tried-false _ _ _ _ _ _ _ (omega arith) (tested-ready (was-ready low) ∙ low .before .if1 .taken)
+          (not-known c))),
       λ i kept e. let z : _≡_ {A = ℕ} 0 1 = cc in absurd (omega arith),
     )
 
@@ -256,8 +304,12 @@ returns-3 c =
     let l = r .before .before .before .events in
     let counted = c .before .before .before .before .kept-with in
     let read = r .before .pending-event .ensures in (
-      ap (Chosen (l .i)) (counted .ensures .0 ∙ ap (λ (e : Event). keptAfter (settingIn (a .w) (now (a .«record»)) e) (frontiers (a .w) (now (a .window)) (a .n))) read)
-          ∙ sym (ap (choiceFor (a .w) (now (a .«record»)) (frontiers (a .w) (now (a .window)) (a .n))) (l .inv .1 .2 ∙ tried-fits _ _ _ _ _ _ _ (omega arith)
+      ap (Chosen (l .i))
+          (counted .ensures .0
+          ∙ ap (λ (e : Event). keptAfter (settingIn (a .w) (now (a .«record»)) e)
+          (frontiers (a .w) (now (a .window)) (a .n))) read)
+          ∙ sym (ap (choiceFor (a .w) (now (a .«record»)) (frontiers (a .w) (now (a .window)) (a .n)))
+          (l .inv .1 .2 ∙ tried-fits _ _ _ _ _ _ _ (omega arith)
           (tested-ready r ∙ scanned (asked (c .before) .before .before) .before .if1 .taken)
           (is-known (asked (c .before) .before))
           (tested-fits (c .before) ∙ c .if4 .taken))),

@@ -12,7 +12,8 @@ use Rattle.window.proofs.prepared.between.Tie as tie
 
 returns : tie.Need-returns
 returns c = λ b n l h. let a = c .args in
-    ap (λ (x : ℕ). leb x (a .c) && leb (a .c) (a .high)) l ∙ ap (λ (x : ℕ). leb (lowest (one b) n) (a .c) && leb (a .c) x) h ∙ between-ready b n (a .c) (search needs)
+    ap (λ (x : ℕ). leb x (a .c) && leb (a .c) (a .high)) l
+    ∙ ap (λ (x : ℕ). leb (lowest (one b) n) (a .c) && leb (a .c) x) h ∙ between-ready b n (a .c) (search needs)
 
 pub between-spec : {M : Type 1} → statement M
 between-spec = tie.close (tie.spec returns)

@@ -11,7 +11,8 @@ use Rattle.window.proofs.prepared.bound_counts.Statement.{statement}
 use Rattle.window.proofs.prepared.bound_counts.Tie as tie
 
 abbrev Inv-loop : tie.InvT-loop
-Inv-loop high e mask out₀ p₀ out p = (p ≤ 8) × (length out ≡ 8) × ((q : ℕ) → q < p → getD out q 0 ≡ bound high (one (involved e q)) (count e q))
+Inv-loop high e mask out₀ p₀ out p =
+    (p ≤ 8) × (length out ≡ 8) × ((q : ℕ) → q < p → getD out q 0 ≡ bound high (one (involved e q)) (count e q))
 
 abbrev μ-loop : tie.MeasureT-loop
 μ-loop high e mask out₀ p₀ out p = 8 - p
@@ -58,7 +59,8 @@ stored c =
     let b = c .before .before .before .before in
     let a = b .before .args in
     let p = b .loop .p in
-    c .bound-count .ensures ∙ ap (λ (u : ℕ). bound (a .high) u (at (a .t1 .clock) p)) (c .before .before .part .ensures .0)
+    c .bound-count .ensures
+    ∙ ap (λ (u : ℕ). bound (a .high) u (at (a .t1 .clock) p)) (c .before .before .part .ensures .0)
 
 loop-again : tie.Need-loop-again Inv-loop μ-loop
 loop-again c =

@@ -17,7 +17,8 @@ mul-result c = search needs
 returns : tie.Need-returns
 returns c =
     let a = c .before .before .args in
-    let less : c .before .if1 .before ≡ a .n - a .part = ⊎-elim (λ w. w .1 ∙ omega (arith, w .0 .taken)) (λ w. w .1) (c .before .if1 .came) in
+    let less : c .before .if1 .before ≡ a .n - a .part =
+    ⊎-elim (λ w. w .1 ∙ omega (arith, w .0 .taken)) (λ w. w .1) (c .before .if1 .came) in
     highest-or (a .part) (a .n) (c .before .if1 .before) (search needs) (search needs) less
 
 pub highest-count-spec : {M : Type 1} → statement M
