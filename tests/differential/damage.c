@@ -161,7 +161,8 @@ static void damaged_take(struct source *s, struct damaged *d) {
     fill_junk(s, d->scratch.bytes, d->scratch.length);
     remember(d);
     note("take on damaged bytes, window %zu\n", d->window.length);
-    struct possible can = bytes_take(d->record.bytes, d->record.length, d->window.length, d->scratch.length);
+    struct possible can = bytes_take(d->record.bytes, d->record.length, d->window.bytes, d->window.length,
+                                     d->scratch.length);
     uint64_t reply = watch_take(d->record.bytes, d->record.length, d->window.bytes, d->window.length, d->scratch.bytes, d->scratch.length);
     unsigned number = watch_number(tally(TAKE, reply));
     if (can.refused != 0) {
