@@ -132,6 +132,7 @@ static struct sent ready_sent(struct source *s, const uint8_t *record) {
 static void plant(struct source *s, struct damaged *d, struct sent e, unsigned kept_frontiers) {
     unsigned k = d->record.bytes[0], room = (unsigned)(d->window.length / FRONTIER);
     unsigned way = below(s, 6), p = below(s, PROCESSES), count;
+    while (way == 4 && e.mask % 256 != 0 && !(e.mask >> p & 1)) p = (p + 1) % PROCESSES;
     for (unsigned q = 0; q < PROCESSES; q++)
         if (e.mask >> q & 1 && !(way == 4 && q == p)) set_sent_count(&e, q, (sent_count(&e, q) - 1) & 65535);
     if (way == 2 && k > 0 && k < PROCESSES) p = between(s, k, PROCESSES - 1);
@@ -141,8 +142,8 @@ static void plant(struct source *s, struct damaged *d, struct sent e, unsigned k
     else if (kept_frontiers < room) lay_counts(frontier_at(d, place_of(s, kept_frontiers, room - kept_frontiers)), &e);
 }
 
-/* Several events that are ready at once, for most of them something planted in the window. A process that the watch has
- * not may have a taken count. */
+/* Several events that are ready at once, for most of them something planted in the window. Some taken counts are large,
+ * or are those of a process that the watch has not. */
 static void plant_ready(struct source *s, struct damaged *d) {
     uint8_t *record = d->record.bytes;
     unsigned room = (unsigned)(d->window.length / FRONTIER), kept_frontiers = watch_kept(record), n = between(s, 1, 5);
@@ -151,6 +152,7 @@ static void plant_ready(struct source *s, struct damaged *d) {
         memcpy(record + 4, (uint8_t[]){(uint8_t)kept_frontiers, (uint8_t)(kept_frontiers >> 8), 0, 0}, 4);
     }
     if (record[0] < PROCESSES && chance(s, 20)) record[TAKEN_AT + 2 * between(s, record[0], 7)] = (uint8_t)below(s, 4);
+    if (chance(s, 15)) record[TAKEN_AT + below(s, 16)] = (uint8_t)draw(s);
     for (unsigned i = 0; i < n; i++) {
         struct sent e = ready_sent(s, record);
         lay_event(record + PENDING_AT + EVENT * i, e);

@@ -52,9 +52,9 @@ unsigned random_messages(struct source *s) {
 /* Mostly one note, and mostly of the last that its process did, so that knowledge goes on from one to the next. */
 static void read_notes(struct source *s, const struct execution *x, const unsigned *done, unsigned *clock) {
     for (unsigned notes = chance(s, 70) ? 1 : between(s, 1, x->k); notes > 0; notes--) {
-        unsigned q = below(s, x->k), n = done[q];
-        if (n > 0 && chance(s, 35)) n = between(s, 1, n);
-        learn(x, q, n, clock);
+        unsigned q = below(s, x->k);
+        for (unsigned tries = 4; tries > 0 && clock[q] >= done[q]; tries--) q = below(s, x->k);
+        learn(x, q, done[q] > 0 && chance(s, 35) ? between(s, 1, done[q]) : done[q], clock);
     }
 }
 
@@ -139,40 +139,53 @@ static uint64_t news(const struct sent *e, const struct sent *f) {
     return set;
 }
 
-/* Knows of f: by one of its processes, by all of them, or all of it but for one process. Something that f knew, or
+/* Knows of f: by all of its processes, by one of them, or all of it but for one process. Something that f knew, or
  * another process of f, stays behind in each case; of that it may know all but the last. */
 static void know_in_part(struct source *s, struct sent *e, const struct sent *f, uint64_t set) {
-    unsigned own = process_of(s, f->mask), missing = process_of(s, set);
-    uint64_t heard = (uint64_t)1 << own;
-    unsigned way = below(s, 3);
-    if (way == 1 && (f->mask & set) != set) heard = f->mask & set;
-    if (way == 2 && (f->mask & set & ~((uint64_t)1 << missing)) != 0) heard = set & ~((uint64_t)1 << missing);
+    unsigned own = process_of(s, f->mask), missing = process_of(s, set), way = below(s, 3);
+    uint64_t heard = (uint64_t)1 << own, rest = set & ~((uint64_t)1 << missing);
+    if (way == 0 && f->mask != set) heard = f->mask;
+    if (way == 1 && (f->mask & rest) != 0) heard = rest;
     for (unsigned p = 0; p < PROCESSES; p++) {
         if (heard >> p & 1) set_sent_count(e, p, sent_count(f, p));
         else if (set >> p & 1 && chance(s, 30)) set_sent_count(e, p, sent_count(f, p) - 1);
     }
 }
 
-/* False if no event was found of which something could be left out. */
+static bool several(uint64_t set) {
+    return (set & (set - 1)) != 0;
+}
+
+/* False if no event was found of which something could be left out. Joint ones that knew of others are rare, so these
+ * are sought first. */
 static bool overlook(struct source *s, const struct execution *x, struct sent *e) {
-    for (unsigned tries = 2 * x->n; tries > 0; tries--) {
+    bool rare = chance(s, 50);
+    for (unsigned tries = 4 * x->n; tries > 0; tries--) {
         const struct sent *f = &x->event[below(s, x->n)];
         uint64_t set = news(e, f);
-        if ((set & (set - 1)) == 0) continue; /* f itself is all the news, or there is none */
+        if (!several(set)) continue; /* f itself is all the news, or there is none */
+        if (rare && tries > 2 * x->n && (!several(f->mask) || f->mask == set)) continue;
         know_in_part(s, e, f, set);
         return true;
     }
     return false;
 }
 
+/* One more only where there is such an event: else it would wait for ever, and the true one behind it. */
+static void miscount(struct source *s, const struct execution *x, struct sent *e) {
+    uint64_t others = ((1u << x->k) - 1) & ~e->mask;
+    unsigned q = process_of(s, others), count = sent_count(e, q);
+    bool more = event_numbered(x, q, count + 1) != NULL;
+    if (others == 0) return;
+    if (count > 0 && (!more || chance(s, 50))) set_sent_count(e, q, count - 1);
+    else if (more || chance(s, 5)) set_sent_count(e, q, count + 1);
+}
+
 struct sent forgetful(struct source *s, const struct execution *x, struct sent e) {
     unsigned choice = below(s, 100);
-    if (choice < 40 && forget_own(s, x, &e)) return e;
-    if (choice < 85 && overlook(s, x, &e)) return e;
-    if (choice < 85 && forget_own(s, x, &e)) return e;
-    uint64_t others = ((1u << x->k) - 1) & ~e.mask;
-    unsigned q = process_of(s, others), count = sent_count(&e, q);
-    if (others != 0) set_sent_count(&e, q, count > 0 && chance(s, 50) ? count - 1 : count + 1);
+    if (choice >= 85) miscount(s, x, &e);
+    else if (choice >= 40 || !forget_own(s, x, &e))
+        if (!overlook(s, x, &e)) forget_own(s, x, &e);
     return e;
 }
 

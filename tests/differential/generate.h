@@ -48,7 +48,8 @@ void learn(const struct execution *x, unsigned q, unsigned n, unsigned *clock);
 
 /* The same event with a clock that is false where the execution is what happened: it forgets what its own processes
  * knew, or knows of an event but not of all that this one knew, as of one process of a joint event and not of another.
- * Where nobody knows enough for that, and now and then, one count of another process is only one more or less. */
+ * Where nobody knows enough for that it stays as it is. Now and then one count of another process is one more or less,
+ * and that may be true. */
 struct sent forgetful(struct source *s, const struct execution *x, struct sent e);
 
 /* The same event with something changed: labels, mask, a count, several counts of other processes. */

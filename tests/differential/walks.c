@@ -115,11 +115,10 @@ static void start_watch(struct source *s, struct twin *t, unsigned k, size_t roo
     memset(t->window_bytes + window_length, 0, WINDOW_MOST - window_length);
 }
 
-/* The execution's events and whatever comes between. */
-static void walk(struct source *s, struct twin *t, struct execution *x) {
+/* The execution's events and whatever comes between. Forgetting: percentage of clocks that forget. */
+static void walk(struct source *s, struct twin *t, struct execution *x, unsigned forgetting) {
     unsigned next = 0;
     bool hostile = chance(s, 60);
-    unsigned forgetting = chance(s, 50) ? 25 : 0;
     if (chance(s, 70)) shuffle(s, x->event, x->n, chance(s, 60));
     while (next < x->n) {
         unsigned action = below(s, 100);
@@ -146,15 +145,15 @@ void try_walk(struct source *s, struct twin *t, unsigned events, size_t vectors)
     shape.joint = chance(s, 50) ? 15 : 50;
     shape.messages = random_messages(s);
     struct execution x = random_execution(s, shape);
-    walk(s, t, &x);
+    walk(s, t, &x, chance(s, 50) ? 25 : 0);
 }
 
 void try_late(struct source *s, struct twin *t) {
     struct shape shape = {.k = between(s, 2, 4), .most = 5000, .joint = 15};
-    shape.n = between(s, 4, 10);
+    shape.n = between(s, 6, 16);
     shape.alone = below(s, shape.k);
-    shape.before = between(s, 250, 257);
-    shape.messages = random_messages(s);
+    shape.before = between(s, 253, 259);
+    shape.messages = chance(s, 80) ? 60 : 0;
     start_watch(s, t, shape.k, ROOM);
     for (unsigned i = 1; i <= shape.before; i++) {
         struct sent e = {.mask = (uint64_t)1 << shape.alone};
@@ -164,7 +163,7 @@ void try_late(struct source *s, struct twin *t) {
     }
     twin_catch_up(t);
     struct execution x = random_execution(s, shape);
-    walk(s, t, &x);
+    walk(s, t, &x, 30);
 }
 
 /* Every event comes after one of all processes together that does not come, so nothing is ready until others are sent
