@@ -149,7 +149,7 @@ void try_walk(struct source *s, struct twin *t, unsigned events, size_t vectors)
 }
 
 void try_late(struct source *s, struct twin *t) {
-    struct shape shape = {.k = between(s, 2, 4), .most = 5000, .joint = 15};
+    struct shape shape = {.k = between(s, 2, 4), .most = 3500, .joint = 15};
     shape.n = between(s, 6, 16);
     shape.alone = below(s, shape.k);
     shape.before = between(s, 253, 259);
