@@ -31,7 +31,8 @@ static bool takes_part(const struct sent *e, unsigned p) {
     return e->mask >> p & 1;
 }
 
-const struct sent *event_numbered(const struct execution *x, unsigned p, unsigned n) {
+/* p's event number n, wherever it stands; NULL if it is none of the execution. */
+static const struct sent *event_numbered(const struct execution *x, unsigned p, unsigned n) {
     for (unsigned i = 0; i < x->n; i++)
         if (takes_part(&x->event[i], p) && sent_count(&x->event[i], p) == n) return &x->event[i];
     return NULL;

@@ -40,9 +40,6 @@ struct execution random_execution(struct source *s, struct shape shape); /* with
 /* A percentage for a shape; often 0. */
 unsigned random_messages(struct source *s);
 
-/* p's event number n, wherever it stands; NULL if it is none of the execution. */
-const struct sent *event_numbered(const struct execution *x, unsigned p, unsigned n);
-
 /* Into the clock goes what one knows who knows of q's event number n: that event and all that it knew. */
 void learn(const struct execution *x, unsigned q, unsigned n, unsigned *clock);
 

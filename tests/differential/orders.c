@@ -97,17 +97,26 @@ static void list_repeat(struct list *l) {
     compare_bytes("record (sent once more)", record, before, RECORD);
 }
 
-/* The events that are mostly false are sent a second time at the end. False if the list does not get as far as "nothing ready". */
-static bool list_run(struct list *l, const struct sent *events, unsigned n, const struct sent *wrong, unsigned wrong_number) {
+/* What two lists accept. */
+struct events {
+    unsigned n, wrong_number;
+    struct sent event[EVENTS_MOST + 9], wrong[9]; /* the wrong ones, those that forget, are among the events too */
+    bool found;
+    struct sent lost; /* if found: comes when nothing is ready any more, and one that forgot in its place has left */
+};
+
+/* Those that forget are sent a second time at the end. False if the list does not get as far as "nothing ready". */
+static bool list_run(struct list *l, const struct events *all) {
     unsigned habit = below(l->source, 3) * 40;
-    for (unsigned i = 0; i < n; i++) {
-        if (!list_accept(l, events[i])) return false;
+    for (unsigned i = 0; i < all->n; i++) {
+        if (!list_accept(l, all->event[i])) return false;
         if (chance(l->source, 15)) list_repeat(l);
         while (chance(l->source, habit))
             if (list_take(l) == 0) break;
     }
     if (!list_drain(l)) return false;
-    for (unsigned i = 0; i < wrong_number; i++) list_offer(l, wrong[i]);
+    if (all->found && !(list_accept(l, all->lost) && list_drain(l))) return false;
+    for (unsigned i = 0; i < all->wrong_number; i++) list_offer(l, all->wrong[i]);
     return list_drain(l);
 }
 
@@ -124,19 +133,23 @@ static struct sent forgetful_end(struct source *s, const struct execution *x, ui
     return forgetful(s, x, e);
 }
 
-/* Some such ends, no two with a common process; and in place of a lost event the same with a clock that forgets, so
- * that one leaves in the midst of the others. */
-static unsigned forgetful_events(struct source *s, const struct execution *x, const struct sent *lost,
-                                 struct sent *wrong) {
-    unsigned n = 0;
+/* The execution's events, perhaps without a lost one, and some that forget: ends, no two with a common process, and one
+ * in the lost one's place, so that it leaves in the midst of the others. */
+static void choose_events(struct source *s, const struct execution *x, bool lost, struct events *all) {
+    unsigned missing = lost ? below(s, x->n) : x->n;
+    *all = (struct events){.n = 0};
     for (unsigned p = 0; p < x->k; p++) {
         uint64_t mask = (uint64_t)1 << p;
         if (!chance(s, 25)) continue;
         if (p + 1 < x->k && chance(s, 30)) mask |= (uint64_t)1 << ++p;
-        wrong[n++] = forgetful_end(s, x, mask);
+        all->wrong[all->wrong_number++] = forgetful_end(s, x, mask);
     }
-    if (lost != NULL && chance(s, 60)) wrong[n++] = forgetful(s, x, *lost);
-    return n;
+    if (lost) all->lost = x->event[missing];
+    if (lost && chance(s, 60)) all->wrong[all->wrong_number++] = forgetful(s, x, all->lost);
+    all->found = lost && chance(s, 50);
+    for (unsigned i = 0; i < x->n; i++)
+        if (i != missing) all->event[all->n++] = x->event[i];
+    for (unsigned i = 0; i < all->wrong_number; i++) all->event[all->n++] = all->wrong[i];
 }
 
 static void compare_verdicts(const struct verdicts *one, const struct verdicts *two) {
@@ -173,30 +186,26 @@ static void compare_ends(const struct twin *one, const struct twin *two) {
 void try_orders(struct source *s, struct twin *t, struct twin *other, bool wide) {
     uint8_t text[TEXT_MOST];
     static struct list one, two;
+    static struct events all;
     struct shape shape = {.k = between(s, 1, 8), .most = wide ? 1000000 : 1500};
     bool lost = chance(s, 40); /* then the events behind the lost one stay pending, and there is place for 32 */
-    unsigned k = shape.k, n = 0;
+    unsigned k = shape.k;
     shape.n = between(s, 2, !wide ? 12 : lost ? 24 : 60);
     shape.joint = between(s, 10, 70);
     shape.messages = random_messages(s);
     struct execution x = random_execution(s, shape);
-    struct sent events[EVENTS_MOST + 9], wrong[9];
-    unsigned missing = lost ? below(s, x.n) : x.n;
-    unsigned wrong_number = forgetful_events(s, &x, lost ? &x.event[missing] : NULL, wrong);
-    for (unsigned i = 0; i < x.n; i++)
-        if (i != missing) events[n++] = x.event[i];
-    for (unsigned i = 0; i < wrong_number; i++) events[n++] = wrong[i];
+    choose_events(s, &x, lost, &all);
     size_t length = random_rule(s, k, between(s, 1, 64), text);
     uint64_t labels = random_labels(s, (1u << k) - 1);
     one = (struct list){.source = s, .twin = t, .wide = wide};
     two = (struct list){.source = s, .twin = other, .wide = wide};
     list_open(&one, text, length, k, labels, FRONTIER * between(s, 1, 30));
-    shuffle(s, events, n, false);
-    bool ended = list_run(&one, events, n, wrong, wrong_number);
+    shuffle(s, all.event, all.n, false);
+    bool ended = list_run(&one, &all);
     note("the other order\n");
     list_open(&two, text, length, k, labels, FRONTIER * between(s, 1, ROOM));
-    shuffle(s, events, n, chance(s, 50) && n <= 32);
-    if (ended && list_run(&two, events, n, wrong, wrong_number)) compare_ends(t, other);
+    shuffle(s, all.event, all.n, chance(s, 50) && all.n <= 32);
+    if (ended && list_run(&two, &all)) compare_ends(t, other);
     compare_verdicts(&one.verdicts, &two.verdicts);
     if (!wide) compare_with_end(&one), compare_with_end(&two);
 }

@@ -1,5 +1,5 @@
-/* Random calls on one watch: an execution's events in some order, sent again, nearly the same, twisted, with clocks that
- * forget, with numbers that are none; windows that are too short and then longer; buffers of wrong lengths. */
+/* Random calls on one watch: an execution's events in some order, sent again, nearly the same, twisted, with clocks
+ * that forget, with numbers that are none; windows that are too short and then longer; buffers of wrong lengths. */
 #include <string.h>
 
 #include "twin.h"

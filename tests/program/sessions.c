@@ -110,7 +110,7 @@ static void stray_line(const struct session *t) {
     end_line(t);
 }
 
-/* An event's line with a clock that forgets: if all that it needs was taken it is gone by the time the true one comes. */
+/* An event's line with a clock that forgets: if all that it needs was taken it is gone before the true one comes. */
 static void forgetful_line(const struct session *t, struct sent e) {
     did_line(t, forgetful(t->s, &t->x, e));
     end_line(t);
