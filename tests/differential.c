@@ -19,7 +19,7 @@ static void try_case(uint64_t seed, uint64_t number) {
     if (number % 200 == 7) {
         case_begins(seed, number, "a long walk");
         try_walk(&s, &one, between(&s, 20, 60), 6000);
-    } else if (number % 400 == 15) {
+    } else if (number % 200 == 15) {
         case_begins(seed, number, "late counts");
         try_late(&s, &one);
     } else if (number % 40 == 31) {

@@ -20,6 +20,7 @@ int main(void) {
     run("tests/c/refusals.c", test_refusals);
     run("tests/c/orders.c", test_orders);
     run("tests/c/examples.c", test_examples);
+    run("tests/c/messages.c", test_messages);
     run("tests/c/edges.c", test_edges);
     run("tests/c/stack.c", test_stack);
     if (failures != 0) {

@@ -83,7 +83,31 @@ static void check_grid(struct subject *s, unsigned from) {
     }
 }
 
-/* Two processes without a common event: 1,023 events of one, the window full to the last byte. */
+/* Both processes together up to 65,534, then process 0 alone, and process 1 knows of its last event; counts that agree
+ * in one byte only are others. */
+static void check_last_message(struct subject *s) {
+    start(s, 4, 2, RULE);
+    for (unsigned n = 1; n < 65535; n++) {
+        watch_offer(3, watch_counts((uint16_t)n, (uint16_t)n, 0, 0), 0, 0, s->record.bytes, s->record.length);
+        watch_take(s->record.bytes, s->record.length, s->window.bytes, s->window.length, s->scratch.bytes,
+                   s->scratch.length);
+    }
+    lend_room(s, 4);
+    CHECK_REPLY(offer(s, 1, 65535, 65534, 0, 0, 0), held(1));
+    CHECK_REPLY(try_take(s), state(0, 2));
+    static const unsigned forgot[] = {65533, 65279, 65278, 255, 254, 0};
+    for (size_t i = 0; i < sizeof forgot / sizeof forgot[0]; i++) {
+        CHECK_REPLY(offer(s, 2, forgot[i], 65535, 0, 0, 0), held(1));
+        CHECK_REPLY(try_take(s), refused(35));
+    }
+    CHECK_REPLY(offer(s, 2, 65535, 65535, 0, 0, 0), held(1));
+    CHECK_REPLY(try_take(s), state(0, 2));
+    CHECK(watch_cut(s->window.bytes, 0, 0) == 65535 && watch_cut(s->window.bytes, 0, 1) == 65534);
+    CHECK(watch_cut(s->window.bytes, 1, 0) == 65535 && watch_cut(s->window.bytes, 1, 1) == 65535);
+}
+
+/* Two processes without a common event: 1,023 events of one, the window full to the last byte. Then the other knows of
+ * all of them, by the frontier that stands last, and nearly all are dropped. */
 static void check_full_window(struct subject *s) {
     start(s, 1024, 2, RULE);
     for (unsigned n = 1; n <= 1023; n++) {
@@ -96,6 +120,10 @@ static void check_full_window(struct subject *s) {
     CHECK_REPLY(offer(s, 3, 1, 1024, 0, 0, 0), refused(32));
     for (unsigned i = 0; i < 1024; i += 341) CHECK(watch_cut(s->window.bytes, i, 0) == 0 && watch_cut(s->window.bytes, i, 1) == i);
     CHECK_REPLY(try_find(s, 5), (uint64_t)1 << 8 | (uint64_t)1 << 16);
+    CHECK_REPLY(offer(s, 1, 1, 1023, 0, 0, 1), held(2));
+    CHECK_REPLY(try_take(s), state(1, 2));
+    CHECK(all_zero(s->window.bytes + 80, s->window.length - 80));
+    CHECK_REPLY(try_take(s), state(1, 3));
 }
 
 /* After one event of each of eight processes an event of all of them leaves one frontier. */
@@ -118,6 +146,7 @@ void test_edges(void) {
     check_last_count(&s);
     check_grid(&s, 253);
     check_grid(&s, 65530);
+    check_last_message(&s);
     check_full_window(&s);
     check_all_meet(&s);
     subject_free(&s);

@@ -1,4 +1,5 @@
-/* The scope's examples, the proved ones too: with k = 2, a1 and a2 of process 0 and b1 of process 1. */
+/* The examples of the scope and of the requests, the proved ones too: with k = 2, a1 and a2 of process 0 and b1 of
+ * process 1. */
 #include <string.h>
 
 #include "subject.h"
@@ -66,9 +67,6 @@ static void all_three(struct subject *s, const char *rule) {
 
 static void check_clocks(struct subject *s) {
     all_three(s, OVERLAP);
-    CHECK_REPLY(offer(s, 1, 3, 1, 0, 0, 0), held(1));
-    CHECK_REPLY(try_take(s), refused(35));
-    CHECK(watch_pending(s->record.bytes) == 0 && counts_are(s, 2, 1));
     CHECK_REPLY(offer(s, 1, 3, 0, 0, 0, 0), held(1));
     CHECK_REPLY(try_take(s), state(1, 5));
     start(s, 8, 3, OVERLAP);
@@ -76,6 +74,23 @@ static void check_clocks(struct subject *s) {
     CHECK_REPLY(try_take(s), state(0, 2));
     CHECK_REPLY(offer(s, 6, 1, 2, 1, 0, 0), held(1));
     CHECK_REPLY(try_take(s), state(0, 2));
+}
+
+/* Process 0's third event knows of b1; a fourth that forgets it has a false clock. */
+static void check_message(struct subject *s) {
+    static const uint8_t expected[4][7] = {{0, 1, 0, 1, 0, 2, 0}, {1, 1, 1, 1, 1, 2, 1}, {2, 1, 0, 1, 1, 2, 1},
+                                           {3, 1, 0, 1, 1, 2, 1}};
+    all_three(s, OVERLAP);
+    CHECK_REPLY(offer(s, 1, 3, 1, 0, 0, 0), held(1));
+    CHECK_REPLY(try_take(s), state(1, 4));
+    CHECK(counts_are(s, 3, 1));
+    for (size_t i = 0; i < 4; i++) CHECK(frontier_is(s, i, expected[i]));
+    CHECK(all_zero(s->window.bytes + 160, s->window.length - 160));
+    CHECK_REPLY(offer(s, 1, 4, 0, 0, 0, 0), held(1));
+    CHECK_REPLY(try_take(s), refused(35));
+    CHECK(watch_pending(s->record.bytes) == 0 && counts_are(s, 3, 1));
+    CHECK_REPLY(offer(s, 1, 4, 1, 0, 0, 0), held(1));
+    CHECK_REPLY(try_take(s), state(1, 5));
 }
 
 static void check_verdicts(struct subject *s) {
@@ -144,6 +159,7 @@ void test_examples(void) {
     struct subject s = subject_new();
     check_arrivals(&s);
     check_clocks(&s);
+    check_message(&s);
     check_verdicts(&s);
     check_room(&s);
     check_twice(&s);

@@ -220,8 +220,8 @@ static void check_find(struct subject *s) {
     CHECK_REPLY(try_find(s, 2), 0);
 }
 
-/* A ready event with a false clock leaves, whatever stands in front of it and does not fit. It is pending no more, so
- * the same event is accepted anew. */
+/* A ready event with a false clock leaves, whatever stands in front of it and does not fit: here process 1 forgets that
+ * it knew of process 0. It is pending no more, so the same event is accepted anew. */
 static void check_take(struct subject *s) {
     start(s, 1, 2, RULE);
     CHECK_REPLY(offer(s, 1, 1, 0, 0, 0, 0), held(1));
@@ -233,11 +233,14 @@ static void check_take(struct subject *s) {
     CHECK_REPLY(try_take(s), state(0, 2));
     CHECK_REPLY(offer(s, 1, 2, 0, 0, 0, 0), held(1));
     CHECK_REPLY(try_take(s), refused(36));
-    CHECK_REPLY(offer(s, 2, 1, 1, 0, 0, 0x300), held(2));
-    CHECK_REPLY(offer(s, 2, 1, 1, 0, 0, 0x300), WATCH_AGAIN);
+    CHECK_REPLY(offer(s, 2, 1, 1, 0, 0, 0), held(2));
+    CHECK_REPLY(try_take(s), state(0, 2));
+    CHECK_REPLY(try_take(s), refused(36));
+    CHECK_REPLY(offer(s, 2, 0, 2, 0, 0, 0x300), held(2));
+    CHECK_REPLY(offer(s, 2, 0, 2, 0, 0, 0x300), WATCH_AGAIN);
     CHECK_REPLY(try_take(s), refused(35));
     CHECK(watch_pending(s->record.bytes) == 1 && s->record.bytes[344] == 1 && all_zero(s->record.bytes + 376, 992));
-    CHECK_REPLY(offer(s, 2, 1, 1, 0, 0, 0x300), held(2));
+    CHECK_REPLY(offer(s, 2, 0, 2, 0, 0, 0x300), held(2));
     CHECK_REPLY(try_take(s), refused(35));
     CHECK_REPLY(try_take(s), refused(36));
 }
@@ -260,7 +263,8 @@ static void check_passed_over(struct subject *s) {
     CHECK_REPLY(try_take(s), NOTHING_READY);
 }
 
-/* Pending events stand by lowest process and then its count, whatever their masks; one that knows of an event not taken yet waits. */
+/* Pending events stand by lowest process and then its count, whatever their masks; one that knows of an event not taken
+ * yet waits. It turns out to be false: that event was process 2's as well, and of this it does not know. */
 static void check_waiting(struct subject *s) {
     static const unsigned masks[] = {5, 1, 2, 6};
     start(s, 8, 3, RULE);

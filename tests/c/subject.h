@@ -40,6 +40,7 @@ void test_texts(void);
 void test_refusals(void);
 void test_orders(void);
 void test_examples(void);
+void test_messages(void);
 void test_edges(void);
 void test_stack(void);
 

@@ -86,9 +86,87 @@ static void crowd_pending(struct source *s, uint8_t *record) {
     record[2] = chance(s, 30) ? PENDING : (uint8_t)below(s, PENDING + 1);
 }
 
+static uint8_t *frontier_at(const struct damaged *d, unsigned place) {
+    return d->window.bytes + FRONTIER * place;
+}
+
+/* One of so many places from `from` on, often the first or the last. */
+static unsigned place_of(struct source *s, unsigned from, unsigned number) {
+    return from + (chance(s, 30) ? 0 : chance(s, 40) ? number - 1 : below(s, number));
+}
+
+static void lay_counts(uint8_t *at, const struct sent *e) {
+    for (unsigned p = 0; p < PROCESSES; p++) {
+        at[2 * p] = (uint8_t)sent_count(e, p);
+        at[2 * p + 1] = (uint8_t)(sent_count(e, p) >> 8);
+    }
+}
+
+/* Frontiers out of order, twice, or changed over from those that are kept to those behind them. */
+static void disorder(struct source *s, struct damaged *d) {
+    unsigned room = (unsigned)(d->window.length / FRONTIER);
+    for (unsigned times = between(s, 1, 4); times > 0; times--) {
+        uint8_t saved[FRONTIER], *one = frontier_at(d, below(s, room)), *two = frontier_at(d, below(s, room));
+        memcpy(saved, one, FRONTIER);
+        memcpy(one, two, FRONTIER);
+        if (!chance(s, 30)) memcpy(two, saved, FRONTIER);
+    }
+}
+
+/* Ready by the record's taken counts, and its other counts anything up to these. */
+static struct sent ready_sent(struct source *s, const uint8_t *record) {
+    unsigned k = record[0] > 0 && record[0] <= PROCESSES ? record[0] : PROCESSES;
+    struct sent e = {.mask = (uint64_t)1 << below(s, chance(s, 90) ? k : PROCESSES)};
+    if (chance(s, 35)) e.mask |= draw(s) & draw(s) & 255 >> (PROCESSES - k);
+    if (chance(s, 4)) e.mask = 0;
+    for (unsigned p = 0; p < PROCESSES; p++) {
+        unsigned taken = watch_taken(record, p), known = chance(s, 50) ? taken : below(s, taken + 1);
+        set_sent_count(&e, p, e.mask >> p & 1 ? (taken + 1) & 65535 : known);
+    }
+    e.labels = random_labels(s, e.mask);
+    return e;
+}
+
+/* Puts the event's lowered clock into the window, or nearly: among the kept frontiers, only behind them, with another
+ * count at a process that the watch has not, with any other count, not lowered at one of its processes. */
+static void plant(struct source *s, struct damaged *d, struct sent e, unsigned kept_frontiers) {
+    unsigned k = d->record.bytes[0], room = (unsigned)(d->window.length / FRONTIER);
+    unsigned way = below(s, 6), p = below(s, PROCESSES), count;
+    while (way == 4 && e.mask % 256 != 0 && !(e.mask >> p & 1)) p = (p + 1) % PROCESSES;
+    for (unsigned q = 0; q < PROCESSES; q++)
+        if (e.mask >> q & 1 && !(way == 4 && q == p)) set_sent_count(&e, q, (sent_count(&e, q) - 1) & 65535);
+    if (way == 2 && k > 0 && k < PROCESSES) p = between(s, k, PROCESSES - 1);
+    count = sent_count(&e, p);
+    if (way == 2 || way == 3) set_sent_count(&e, p, chance(s, 50) ? count ^ 1u << below(s, 16) : (count + 1) & 65535);
+    if (way != 1) lay_counts(frontier_at(d, place_of(s, 0, kept_frontiers)), &e);
+    else if (kept_frontiers < room) lay_counts(frontier_at(d, place_of(s, kept_frontiers, room - kept_frontiers)), &e);
+}
+
+/* Several events that are ready at once, for most of them something planted in the window. Some taken counts are large,
+ * or are those of a process that the watch has not. */
+static void plant_ready(struct source *s, struct damaged *d) {
+    uint8_t *record = d->record.bytes;
+    unsigned room = (unsigned)(d->window.length / FRONTIER), kept_frontiers = watch_kept(record), n = between(s, 1, 5);
+    if (kept_frontiers < 1 || kept_frontiers > room || chance(s, 40)) {
+        kept_frontiers = between(s, 1, room);
+        memcpy(record + 4, (uint8_t[]){(uint8_t)kept_frontiers, (uint8_t)(kept_frontiers >> 8), 0, 0}, 4);
+    }
+    if (record[0] < PROCESSES && chance(s, 20)) record[TAKEN_AT + 2 * between(s, record[0], 7)] = (uint8_t)below(s, 4);
+    if (chance(s, 15)) record[TAKEN_AT + below(s, 16)] = (uint8_t)draw(s);
+    for (unsigned i = 0; i < n; i++) {
+        struct sent e = ready_sent(s, record);
+        lay_event(record + PENDING_AT + EVENT * i, e);
+        if (chance(s, 80)) plant(s, d, e, kept_frontiers);
+    }
+    if (record[2] < n || chance(s, 50)) record[2] = (uint8_t)n;
+}
+
 static void damage(struct source *s, struct damaged *d) {
     unsigned times = between(s, 1, 4);
-    bool crowded = chance(s, 25);
+    bool crowded = chance(s, 25), planted = !crowded && chance(s, 35);
+    if (chance(s, 20)) disorder(s, d);
+    if (planted) plant_ready(s, d);
+    if (planted && chance(s, 80)) return;
     if (crowded) crowd_pending(s, d->record.bytes);
     if (!crowded || chance(s, 30))
         for (unsigned i = 0; i < times; i++) damage_record(s, d->record.bytes);
@@ -161,7 +239,8 @@ static void damaged_take(struct source *s, struct damaged *d) {
     fill_junk(s, d->scratch.bytes, d->scratch.length);
     remember(d);
     note("take on damaged bytes, window %zu\n", d->window.length);
-    struct possible can = bytes_take(d->record.bytes, d->record.length, d->window.length, d->scratch.length);
+    struct possible can = bytes_take(d->record.bytes, d->record.length, d->window.bytes, d->window.length,
+                                     d->scratch.length);
     uint64_t reply = watch_take(d->record.bytes, d->record.length, d->window.bytes, d->window.length, d->scratch.bytes, d->scratch.length);
     unsigned number = watch_number(tally(TAKE, reply));
     if (can.refused != 0) {

@@ -1,6 +1,4 @@
 /* Random executions, and events that belong to none. */
-#include <string.h>
-
 #include "generate.h"
 
 enum { PROCESSES = 8 };
@@ -29,27 +27,54 @@ static uint64_t random_mask(struct source *s, unsigned k, unsigned joint) {
     return mask;
 }
 
-struct execution random_execution(struct source *s, unsigned k, unsigned n, size_t most, unsigned joint) {
-    return later_execution(s, k, n, most, joint, 0, 0);
+static bool takes_part(const struct sent *e, unsigned p) {
+    return e->mask >> p & 1;
 }
 
-struct execution later_execution(struct source *s, unsigned k, unsigned n, size_t most, unsigned joint, unsigned alone, unsigned before) {
-    struct execution x = {.k = k};
-    unsigned last[PROCESSES][PROCESSES] = {{0}};
-    last[alone][alone] = before;
-    while (x.n < n && x.n < EVENTS_MOST) {
-        struct sent e = {.mask = random_mask(s, k, joint)};
+/* p's event number n, wherever it stands; NULL if it is none of the execution. */
+static const struct sent *event_numbered(const struct execution *x, unsigned p, unsigned n) {
+    for (unsigned i = 0; i < x->n; i++)
+        if (takes_part(&x->event[i], p) && sent_count(&x->event[i], p) == n) return &x->event[i];
+    return NULL;
+}
+
+void learn(const struct execution *x, unsigned q, unsigned n, unsigned *clock) {
+    const struct sent *e = event_numbered(x, q, n);
+    if (n > clock[q]) clock[q] = n;
+    for (unsigned r = 0; e != NULL && r < PROCESSES; r++)
+        if (sent_count(e, r) > clock[r]) clock[r] = sent_count(e, r);
+}
+
+unsigned random_messages(struct source *s) {
+    static const unsigned shares[] = {0, 0, 0, 15, 40, 60, 90};
+    return shares[below(s, 7)];
+}
+
+/* Mostly one note, and mostly of the last that its process did, so that knowledge goes on from one to the next. */
+static void read_notes(struct source *s, const struct execution *x, const unsigned *done, unsigned *clock) {
+    for (unsigned notes = chance(s, 70) ? 1 : between(s, 1, x->k); notes > 0; notes--) {
+        unsigned q = below(s, x->k);
+        for (unsigned tries = 4; tries > 0 && clock[q] >= done[q]; tries--) q = below(s, x->k);
+        learn(x, q, done[q] > 0 && chance(s, 35) ? between(s, 1, done[q]) : done[q], clock);
+    }
+}
+
+struct execution random_execution(struct source *s, struct shape shape) {
+    struct execution x = {.k = shape.k};
+    unsigned done[PROCESSES] = {0};
+    done[shape.alone] = shape.before;
+    while (x.n < shape.n && x.n < EVENTS_MOST) {
+        struct sent e = {.mask = random_mask(s, shape.k, shape.joint)};
         unsigned clock[PROCESSES] = {0};
         size_t vectors = 1;
+        for (unsigned p = 0; p < PROCESSES; p++) vectors *= done[p] + 1 + takes_part(&e, p);
+        if (vectors > shape.most) break;
         for (unsigned p = 0; p < PROCESSES; p++)
-            for (unsigned q = 0; e.mask >> p & 1 && q < PROCESSES; q++)
-                if (last[p][q] > clock[q]) clock[q] = last[p][q];
-        for (unsigned p = 0; p < PROCESSES; p++) clock[p] += e.mask >> p & 1;
-        for (unsigned p = 0; p < PROCESSES; p++) vectors *= last[p][p] + 1 + (e.mask >> p & 1);
-        if (vectors > most) break;
+            if (takes_part(&e, p)) learn(&x, p, done[p], clock);
+        if (chance(s, shape.messages)) read_notes(s, &x, done, clock);
         for (unsigned p = 0; p < PROCESSES; p++) {
-            set_sent_count(&e, p, clock[p]);
-            if (e.mask >> p & 1) memcpy(last[p], clock, sizeof clock);
+            done[p] += takes_part(&e, p);
+            set_sent_count(&e, p, takes_part(&e, p) ? done[p] : clock[p]);
         }
         e.labels = random_labels(s, e.mask);
         x.event[x.n++] = e;
@@ -88,6 +113,81 @@ static void change_count(struct source *s, struct sent *e, unsigned p) {
     case 1: set_sent_count(e, p, count > 0 ? count - 1 : 1); break;
     default: set_sent_count(e, p, count ^ bit);
     }
+}
+
+/* Of another process less than its own processes knew before. False if they knew of none. */
+static bool forget_own(struct source *s, const struct execution *x, struct sent *e) {
+    unsigned known[PROCESSES] = {0};
+    uint64_t others = 0;
+    for (unsigned p = 0; p < PROCESSES; p++)
+        if (takes_part(e, p) && sent_count(e, p) > 0) learn(x, p, sent_count(e, p) - 1, known);
+    for (unsigned q = 0; q < PROCESSES; q++)
+        if (!takes_part(e, q) && known[q] > 0) others |= (uint64_t)1 << q;
+    if (others == 0) return false;
+    unsigned q = process_of(s, others);
+    set_sent_count(e, q, chance(s, 50) ? known[q] - 1 : below(s, known[q]));
+    return true;
+}
+
+/* The processes of which f counts more than e does. None if f knows of e, or if they have a process in common. */
+static uint64_t news(const struct sent *e, const struct sent *f) {
+    uint64_t set = 0;
+    if (e->mask & f->mask) return 0;
+    for (unsigned p = 0; p < PROCESSES; p++) {
+        if (takes_part(e, p) && sent_count(f, p) >= sent_count(e, p)) return 0;
+        if (sent_count(f, p) > sent_count(e, p)) set |= (uint64_t)1 << p;
+    }
+    return set;
+}
+
+/* Knows of f: by all of its processes, by one of them, or all of it but for one process. Something that f knew, or
+ * another process of f, stays behind in each case; of that it may know all but the last. */
+static void know_in_part(struct source *s, struct sent *e, const struct sent *f, uint64_t set) {
+    unsigned own = process_of(s, f->mask), missing = process_of(s, set), way = below(s, 3);
+    uint64_t heard = (uint64_t)1 << own, rest = set & ~((uint64_t)1 << missing);
+    if (way == 0 && f->mask != set) heard = f->mask;
+    if (way == 1 && (f->mask & rest) != 0) heard = rest;
+    for (unsigned p = 0; p < PROCESSES; p++) {
+        if (heard >> p & 1) set_sent_count(e, p, sent_count(f, p));
+        else if (set >> p & 1 && chance(s, 30)) set_sent_count(e, p, sent_count(f, p) - 1);
+    }
+}
+
+static bool several(uint64_t set) {
+    return (set & (set - 1)) != 0;
+}
+
+/* False if no event was found of which something could be left out. Joint ones that knew of others are rare, so these
+ * are sought first. */
+static bool overlook(struct source *s, const struct execution *x, struct sent *e) {
+    bool rare = chance(s, 50);
+    for (unsigned tries = 4 * x->n; tries > 0; tries--) {
+        const struct sent *f = &x->event[below(s, x->n)];
+        uint64_t set = news(e, f);
+        if (!several(set)) continue; /* f itself is all the news, or there is none */
+        if (rare && tries > 2 * x->n && (!several(f->mask) || f->mask == set)) continue;
+        know_in_part(s, e, f, set);
+        return true;
+    }
+    return false;
+}
+
+/* One more only where there is such an event: else it would wait for ever, and the true one behind it. */
+static void miscount(struct source *s, const struct execution *x, struct sent *e) {
+    uint64_t others = ((1u << x->k) - 1) & ~e->mask;
+    unsigned q = process_of(s, others), count = sent_count(e, q);
+    bool more = event_numbered(x, q, count + 1) != NULL;
+    if (others == 0) return;
+    if (count > 0 && (!more || chance(s, 50))) set_sent_count(e, q, count - 1);
+    else if (more || chance(s, 5)) set_sent_count(e, q, count + 1);
+}
+
+struct sent forgetful(struct source *s, const struct execution *x, struct sent e) {
+    unsigned choice = below(s, 100);
+    if (choice >= 85) miscount(s, x, &e);
+    else if (choice >= 40 || !forget_own(s, x, &e))
+        if (!overlook(s, x, &e)) forget_own(s, x, &e);
+    return e;
 }
 
 struct sent nearly(struct source *s, struct sent e, unsigned k) {

@@ -27,14 +27,29 @@ struct execution {
     struct sent event[EVENTS_MOST]; /* in an order in which they could have happened */
 };
 
-/* An execution with true clocks: events until there are n, or until the vectors of counts number more than `most`. Joint: percentage of
- * events with more than one process. */
-struct execution random_execution(struct source *s, unsigned k, unsigned n, size_t most, unsigned joint);
+/* What kind of execution. */
+struct shape {
+    unsigned k, n;            /* at most so many events */
+    size_t most;              /* and at most so many vectors of counts */
+    unsigned joint, messages; /* percentage of events with more than one process, and of those that know of others */
+    unsigned alone, before;   /* so many events of one process by itself went before, which knew of nothing else */
+};
 
-/* The same, after so many events that one process had alone. */
-struct execution later_execution(struct source *s, unsigned k, unsigned n, size_t most, unsigned joint, unsigned alone, unsigned before);
+struct execution random_execution(struct source *s, struct shape shape); /* with true clocks */
 
-/* The same event with something changed: labels, mask, a count, its clock made false. */
+/* A percentage for a shape; often 0. */
+unsigned random_messages(struct source *s);
+
+/* Into the clock goes what one knows who knows of q's event number n: that event and all that it knew. */
+void learn(const struct execution *x, unsigned q, unsigned n, unsigned *clock);
+
+/* The same event with a clock that is false where the execution is what happened: it forgets what its own processes
+ * knew, or knows of an event but not of all that this one knew, as of one process of a joint event and not of another.
+ * Where nobody knows enough for that it stays as it is. Now and then one count of another process is one more or less,
+ * and that may be true. */
+struct sent forgetful(struct source *s, const struct execution *x, struct sent e);
+
+/* The same event with something changed: labels, mask, a count, several counts of other processes. */
 struct sent twisted(struct source *s, struct sent e, unsigned k);
 
 /* The same event but for one thing, and that changed as little as can be: a bit of a label, a count of a process that

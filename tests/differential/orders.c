@@ -1,5 +1,6 @@
-/* Demand 3, tried: two lists of calls that accept the same events in different orders, each ended by "nothing ready", leave the same
- * record and the same frontiers, and a verdict that both reported for the same counts is the same. */
+/* Demand 3, tried: two lists of calls that accept the same events in different orders, each ended by "nothing ready",
+ * leave the same record and the same frontiers; a verdict that both reported for the same counts is the same, and it is
+ * the one of that cut among all cuts of what is taken at the end. */
 #include <stdio.h>
 #include <string.h>
 
@@ -96,29 +97,59 @@ static void list_repeat(struct list *l) {
     compare_bytes("record (sent once more)", record, before, RECORD);
 }
 
-/* The false events are sent a second time at the end. False if the list does not get as far as "nothing ready". */
-static bool list_run(struct list *l, const struct sent *events, unsigned n, const struct sent *wrong, unsigned wrong_number) {
+/* What two lists accept. */
+struct events {
+    unsigned n, wrong_number;
+    struct sent event[EVENTS_MOST + 9], wrong[9]; /* the wrong ones, those that forget, are among the events too */
+    bool found;
+    struct sent lost; /* if found: comes when nothing is ready any more, and one that forgot in its place has left */
+};
+
+/* Those that forget are sent a second time at the end. False if the list does not get as far as "nothing ready". */
+static bool list_run(struct list *l, const struct events *all) {
     unsigned habit = below(l->source, 3) * 40;
-    for (unsigned i = 0; i < n; i++) {
-        if (!list_accept(l, events[i])) return false;
+    for (unsigned i = 0; i < all->n; i++) {
+        if (!list_accept(l, all->event[i])) return false;
         if (chance(l->source, 15)) list_repeat(l);
         while (chance(l->source, habit))
             if (list_take(l) == 0) break;
     }
     if (!list_drain(l)) return false;
-    for (unsigned i = 0; i < wrong_number; i++) list_offer(l, wrong[i]);
+    if (all->found && !(list_accept(l, all->lost) && list_drain(l))) return false;
+    for (unsigned i = 0; i < all->wrong_number; i++) list_offer(l, all->wrong[i]);
     return list_drain(l);
 }
 
-/* A false event behind the last of a process: it shares no process and count with any other. */
-static struct sent false_end(struct source *s, const struct execution *x, unsigned p) {
-    struct sent e = {.mask = (uint64_t)1 << p, .labels = (draw(s) & 255) << 8 * p};
+/* An event behind the last of these processes, with a clock that forgets: it shares no process and count with any
+ * other, and what it forgets is forgotten in every order. */
+static struct sent forgetful_end(struct source *s, const struct execution *x, uint64_t mask) {
+    struct sent e = {.mask = mask};
+    unsigned clock[PROCESSES] = {0};
+    e.labels = random_labels(s, mask);
     for (unsigned i = 0; i < x->n; i++)
-        if (x->event[i].mask >> p & 1) e.low = x->event[i].low, e.high = x->event[i].high;
-    set_sent_count(&e, p, sent_count(&e, p) + 1);
-    unsigned q = below(s, x->k), count = sent_count(&e, q);
-    if (q != p) set_sent_count(&e, q, count > 0 && chance(s, 50) ? count - 1 : count + 1);
-    return e;
+        for (unsigned p = 0; p < PROCESSES; p++)
+            if (mask & x->event[i].mask & (uint64_t)1 << p) learn(x, p, sent_count(&x->event[i], p), clock);
+    for (unsigned p = 0; p < PROCESSES; p++) set_sent_count(&e, p, clock[p] + (mask >> p & 1));
+    return forgetful(s, x, e);
+}
+
+/* The execution's events, perhaps without a lost one, and some that forget: ends, no two with a common process, and one
+ * in the lost one's place, so that it leaves in the midst of the others. */
+static void choose_events(struct source *s, const struct execution *x, bool lost, struct events *all) {
+    unsigned missing = lost ? below(s, x->n) : x->n;
+    *all = (struct events){.n = 0};
+    for (unsigned p = 0; p < x->k; p++) {
+        uint64_t mask = (uint64_t)1 << p;
+        if (!chance(s, 25)) continue;
+        if (p + 1 < x->k && chance(s, 30)) mask |= (uint64_t)1 << ++p;
+        all->wrong[all->wrong_number++] = forgetful_end(s, x, mask);
+    }
+    if (lost) all->lost = x->event[missing];
+    if (lost && chance(s, 60)) all->wrong[all->wrong_number++] = forgetful(s, x, all->lost);
+    all->found = lost && chance(s, 50);
+    for (unsigned i = 0; i < x->n; i++)
+        if (i != missing) all->event[all->n++] = x->event[i];
+    for (unsigned i = 0; i < all->wrong_number; i++) all->event[all->n++] = all->wrong[i];
 }
 
 static void compare_verdicts(const struct verdicts *one, const struct verdicts *two) {
@@ -126,6 +157,21 @@ static void compare_verdicts(const struct verdicts *one, const struct verdicts *
         for (unsigned j = 0; j < two->n; j++)
             if (memcmp(one->reported[i].counts, two->reported[j].counts, 16) == 0 && one->reported[i].truth != two->reported[j].truth)
                 differs("the two orders report different verdicts for the same counts");
+}
+
+static void compare_with_end(const struct list *l) {
+    const struct model *m = &l->twin->model;
+    struct cuts all = all_cuts(&m->history);
+    judge_cuts(&all, &m->history, &m->rule, m->start);
+    for (unsigned i = 0; i < l->verdicts.n; i++) {
+        const uint8_t *at = l->verdicts.reported[i].counts;
+        unsigned counts[PROCESSES];
+        for (unsigned p = 0; p < PROCESSES; p++) counts[p] = at[2 * p] + 256u * at[2 * p + 1];
+        const struct cut *s = &all.cut[cut_place(&all, counts)];
+        if (!s->consistent || (s->forms >> (m->rule.forms - 1) & 1) != l->verdicts.reported[i].truth)
+            differs("a reported verdict is not the one of its cut at the end");
+    }
+    free_cuts(&all);
 }
 
 static void compare_ends(const struct twin *one, const struct twin *two) {
@@ -140,26 +186,26 @@ static void compare_ends(const struct twin *one, const struct twin *two) {
 void try_orders(struct source *s, struct twin *t, struct twin *other, bool wide) {
     uint8_t text[TEXT_MOST];
     static struct list one, two;
-    unsigned k = between(s, 1, 8), n = 0, wrong_number = 0;
+    static struct events all;
+    struct shape shape = {.k = between(s, 1, 8), .most = wide ? 1000000 : 1500};
     bool lost = chance(s, 40); /* then the events behind the lost one stay pending, and there is place for 32 */
-    unsigned joint = between(s, 10, 70), size = between(s, 2, !wide ? 12 : lost ? 24 : 60);
-    struct execution x = random_execution(s, k, size, wide ? 1000000 : 1500, joint);
-    struct sent events[EVENTS_MOST + 8], wrong[8];
-    unsigned missing = lost ? below(s, x.n) : x.n;
-    for (unsigned i = 0; i < x.n; i++)
-        if (i != missing) events[n++] = x.event[i];
-    for (unsigned p = 0; p < k; p++)
-        if (chance(s, 25)) wrong[wrong_number++] = events[n++] = false_end(s, &x, p);
+    unsigned k = shape.k;
+    shape.n = between(s, 2, !wide ? 12 : lost ? 24 : 60);
+    shape.joint = between(s, 10, 70);
+    shape.messages = random_messages(s);
+    struct execution x = random_execution(s, shape);
+    choose_events(s, &x, lost, &all);
     size_t length = random_rule(s, k, between(s, 1, 64), text);
     uint64_t labels = random_labels(s, (1u << k) - 1);
     one = (struct list){.source = s, .twin = t, .wide = wide};
     two = (struct list){.source = s, .twin = other, .wide = wide};
     list_open(&one, text, length, k, labels, FRONTIER * between(s, 1, 30));
-    shuffle(s, events, n, false);
-    bool ended = list_run(&one, events, n, wrong, wrong_number);
+    shuffle(s, all.event, all.n, false);
+    bool ended = list_run(&one, &all);
     note("the other order\n");
     list_open(&two, text, length, k, labels, FRONTIER * between(s, 1, ROOM));
-    shuffle(s, events, n, chance(s, 50) && n <= 32);
-    if (ended && list_run(&two, events, n, wrong, wrong_number)) compare_ends(t, other);
+    shuffle(s, all.event, all.n, chance(s, 50) && all.n <= 32);
+    if (ended && list_run(&two, &all)) compare_ends(t, other);
     compare_verdicts(&one.verdicts, &two.verdicts);
+    if (!wide) compare_with_end(&one), compare_with_end(&two);
 }

@@ -1,5 +1,5 @@
-/* Random calls on one watch: an execution's events in some order, sent again, nearly the same, twisted, with numbers
- * that are none; windows that are too short and then longer; buffers of wrong lengths. */
+/* Random calls on one watch: an execution's events in some order, sent again, nearly the same, twisted, with clocks
+ * that forget, with numbers that are none; windows that are too short and then longer; buffers of wrong lengths. */
 #include <string.h>
 
 #include "twin.h"
@@ -61,6 +61,29 @@ static void random_offer(struct source *s, struct twin *t, const struct executio
     twin_offer(t, e);
 }
 
+/* Its processes' next events are this one, and it is not pending. */
+static bool next_up(const struct twin *t, const struct sent *e) {
+    for (unsigned p = 0; p < PROCESSES; p++) {
+        if (!(e->mask >> p & 1)) continue;
+        if (sent_count(e, p) != t->model.history.taken[p] + 1) return false;
+        for (unsigned i = 0; i < t->model.pending_number; i++)
+            if (involved(&t->model.pending[i], p) && t->model.pending[i].clock[p] == sent_count(e, p)) return false;
+    }
+    return true;
+}
+
+/* One of the execution's events with a clock that forgets, mostly one that could come next: then 35 is near, and the
+ * true one may be accepted after it. */
+static void forgetful_offer(struct source *s, struct twin *t, const struct execution *x) {
+    const struct sent *e = &x->event[below(s, x->n)];
+    unsigned found = 0;
+    bool any = chance(s, 15);
+    for (unsigned i = 0; i < x->n && !any; i++)
+        if (next_up(t, &x->event[i]) && below(s, ++found) == 0) e = &x->event[i];
+    twin_offer(t, forgetful(s, x, *e));
+    if (chance(s, 60)) twin_take(t, s, t->window_length);
+}
+
 /* A pending event once more, or nearly; or else one that came before, which may have been taken. */
 static void repeated_offer(struct source *s, struct twin *t, const struct sent *sent, unsigned n) {
     unsigned pending = t->model.pending_number;
@@ -92,14 +115,15 @@ static void start_watch(struct source *s, struct twin *t, unsigned k, size_t roo
     memset(t->window_bytes + window_length, 0, WINDOW_MOST - window_length);
 }
 
-/* The execution's events and whatever comes between. */
-static void walk(struct source *s, struct twin *t, struct execution *x) {
+/* The execution's events and whatever comes between. Forgetting: percentage of clocks that forget. */
+static void walk(struct source *s, struct twin *t, struct execution *x, unsigned forgetting) {
     unsigned next = 0;
     bool hostile = chance(s, 60);
     if (chance(s, 70)) shuffle(s, x->event, x->n, chance(s, 60));
     while (next < x->n) {
         unsigned action = below(s, 100);
-        if (action < 40) twin_offer(t, x->event[next++]);
+        if (chance(s, forgetting)) forgetful_offer(s, t, x);
+        else if (action < 40) twin_offer(t, x->event[next++]);
         else if (action < 65) twin_take(t, s, t->window_length);
         else if (action < 75 && hostile) random_offer(s, t, x);
         else if (action < 80) random_find(s, t);
@@ -116,34 +140,43 @@ static void walk(struct source *s, struct twin *t, struct execution *x) {
 }
 
 void try_walk(struct source *s, struct twin *t, unsigned events, size_t vectors) {
-    unsigned k = between(s, 1, 8);
-    start_watch(s, t, k, random_room(s));
-    struct execution x = random_execution(s, k, events, vectors, chance(s, 50) ? 15 : 50);
-    walk(s, t, &x);
+    struct shape shape = {.k = between(s, 1, 8), .n = events, .most = vectors};
+    start_watch(s, t, shape.k, random_room(s));
+    shape.joint = chance(s, 50) ? 15 : 50;
+    shape.messages = random_messages(s);
+    struct execution x = random_execution(s, shape);
+    walk(s, t, &x, chance(s, 50) ? 25 : 0);
 }
 
 void try_late(struct source *s, struct twin *t) {
-    unsigned k = between(s, 2, 4), alone = below(s, k), before = between(s, 250, 257);
-    start_watch(s, t, k, ROOM);
-    for (unsigned i = 1; i <= before; i++) {
-        struct sent e = {.mask = (uint64_t)1 << alone};
+    struct shape shape = {.k = between(s, 2, 4), .most = 3500, .joint = 15};
+    shape.n = between(s, 6, 16);
+    shape.alone = below(s, shape.k);
+    shape.before = between(s, 253, 259);
+    shape.messages = chance(s, 80) ? 60 : 0;
+    start_watch(s, t, shape.k, ROOM);
+    for (unsigned i = 1; i <= shape.before; i++) {
+        struct sent e = {.mask = (uint64_t)1 << shape.alone};
         e.labels = random_labels(s, e.mask);
-        set_sent_count(&e, alone, i);
+        set_sent_count(&e, shape.alone, i);
         twin_forward(t, e);
     }
     twin_catch_up(t);
-    struct execution x = later_execution(s, k, between(s, 4, 10), 5000, 15, alone, before);
-    walk(s, t, &x);
+    struct execution x = random_execution(s, shape);
+    walk(s, t, &x, 30);
 }
 
 /* Every event comes after one of all processes together that does not come, so nothing is ready until others are sent
  * that are no part of it. */
 void try_crowd(struct source *s, struct twin *t) {
-    unsigned k = between(s, 1, 8), next = 0;
-    start_watch(s, t, k, random_room(s));
-    struct execution x = random_execution(s, k, EVENTS_MOST, SIZE_MAX, chance(s, 50) ? 15 : 50);
+    struct shape shape = {.k = between(s, 1, 8), .n = EVENTS_MOST, .most = SIZE_MAX};
+    unsigned next = 0;
+    start_watch(s, t, shape.k, random_room(s));
+    shape.joint = chance(s, 50) ? 15 : 50;
+    shape.messages = random_messages(s);
+    struct execution x = random_execution(s, shape);
     for (unsigned i = 0; i < x.n; i++)
-        for (unsigned p = 0; p < k; p++) set_sent_count(&x.event[i], p, sent_count(&x.event[i], p) + 1);
+        for (unsigned p = 0; p < x.k; p++) set_sent_count(&x.event[i], p, sent_count(&x.event[i], p) + 1);
     shuffle(s, x.event, x.n, chance(s, 50));
     while (next < x.n) {
         unsigned action = below(s, 100);
@@ -156,9 +189,11 @@ void try_crowd(struct source *s, struct twin *t) {
 }
 
 void try_damage(struct source *s, struct twin *t) {
-    unsigned k = between(s, 1, 8);
-    start_watch(s, t, k, random_room(s));
-    struct execution x = random_execution(s, k, between(s, 1, 10), 600, 30);
+    struct shape shape = {.k = between(s, 1, 8), .most = 600, .joint = 30};
+    shape.n = between(s, 1, 10);
+    shape.messages = random_messages(s);
+    start_watch(s, t, shape.k, random_room(s));
+    struct execution x = random_execution(s, shape);
     shuffle(s, x.event, x.n, chance(s, 50));
     for (unsigned i = 0; i < x.n; i++) {
         twin_offer(t, x.event[i]);

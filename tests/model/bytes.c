@@ -5,7 +5,7 @@
 
 #include "model.h"
 
-enum { TAKEN_AT = 8, CLOCKS_AT = 24, TABLE_AT = 152, PENDING_AT = 344, EVENT = 32 };
+enum { TAKEN_AT = 8, TABLE_AT = 152, PENDING_AT = 344, EVENT = 32 };
 
 static unsigned get2(const uint8_t *at) {
     return at[0] + 256u * at[1];
@@ -100,22 +100,25 @@ unsigned bytes_find(uint64_t line, const uint8_t *record, size_t record_len, siz
     return line < record[1] ? 0 : 11;
 }
 
-/* The largest of the last clocks of the involved processes, plus 1 at those, by the record's bytes. */
-static bool true_by_record(const struct event *e, const uint8_t *record) {
-    for (unsigned q = 0; q < PROCESSES; q++) {
-        unsigned largest = 0;
-        for (unsigned p = 0; p < PROCESSES; p++) {
-            unsigned count = get2(record + CLOCKS_AT + 16 * p + 2 * q);
-            if (involved(e, p) && count > largest) largest = count;
-        }
-        if (e->clock[q] != largest + involved(e, q)) return false;
-    }
+/* The eight counts of a frontier are the clock, lowered by 1 at the involved processes. */
+static bool lowered_is(const struct event *e, const uint8_t *frontier) {
+    for (unsigned p = 0; p < PROCESSES; p++)
+        if (get2(frontier + 2 * p) != e->clock[p] - involved(e, p)) return false;
     return true;
 }
 
-struct possible bytes_take(const uint8_t *record, size_t record_len, size_t window_len, size_t scratch_len) {
+/* One of the first so many frontiers, in whatever order they stand; what stands behind them is not kept. */
+static bool true_by_window(const struct event *e, const uint8_t *window, uint32_t kept_frontiers) {
+    for (uint32_t i = 0; i < kept_frontiers; i++)
+        if (lowered_is(e, window + FRONTIER * i)) return true;
+    return false;
+}
+
+struct possible bytes_take(const uint8_t *record, size_t record_len, const uint8_t *window, size_t window_len,
+                           size_t scratch_len) {
     struct possible can = {.nothing_ready = true};
-    if (record_len != RECORD || !window_length(window_len) || scratch_len != window_len) return (struct possible){.refused = 6};
+    if (record_len != RECORD || !window_length(window_len) || scratch_len != window_len)
+        return (struct possible){.refused = 6};
     if (damaged(record, window_len / FRONTIER)) return (struct possible){.refused = 34};
     unsigned counts[PROCESSES];
     for (unsigned p = 0; p < PROCESSES; p++) counts[p] = get2(record + TAKEN_AT + 2 * p);
@@ -123,7 +126,7 @@ struct possible bytes_take(const uint8_t *record, size_t record_len, size_t wind
         struct event e = pending_at(record, i);
         if (!ready(&e, counts)) continue;
         can.nothing_ready = false;
-        if (!true_by_record(&e, record)) {
+        if (!true_by_window(&e, window, get4(record + 4))) {
             can.false_clock = true;
             can.no_room = false;
             return can;

@@ -1,5 +1,5 @@
-/* The four calls on a watch that is written by these calls only: sections "The calls" and "Turned back", and request 1
- * on an event that is sent again. */
+/* The four calls on a watch that is written by these calls only: sections "The calls" and "Turned back", request 1 on
+ * an event that is sent again, and request 2 on 35. */
 #include <stdlib.h>
 #include <string.h>
 
@@ -124,6 +124,13 @@ static void leave(struct model *m, unsigned place) {
     for (unsigned i = place; i < m->pending_number; i++) m->pending[i] = m->pending[i + 1];
 }
 
+static bool true_by_taken(const struct model *m, const struct event *e) {
+    struct cuts all = all_cuts(&m->history);
+    bool found = true_clock(&all, e, m->k);
+    free_cuts(&all);
+    return found;
+}
+
 static bool fits(const struct model *m, const struct event *e, size_t window_len) {
     struct history longer = m->history;
     append(&longer, e);
@@ -140,7 +147,7 @@ uint64_t model_take(struct model *m, uint8_t *record, size_t record_len, uint8_t
         struct event e = m->pending[i];
         if (!ready(&e, m->history.taken)) continue;
         answer = 36;
-        if (!true_clock(&e, &m->history)) {
+        if (!true_by_taken(m, &e)) {
             leave(m, i);
             write_record(m, frontiers(&m->history, m->k), record);
             return refused(35);

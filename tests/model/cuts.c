@@ -1,4 +1,5 @@
-/* Consistent cuts, what precedes what, and what is dropped: sections "Clocks and cuts" and "The window". */
+/* Consistent cuts, what precedes what, and what is dropped: sections "Clocks and cuts" and "The window"; when a clock
+ * is true: request 2. */
 #include <stdlib.h>
 #include <string.h>
 
@@ -63,6 +64,17 @@ size_t kept_number(const struct cuts *all, unsigned k) {
     size_t number = 0;
     for (size_t i = 0; i < all->n; i++) number += kept(all, &all->cut[i], k);
     return number;
+}
+
+/* That the event forgets nothing which its processes knew, and knows nothing by half, is the cut's consistency. */
+bool true_clock(const struct cuts *all, const struct event *e, unsigned k) {
+    unsigned lowered[PROCESSES];
+    for (unsigned p = 0; p < PROCESSES; p++) lowered[p] = e->clock[p] - involved(e, p);
+    for (size_t i = 0; i < all->n; i++) {
+        const struct cut *s = &all->cut[i];
+        if (kept(all, s, k) && memcmp(s->counts, lowered, sizeof lowered) == 0) return true;
+    }
+    return false;
 }
 
 void free_cuts(struct cuts *all) {

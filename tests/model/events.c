@@ -38,15 +38,3 @@ bool ready(const struct event *e, const unsigned *counts) {
     }
     return true;
 }
-
-bool true_clock(const struct event *e, const struct history *h) {
-    for (unsigned q = 0; q < PROCESSES; q++) {
-        unsigned largest = 0;
-        for (unsigned p = 0; p < PROCESSES; p++) {
-            const struct event *last = numbered(h, p, h->taken[p]);
-            if (involved(e, p) && last != NULL && last->clock[q] > largest) largest = last->clock[q];
-        }
-        if (e->clock[q] != largest + involved(e, q)) return false;
-    }
-    return true;
-}

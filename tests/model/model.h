@@ -33,7 +33,6 @@ unsigned lowest_process(const struct event *e);
 void append(struct history *h, const struct event *e);
 const struct event *numbered(const struct history *h, unsigned p, unsigned n); /* p's event number n, from 1; NULL if there is none */
 bool ready(const struct event *e, const unsigned *counts);
-bool true_clock(const struct event *e, const struct history *h);
 
 /* ---- rules ---- */
 
@@ -77,6 +76,7 @@ size_t cut_place(const struct cuts *all, const unsigned *counts); /* the counts 
 bool precedes(const struct cuts *all, const struct event *e, const struct cut *s, size_t *place); /* e leads from the cut there to s */
 bool kept(const struct cuts *all, const struct cut *s, unsigned k);
 size_t kept_number(const struct cuts *all, unsigned k);
+bool true_clock(const struct cuts *all, const struct event *e, unsigned k); /* lowered at its processes: a kept cut */
 void free_cuts(struct cuts *all);
 
 void label_cut(const struct history *h, const uint8_t *start, const struct cut *s, uint8_t *labels);
@@ -132,6 +132,7 @@ struct possible {
     unsigned refused; /* 6 or 34: then nothing else is possible */
     bool nothing_ready, taken, false_clock, no_room;
 };
-struct possible bytes_take(const uint8_t *record, size_t record_len, size_t window_len, size_t scratch_len);
+struct possible bytes_take(const uint8_t *record, size_t record_len, const uint8_t *window, size_t window_len,
+                           size_t scratch_len);
 
 #endif

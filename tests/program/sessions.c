@@ -1,12 +1,12 @@
 /* Whole inputs: a head of three lines and events of an execution, in any order, with lines between that are spoiled,
- * out of place, or sent before. */
+ * out of place, sent before, or with clocks that forget. */
 #include <string.h>
 
 #include "inputs.h"
 
 struct session {
     struct source *s;
-    unsigned k, room, spoiled; /* spoiled: percentage of did lines */
+    unsigned k, room, spoiled, forgetting; /* percentages of did lines */
     uint64_t labels;
     struct execution x;
     struct bytes *input;
@@ -110,6 +110,12 @@ static void stray_line(const struct session *t) {
     end_line(t);
 }
 
+/* An event's line with a clock that forgets: if all that it needs was taken it is gone before the true one comes. */
+static void forgetful_line(const struct session *t, struct sent e) {
+    did_line(t, forgetful(t->s, &t->x, e));
+    end_line(t);
+}
+
 /* An event's line once more, or nearly: it may be held still. */
 static void repeated_line(const struct session *t, struct sent e) {
     did_line(t, chance(t->s, 60) ? e : nearly(t->s, e, t->k));
@@ -121,6 +127,7 @@ static void did_lines(const struct session *t) {
     unsigned strays = chance(s, 50) ? 10 : 50, repeats = chance(s, 70) ? 10 : 50;
     for (unsigned i = 0; i < t->x.n; i++) {
         while (chance(s, strays)) stray_line(t);
+        if (chance(s, t->forgetting)) forgetful_line(t, t->x.event[i]);
         did_line(t, t->x.event[i]);
         if (chance(s, t->spoiled)) {
             spoil_line(s, &line);
@@ -141,18 +148,28 @@ static void cut_input(struct source *s, struct bytes *input) {
 static void events_session(struct source *s, struct bytes *input) {
     static const unsigned spoiled[] = {0, 20, 60, 90};
     struct session t = new_session(s, input);
+    struct shape shape = {.k = t.k, .n = between(s, 1, 24), .most = 500};
+    shape.joint = chance(s, 50) ? 15 : 50;
+    shape.messages = random_messages(s);
     t.spoiled = spoiled[below(s, 4)];
-    t.x = random_execution(s, t.k, between(s, 1, 24), 500, chance(s, 50) ? 15 : 50);
+    t.forgetting = chance(s, 50) ? 40 : 0;
+    t.x = random_execution(s, shape);
     if (chance(s, 70)) shuffle(s, t.x.event, t.x.n, chance(s, 60));
     head(&t);
     did_lines(&t);
+    for (unsigned i = 0; t.forgetting > 0 && i < t.x.n; i++) { /* what met 32 because of one that forgot */
+        did_line(&t, t.x.event[i]);
+        end_line(&t);
+    }
     cut_input(s, input);
 }
 
 /* Only lines that say where they are wrong; the event behind them shows that the watch is as it was. */
 static void spoiled_session(struct source *s, struct bytes *input, bool stretched) {
     struct session t = new_session(s, input);
-    t.x = random_execution(s, t.k, between(s, 2, 6), 100, 40);
+    struct shape shape = {.k = t.k, .n = between(s, 2, 6), .most = 100, .joint = 40};
+    shape.messages = random_messages(s);
+    t.x = random_execution(s, shape);
     head(&t);
     for (unsigned i = between(s, 10, stretched ? 20 : 60); i > 0 && input->length < BYTES_MOST / 2; i--) {
         did_line(&t, t.x.event[below(s, t.x.n)]);
@@ -180,7 +197,7 @@ static void spoil_head(const struct session *t, unsigned which) {
 static void head_session(struct source *s, struct bytes *input) {
     struct session t = new_session(s, input);
     unsigned wrong = below(s, 3), how = below(s, 100);
-    t.x = random_execution(s, t.k, 3, 100, 40);
+    t.x = random_execution(s, (struct shape){.k = t.k, .n = 3, .most = 100, .joint = 40, .messages = 30});
     for (unsigned i = 0; i < 3; i++) {
         if (i == 0) watch_line(&t);
         else if (i == 1) rule_line(&t, false);
@@ -199,7 +216,9 @@ static void held_session(struct source *s, struct bytes *input) {
     struct session t = new_session(s, input);
     t.k = between(s, 1, 3);
     t.room = chance(s, 80) ? 1024 : t.room;
-    t.x = random_execution(s, t.k, between(s, 25, 42), 3000, 30);
+    struct shape shape = {.k = t.k, .n = between(s, 25, 42), .most = 3000, .joint = 30};
+    shape.messages = random_messages(s);
+    t.x = random_execution(s, shape);
     for (unsigned i = 0; i + 1 < t.x.n; i++) {
         struct sent e = t.x.event[i];
         t.x.event[i] = t.x.event[i + 1];
@@ -219,25 +238,29 @@ static void late_session(struct source *s, struct bytes *input) {
     struct session t = new_session(s, input);
     t.k = between(s, 1, 3);
     t.room = 1024;
-    unsigned alone = below(s, t.k), before = chance(s, 50) ? between(s, 97, 103) : between(s, 250, 260);
+    struct shape shape = {.k = t.k, .n = between(s, 3, 6), .most = 3000, .joint = 30};
+    shape.alone = below(s, t.k);
+    shape.before = chance(s, 50) ? between(s, 97, 103) : between(s, 250, 260);
+    shape.messages = random_messages(s);
+    t.forgetting = 20;
     head(&t);
-    for (unsigned i = 1; i <= before; i++) {
-        struct sent e = {.mask = (uint64_t)1 << alone};
+    for (unsigned i = 1; i <= shape.before; i++) {
+        struct sent e = {.mask = (uint64_t)1 << shape.alone};
         e.labels = random_labels(s, e.mask);
-        set_sent_count(&e, alone, i);
+        set_sent_count(&e, shape.alone, i);
         did_line(&t, e);
         end_line(&t);
     }
-    t.x = later_execution(s, t.k, between(s, 3, 6), 3000, 30, alone, before);
+    t.x = random_execution(s, shape);
     did_lines(&t);
 }
 
-/* Processes that hardly meet, so that more frontiers than the room come to be kept. */
+/* Processes that hardly meet and do not write to each other, so that more frontiers than the room come to be kept. */
 static void wide_session(struct source *s, struct bytes *input) {
     struct session t = new_session(s, input);
     t.k = between(s, 3, 5);
     t.room = chance(s, 60) ? between(s, 1020, 1024) : between(s, 90, 110);
-    t.x = random_execution(s, t.k, 60, 8000, 1);
+    t.x = random_execution(s, (struct shape){.k = t.k, .n = 60, .most = 8000, .joint = 1});
     head(&t);
     did_lines(&t);
 }
@@ -269,7 +292,7 @@ static void brim_session(struct source *s, struct bytes *input) {
 /* More input and more answers than a pipe holds. */
 static void many_session(struct source *s, struct bytes *input) {
     struct session t = new_session(s, input);
-    t.x = random_execution(s, t.k, 8, 200, 30);
+    t.x = random_execution(s, (struct shape){.k = t.k, .n = 8, .most = 200, .joint = 30, .messages = 30});
     head(&t);
     for (unsigned i = between(s, 5000, 9000); i > 0; i--) {
         did_line(&t, t.x.event[0]);
