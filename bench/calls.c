@@ -252,7 +252,7 @@ static uint64_t offer_next(struct side *s, unsigned p, const uint16_t *known) {
     return offer_event(s, 1u << p, clock);
 }
 
-/* Free events of k processes in turn, until one stays pending for want of room. The counts taken are left in reached. */
+/* Free events of k processes in turn, until one stays pending for want of room. The counts taken go into reached. */
 static void fill(unsigned k, uint16_t *reached) {
     saved.k = k, saved.rule = RULE_8, saved.length = WINDOW;
     start_over(&plain);

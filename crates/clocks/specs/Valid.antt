@@ -1,5 +1,5 @@
--- Valid clocks: what the clock of an event that is taken may count (02 [2]; 01, Clocks and cuts: true), and all that the
--- theory knows of such a rule.
+-- Valid clocks: what the clock of an event that is taken may count (02 [2]; 01, Clocks and cuts: true), and all that
+-- the theory knows of such a rule.
 use Prim.Native.Nat.{ℕ, _≤_}
 use mathlib.Core.Path.{_≡_}
 use mathlib.Core.Bool.{false}

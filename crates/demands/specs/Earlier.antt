@@ -1,5 +1,6 @@
--- Lists of calls by the rule for valid clocks that stood before 02 [2]: the join of the last clocks (01, Clocks and cuts:
--- its clock is true). Take alone differs. They are kept to say what the change left as it was: statements/Earlier.
+-- Lists of calls by the rule for valid clocks that stood before 02 [2]: the join of the last clocks (01, Clocks and
+-- cuts: its clock is true). Take alone differs. They are kept to say what the change left as it was:
+-- statements/Earlier.
 use Prim.Native.Nat.{ℕ}
 use mathlib.Core.Bool.{Bool, false, cond, _||_}
 use mathlib.Core.List.{List, [], _∷_, _++_}

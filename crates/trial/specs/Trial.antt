@@ -1,5 +1,5 @@
--- Take's trial of the pending events (01, The calls: take): the ready ones are tried in their order, first the clock and
--- then the fit, up to the first that has a false clock or whose window fits.
+-- Take's trial of the pending events (01, The calls: take): the ready ones are tried in their order, first the clock
+-- and then the fit, up to the first that has a false clock or whose window fits.
 use Prim.Native.Nat.{ℕ, _+_}
 use mathlib.Core.Bool.{Bool, true, false, cond}
 use mathlib.Core.List.{List, [], _∷_}

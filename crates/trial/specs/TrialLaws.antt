@@ -1,5 +1,5 @@
--- What the trial of the pending events comes to, for any test of a clock: the first ready one with a false clock or with
--- a window that fits, or none.
+-- What the trial of the pending events comes to, for any test of a clock: the first ready one with a false clock or
+-- with a window that fits, or none.
 use Prim.Native.Nat.{ℕ, suc, _+_, _<_, zero}
 use native.Mathlib.Omega.{arith}
 use mathlib.Core.Path.{_≡_, refl, ap, subst, _∙_}

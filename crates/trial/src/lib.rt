@@ -1,5 +1,5 @@
-// Take's trial of the pending events (01, The calls: take; 02 [2]): each ready one in turn, first its clock and then its
-// fit, until one is decided on.
+// Take's trial of the pending events (01, The calls: take; 02 [2]): each ready one in turn, first its clock and then
+// its fit, until one is decided on.
 
 use clocks::Event;
 use frontiers::stored::counts_at;

@@ -13,8 +13,9 @@ ghost use Rattle.clocks.specs.declared.Event as event;
 ghost use Rattle.window.specs.StepCode.{complete, staysWith};
 ghost use Rattle.window.specs.Prepared.{lowest, highest, bound, boundCounts, openOnes};
 
-// 1 for a process that takes part, 0 for another. As a number, so that the bounds of eight processes are made by the same
-// arithmetic: of truths the compiler makes a choice for each process, and then no longer tests eight counts at once.
+// 1 for a process that takes part, 0 for another. As a number, so that the bounds of eight processes are made by the
+// same arithmetic: of truths the compiler makes a choice for each process, and then no longer tests eight counts at
+// once.
 fn part(mask: u64, p: u32) -> u32
     requires { ⌜ p < 64 ⌝ }
     ensures { λ r. ⌜ (r ≡ one (bit mask p)) × (r ≤ 1) ⌝ }

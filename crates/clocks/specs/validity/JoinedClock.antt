@@ -1,5 +1,5 @@
--- What the rule by the join grants is granted still: after a causal history, a clock that is the join of the last clocks
--- is valid.
+-- What the rule by the join grants is granted still: after a causal history, a clock that is the join of the last
+-- clocks is valid.
 
 -- the join of consistent cuts is one
 use Prim.Native.Nat.{ℕ, zero, suc}

@@ -1,5 +1,5 @@
--- The test of the rule by the join says what the rule says, for a history of k processes, and looks at the first n clocks
--- only.
+-- The test of the rule by the join says what the rule says, for a history of k processes, and looks at the first n
+-- clocks only.
 use Prim.Native.Nat.{ℕ, _+_, _≤_, _<_}
 use native.Mathlib.Omega.{arith}
 use native.Mathlib.Decide.{decLt}

@@ -1,5 +1,5 @@
--- What an event may know of, at the end of every list of calls: the window tells it, and neighbours in the history may be
--- exchanged exactly if neither counts the other.
+-- What an event may know of, at the end of every list of calls: the window tells it, and neighbours in the history may
+-- be exchanged exactly if neither counts the other.
 use Prim.Native.Nat.{ℕ}
 use mathlib.Core.Path.{_≡_, ap, subst, _∙_}
 use mathlib.Core.List.{List}
