@@ -21,7 +21,6 @@ use Rattle.clocks.specs.stored.RefusalLaws.{mask-fine, fault-0, no-fault}
 use Rattle.clocks.specs.stored.TestedLaws.{involved-below}
 use Rattle.rules.specs.Line.{linesAt}
 use Rattle.rules.specs.Formula.{Formula}
-use Rattle.rules.specs.reading.ReaderAccepts.{reader-accepts}
 use Rattle.records.specs.Record.{pendingCount, pendingEvents, inserted}
 use Rattle.refusals.specs.Refusals.{badRecordLength, alreadyTaken, conflicts, conflicting}
 use Rattle.repeats.specs.Repeats.{repeated}
@@ -31,11 +30,10 @@ use Rattle.call_offer.specs.Offer.{Offered, placeAmong, offeredEvent, offerCall
 use Rattle.call_offer.specs.OfferCases.{OfferCase, offer-case, turned, repeats, accepted}
 use Rattle.demands.specs.Ledger.{Ledger}
 use Rattle.demands.specs.Run.{Passed, offers, Watch}
-use Rattle.demands.specs.EveryList.{atEnd}
 use Rattle.demands.specs.calls.PendingOrder.{clear-apart}
 use Rattle.demands.specs.calls.StoredFits.{causal-history}
 use Rattle.demands.specs.calls.WatchingLaws.{bytes-long, says-processes, says-pending, says-taken, never-34}
-use Rattle.demands.specs.lists.SoundRun.{Sound, sound-run}
+use Rattle.demands.specs.lists.SoundRun.{Sound, every-list}
 use Rattle.demands.specs.lists.WithoutAgains.{offer-idle}
 use Rattle.demands.specs.statements.Again.{Contradicts, AgainExact, AgainIsExact}
 
@@ -194,11 +192,4 @@ exact-of w k f start Z S =
     }
 
 pub again-exact : AgainIsExact
-again-exact w pos text k labels eight s window a cs p =
-    let x = sound-run w pos text k labels eight s window a cs p in (
-      x .0,
-      x .1,
-      x .2,
-      reader-accepts text k (x .1) (x .0) .0 (x .2) .0,
-      exact-of w k (x .0) (at labels) (atEnd w text k labels s window cs) (x .3),
-    )
+again-exact = every-list _ exact-of

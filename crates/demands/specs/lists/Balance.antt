@@ -5,15 +5,12 @@ use mathlib.Core.Path.{_≡_}
 use lib.ListN.{length}
 use Rattle.rules.specs.Formula.{Formula}
 use Rattle.rules.specs.Line.{linesAt}
-use Rattle.rules.specs.reading.ReaderAccepts.{reader-accepts}
 use Rattle.clocks.specs.Event.{Cut}
-use Rattle.clocks.specs.Counts.{at}
 use Rattle.records.specs.Record.{pendingCount}
 use Rattle.demands.specs.Run.{Watch}
-use Rattle.demands.specs.EveryList.{atEnd}
 use Rattle.demands.specs.statements.Balance.{AnswersBalanced, AnswersBalance}
 use Rattle.demands.specs.calls.WatchingLaws.{says-many}
-use Rattle.demands.specs.lists.SoundRun.{Sound, sound-run}
+use Rattle.demands.specs.lists.SoundRun.{Sound, every-list}
 
 balanced-of : (w k : ℕ) (f : Formula) (start : Cut) (Z : Watch) → Sound w k f start Z → AnswersBalanced Z
 balanced-of w k f start Z S =
@@ -30,6 +27,4 @@ balanced-of w k f start Z S =
 
 -- ---- Theorem
 pub answers-balanced : AnswersBalance
-answers-balanced w pos text k labels eight s window a cs p =
-    let x = sound-run w pos text k labels eight s window a cs p in
-    (x .0, x .1, x .2, reader-accepts text k (x .1) (x .0) .0 (x .2) .0, balanced-of w k (x .0) (at labels) (atEnd w text k labels s window cs) (x .3))
+answers-balanced = every-list _ balanced-of

@@ -21,24 +21,21 @@ use Rattle.window_laws.specs.FrontierLaws.{bit-wordOf}
 use Rattle.window_laws.specs.Represents.{modelOf, frontierOf}
 use Rattle.rules.specs.Line.{linesAt}
 use Rattle.rules.specs.Formula.{Formula}
-use Rattle.rules.specs.reading.ReaderAccepts.{reader-accepts}
 use Rattle.pactl.specs.Truth.{Property, lineTruth}
 use Rattle.clocks.specs.Event.{Cut}
-use Rattle.clocks.specs.Counts.{at}
 use Rattle.records.specs.Record.{keptCount, lineTotal, recordLength}
 use Rattle.refusals.specs.Refusals.{badRecordLength, badWindowLength, badState, roomOf}
 use Rattle.answers.specs.Answer.{Answer, turnedBack, found, absent}
 use Rattle.call_find.specs.Find.{findFrom, findCall}
 use Rattle.demands.specs.Run.{Watch}
 use Rattle.demands.specs.World.{worldOf, KeptCuts}
-use Rattle.demands.specs.EveryList.{atEnd}
 use Rattle.demands.specs.statements.Find.{FirstAt, lineOf, FindExact, FindIsExact}
 use Rattle.demands.specs.calls.ListPlaces.{member-take, which-first}
 use Rattle.demands.specs.calls.KeptCutsLaws.{represented-are, represented-cuts}
 use Rattle.demands.specs.calls.WatchingLaws.{bytes-long, says-lines, says-frontiers, never-34}
 use Rattle.demands.specs.calls.AfterCall.{room-iff}
 use Rattle.demands.specs.calls.FindLaws.{Finding, finding, first, nowhere}
-use Rattle.demands.specs.lists.SoundRun.{Sound, sound-run}
+use Rattle.demands.specs.lists.SoundRun.{Sound, every-list}
 
 -- ---- The first cut is one
 first-unique : (has : Property) (cuts : List Cut) (i j : ℕ) → FirstAt has cuts i → FirstAt has cuts j → i ≡ j
@@ -208,6 +205,4 @@ module _ (w k : ℕ) (f : Formula) (start : Cut) (Z : Watch) (S : Sound w k f st
 
 -- ---- Theorem
 pub find-first : FindIsExact
-find-first w pos text k labels eight s window a cs p =
-    let x = sound-run w pos text k labels eight s window a cs p in
-    (x .0, x .1, x .2, reader-accepts text k (x .1) (x .0) .0 (x .2) .0, find-of w k (x .0) (at labels) (atEnd w text k labels s window cs) (x .3))
+find-first = every-list _ find-of

@@ -9,24 +9,22 @@ use lib.ListN.{length}
 use Rattle.clocks.specs.declared.Event.{Event}
 use Rattle.clocks.specs.Event.{Cut, Ready, lowered}
 use Rattle.clocks.specs.History.{taken, Consistent}
-use Rattle.clocks.specs.Counts.{at}
 use Rattle.clocks.specs.Valid.{WellFormed, History}
 use Rattle.clocks.specs.validity.Exchange as exchange
 use Rattle.frontiers.specs.Bytes.{frontiers}
 use Rattle.records.specs.Record.{keptCount}
 use Rattle.rules.specs.Formula.{Formula}
 use Rattle.rules.specs.Line.{linesAt}
-use Rattle.rules.specs.reading.ReaderAccepts.{reader-accepts}
 use Rattle.demands.specs.Run.{Watch}
 use Rattle.demands.specs.Watching.{Watching}
 use Rattle.demands.specs.World.{Valid}
-use Rattle.demands.specs.EveryList.{atEnd, lentWindow}
+use Rattle.demands.specs.EveryList.{lentWindow}
 use Rattle.trial.specs.Trial.{validAmong}
 use Rattle.demands.specs.statements.Messages.{keptLent, MessagesExact, MessagesAreExact}
 use Rattle.demands.specs.calls.AfterCall.{lengthened}
 use Rattle.demands.specs.calls.ValidRule.{valid-rule}
 use Rattle.demands.specs.calls.WatchingLaws.{says-frontiers, valid-in}
-use Rattle.demands.specs.lists.SoundRun.{Sound, sound-run}
+use Rattle.demands.specs.lists.SoundRun.{Sound, every-list}
 
 -- the kept frontiers of a window lent longer are those of the history's kept cuts
 clock-exact-of : (w k : ℕ) (f : Formula) (start : Cut) (Z : Watch) → Sound w k f start Z → (more : ℕ) (e : Event)
@@ -55,11 +53,4 @@ messages-exact-of w k f start Z S = record {
 
 -- ---- Theorem
 pub messages-exact : MessagesAreExact
-messages-exact w pos text k labels eight s window a cs p =
-    let x = sound-run w pos text k labels eight s window a cs p in (
-      x .0,
-      x .1,
-      x .2,
-      reader-accepts text k (x .1) (x .0) .0 (x .2) .0,
-      messages-exact-of w k (x .0) (at labels) (atEnd w text k labels s window cs) (x .3),
-    )
+messages-exact = every-list _ messages-exact-of

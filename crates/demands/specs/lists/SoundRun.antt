@@ -19,7 +19,8 @@ use Rattle.demands.specs.Ledger.{occurrences}
 use Rattle.demands.specs.Run.{Call, Watch, after, run, opened}
 use Rattle.demands.specs.lists.LedgerBalance.{WatchBalanced, after-balanced}
 use Rattle.demands.specs.calls.AfterCall.{WatchRight, after-right}
-use Rattle.demands.specs.EveryList.{Accepts, EightBytes, AllPassed, atEnd}
+use Rattle.rules.specs.reading.ReaderAccepts.{reader-accepts}
+use Rattle.demands.specs.EveryList.{Accepts, EightBytes, AllPassed, atEnd, AfterEveryList}
 use Rattle.demands.specs.lists.AnswerCounts.{Said, after-said, open-said}
 
 -- What is true of it.
@@ -72,3 +73,15 @@ sound-run w pos text k labels eight s window a cs p = go (open-case w text k lab
                 reporting = open-reporting w k f (at labels) R (startFrontier 8 labels (linesAt 0 f) ∷ []) (opened-start w text k labels window pos (eight .0) (eight .1) f i h6 h5 h);
               })),
         )
+
+-- What is true of every sound watch is true at the end of every list.
+pub every-list : (P : ℕ → ℕ → Formula → Cut → Watch → Type 0)
+    → ((w k : ℕ) (f : Formula) (start : Cut) (Z : Watch) → Sound w k f start Z → P w k f start Z) → AfterEveryList P
+every-list P of w pos text k labels eight s window a cs p =
+    let x = sound-run w pos text k labels eight s window a cs p in (
+      x .0,
+      x .1,
+      x .2,
+      reader-accepts text k (x .1) (x .0) .0 (x .2) .0,
+      of w k (x .0) (at labels) (atEnd w text k labels s window cs) (x .3),
+    )

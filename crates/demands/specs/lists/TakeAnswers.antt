@@ -12,7 +12,7 @@ use Rattle.clocks.specs.declared.Event.{Event}
 use Rattle.window_laws.specs.Represents.{modelOf}
 use Rattle.clocks.specs.History.{taken}
 use Rattle.clocks.specs.Event.{Cut}
-use Rattle.clocks.specs.Counts.{at, listOf}
+use Rattle.clocks.specs.Counts.{listOf}
 use Rattle.demands.specs.Watching.{Rule, Watching}
 use Rattle.call_take.specs.Take.{takeCall, Taken}
 use Rattle.records.specs.Record.{recordLength}
@@ -26,13 +26,12 @@ use Rattle.clocks.specs.stored.BoundedLaws.{or-false-e}
 use Rattle.rules.specs.Formula.{Formula, meaning}
 use Rattle.rules.specs.Line.{linesAt}
 use Rattle.pactl.specs.Truth.{holds}
-use Rattle.rules.specs.reading.ReaderAccepts.{reader-accepts}
 use Rattle.demands.specs.Run.{Watch, after}
-use Rattle.demands.specs.EveryList.{atEnd, lentWindow, RightLengths, nextTake}
-use Rattle.demands.specs.statements.TakeAnswers.{NoRoom, FalseClock, Takes, AnswersExact, TakeIsExact, falsifiedLedger, chosenLedger}
+use Rattle.demands.specs.EveryList.{lentWindow, RightLengths, nextTake}
+use Rattle.demands.specs.statements.TakeAnswers.{NoRoom, FalseClock, Takes, AnswersExact, TakeIsExact, falsifiedLedger, chosenLedger, TakeExact}
 use Rattle.demands.specs.calls.KeptCutsLaws.{number-unique}
 use Rattle.demands.specs.calls.TakeLowers.{take-lowers}
-use Rattle.demands.specs.lists.SoundRun.{Sound, sound-run}
+use Rattle.demands.specs.lists.SoundRun.{Sound, every-list}
 use Rattle.demands.specs.lists.TakeCases.{stops-pending, one-stop, false-stopping, takes-stopping, not-both, Answered, answered, nothing, full, falsified, took}
 
 -- ---- Each answer exactly if
@@ -242,22 +241,16 @@ module _ (w k : ℕ) (f : Formula) (start : Cut) (Z : Watch) (S : Sound w k f st
         ledger-state = state-ledger w k f start (S .rule) (Z .ledger) (Z .bytes) lent longer scratch b;
       }
 
+take-exact-of : (w k : ℕ) (f : Formula) (start : Cut) (Z : Watch) → Sound w k f start Z → TakeExact w k f start Z
+take-exact-of w k f start Z S = record {
+  wrong-lengths = six-exactly w k f start Z S;
+  right-lengths = answers-exact w k f start Z S;
+  never-34 = not-34 w k f start Z S;
+  lowers =
+      λ more scratch. take-lowers w k (linesAt 0 f) start (S .rule) (Z .ledger) (Z .bytes) (lentWindow Z more)
+      (lengthened w k (linesAt 0 f) start (S .rule) (Z .ledger) (Z .bytes) (Z .window) (S .right) more) scratch;
+}
+
 -- ---- Theorem
 pub take-exact : TakeIsExact
-take-exact w pos text k labels eight s window a cs p =
-    let x = sound-run w pos text k labels eight s window a cs p in
-    let f : Formula = x .0 in
-    let Z : Watch = atEnd w text k labels s window cs in
-    let S : Sound w k f (at labels) Z = x .3 in (
-      f,
-      x .1,
-      x .2,
-      reader-accepts text k (x .1) f .0 (x .2) .0,
-      record {
-        wrong-lengths = six-exactly w k f (at labels) Z S;
-        right-lengths = answers-exact w k f (at labels) Z S;
-        never-34 = not-34 w k f (at labels) Z S;
-        lowers = λ more scratch. take-lowers w k (linesAt 0 f) (at labels) (S .rule) (Z .ledger) (Z .bytes) (lentWindow Z more)
-            (lengthened w k (linesAt 0 f) (at labels) (S .rule) (Z .ledger) (Z .bytes) (Z .window) (S .right) more) scratch;
-      },
-    )
+take-exact = every-list _ take-exact-of

@@ -13,17 +13,14 @@ use Rattle.frontiers.specs.Bytes.{frontiers}
 use Rattle.rules.specs.Line.{linesAt}
 use Rattle.pactl.specs.Truth.{lineTruth}
 use Rattle.rules.specs.lines.LinesMean.{rule-means}
-use Rattle.rules.specs.reading.ReaderAccepts.{reader-accepts}
 use Rattle.rules.specs.Formula.{Formula}
 use Rattle.clocks.specs.Event.{Cut}
-use Rattle.clocks.specs.Counts.{at}
 use Rattle.records.specs.Record.{keptCount}
 use Rattle.refusals.specs.Refusals.{badState}
 use Rattle.demands.specs.calls.WatchingLaws.{says-frontiers, says-kept, never-34}
 use Rattle.demands.specs.Run.{Watch}
-use Rattle.demands.specs.lists.SoundRun.{Sound, sound-run}
+use Rattle.demands.specs.lists.SoundRun.{Sound, every-list}
 use Rattle.demands.specs.World.{worldOf}
-use Rattle.demands.specs.EveryList.{atEnd}
 use native.Mathlib.Omega.{arith}
 use Rattle.pactl.specs.declared.Line.{Line}
 use Rattle.demands.specs.statements.WindowExact.{WindowExact, WindowIsExact}
@@ -68,6 +65,4 @@ module _ (w k : ℕ) (f : Formula) (start : Cut) (Z : Watch) (S : Sound w k f st
 
 -- ---- Theorem
 pub window-exact : WindowIsExact
-window-exact w pos text k labels eight s window a cs p =
-    let x = sound-run w pos text k labels eight s window a cs p in
-    (x .0, x .1, x .2, reader-accepts text k (x .1) (x .0) .0 (x .2) .0, window-exact-of w k (x .0) (at labels) (atEnd w text k labels s window cs) (x .3))
+window-exact = every-list _ window-exact-of
