@@ -252,13 +252,14 @@ static uint64_t offer_next(struct side *s, unsigned p, const uint16_t *known) {
     return offer_event(s, 1u << p, clock);
 }
 
-/* Free events of k processes in turn, until one stays pending for want of room. The counts taken go into reached. */
+/* Free events of k processes in turn, until the window is full or one stays pending for want of room. The counts taken
+ * go into reached. */
 static void fill(unsigned k, uint16_t *reached) {
     saved.k = k, saved.rule = RULE_8, saved.length = WINDOW;
     start_over(&plain);
     open_watch(&plain);
     memset(reached, 0, 8 * sizeof *reached);
-    for (unsigned p = 0;; p = (p + 1) % k) {
+    for (unsigned p = 0; watch_kept(plain.record) < WATCH_ROOM; p = (p + 1) % k) {
         uint16_t known[8] = {0};
         known[p] = reached[p];
         offer_next(&plain, p, known);
@@ -267,15 +268,10 @@ static void fill(unsigned k, uint16_t *reached) {
     }
 }
 
-/* The last frontier is the one; a frontier that is not kept is looked for; each of eight ready events is tried. */
+/* The last frontier is the one; then one that is not kept is looked for; then each of eight ready events is tried. */
 static void clocks(void) {
-    uint16_t reached[8], known[8];
-    fill(2, reached);
-    save(&plain);
-    saved.record[2] = 0;
-    memset(saved.record + WATCH_RECORD_BYTES - 32 * 32, 0, 32 * 32);
-    start_over(&plain);
-    memcpy(known, reached, sizeof known);
+    uint16_t known[8], reached[8];
+    fill(2, known);
     offer_next(&plain, 0, known);
     save(&plain);
     measure("take, it knows the last of 1,024 kept", one_take, 1, ROUNDS);
