@@ -14,8 +14,8 @@ ghost use Rattle.window.specs.StepCode.{complete, staysWith};
 ghost use Rattle.window.specs.Prepared.{lowest, highest, bound, boundCounts, openOnes};
 
 // 1 for a process that takes part, 0 for another. As a number, so that the bounds of eight processes are made by the
-// same arithmetic: of truths the compiler makes a choice for each process, and then no longer tests eight counts at
-// once.
+// same arithmetic: with bounds made of truths the compiler stopped testing eight counts at once when the code around
+// them changed.
 fn part(mask: u64, p: u32) -> u32
     requires { ⌜ p < 64 ⌝ }
     ensures { λ r. ⌜ (r ≡ one (bit mask p)) × (r ≤ 1) ⌝ }
