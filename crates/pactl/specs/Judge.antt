@@ -9,29 +9,32 @@ use lib.ListN.{getD}
 use Rattle.codec.specs.Bit.{bit}
 use Rattle.pactl.specs.declared.Line.{Line}
 
--- ---- The six kinds, in the order of source 000, section 3. v has the bits of the earlier lines, i is the line's own number.
+-- ---- The six clauses
 
--- Proposition b of process a, which the process's label byte says.
+-- In the order of source 000, section 3, where each is a sentence under "Calculating the Values of Subformulas on the
+-- Nodes". v has the bits of the earlier lines, i is the line's own number. That each gives PaCTL's truth: Clauses.
+
+-- Sentence 1, val(F, q): proposition b of process a, which the process's label byte says.
 unfoldable pub propositionJudged : List ℕ → ℕ → ℕ → Bool
 propositionJudged labels a b = bit (getD labels a 0) b
 
--- Not line a.
+-- Sentence 2, val(F, ¬η): not line a.
 unfoldable pub notJudged : ℕ → ℕ → Bool
 notJudged v a = not (bit v a)
 
--- Line a and line b.
+-- Sentence 3, val(F, (η₁ ∧ η₂)): line a and line b.
 unfoldable pub andJudged : ℕ → ℕ → ℕ → Bool
 andJudged v a b = bit v a && bit v b
 
--- EY a: some preceding cut has line a.
+-- Sentence 4, val(F, EY η): some preceding cut has line a.
 unfoldable pub eyJudged : ℕ → ℕ → Bool
 eyJudged any a = bit any a
 
--- E(a S b): line b, or line a and some preceding cut has this line.
+-- Sentence 5, val(F, E(η₁ S η₂)): line b, or line a and some preceding cut has this line.
 unfoldable pub esJudged : ℕ → ℕ → ℕ → ℕ → ℕ → Bool
 esJudged v any i a b = bit v b || (bit v a && bit any i)
 
--- A(a S b): line b, or line a and there is a preceding cut and all of them have this line.
+-- Sentence 6, val(F, A(η₁ S η₂)): line b, or line a and there is a preceding cut and all of them have this line.
 unfoldable pub asJudged : ℕ → ℕ → Bool → ℕ → ℕ → ℕ → Bool
 asJudged v all preceded i a b = bit v b || (bit v a && (preceded && bit all i))
 

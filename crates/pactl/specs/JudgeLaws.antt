@@ -5,16 +5,16 @@ use native.Mathlib.Omega.{arith}
 use native.Mathlib.Nat.{add-zero, zero-add, pow-suc}
 use native.Mathlib.Numerals.{add-one}
 use mathlib.Core.Path.{_≡_, refl, sym, _∙_}
-use mathlib.Core.Bool.{Bool, true, false, cond, _&&_, _||_}
+use mathlib.Core.Bool.{Bool, true, false}
 use mathlib.Core.List.{List, [], _∷_}
-use lib.Dec.{leb, ltb, eqb, lit<}
+use lib.Dec.{eqb, lit<}
 use lib.ListN.{length, getD}
-use borrow.Author.Tests.{ltb-true, eqb-true}
 use Rattle.codec.specs.Bit.{bit}
 use Rattle.codec.specs.BitLaws.{bit-above, bit-top, bit-under-top}
 use Rattle.pactl.specs.declared.Line.{Line}
 use Rattle.pactl.specs.Judge.{notJudged, andJudged, esJudged, asJudged, judgeLine, withBit, judgeFrom, judge}
 use Rattle.pactl.specs.Table.{goodLine, goodFrom, goodTable}
+use Rattle.pactl.specs.GoodLineLaws.{good-earlier}
 use Rattle.pactl.specs.TableBytesLaws.{linesFrom-next, linesFrom-end}
 use Rattle.pactl.specs.TableBytes.{lineAt, linesFrom}
 use Rattle.clocks.specs.stored.BoundedLaws.{and-true}
@@ -33,24 +33,6 @@ withBit-under : (v i : ℕ) (t : Bool) (j : ℕ) → j < i → bit (withBit v i 
 withBit-under v i true j h = bit-under-top v i j h
 withBit-under v i false j h = refl
 
--- Good lines name earlier lines only
-
--- What a good line that is no proposition has in a and b are earlier lines, an unused b too.
-pub good-earlier : (k i : ℕ) (l : Line) → goodLine k i l ≡ true → eqb (l .kind) 0 ≡ false → (l .a < i) × (l .b < i)
-unfolding goodLine
-good-earlier k i l h e = go (eqb (l .kind) 1 || eqb (l .kind) 3) (rw e at h)
-  where
-    go : (t : Bool) → cond t (ltb (l .a) i && eqb (l .b) 0) (leb (l .kind) 5 && (ltb (l .a) i && ltb (l .b) i)) ≡ true
-        → (l .a < i) × (l .b < i)
-    go true g =
-        let p = and-true (ltb (l .a) i) (eqb (l .b) 0) g in
-        let a : l .a < i = ltb-true (l .a) i (p .0) in
-        let b : l .b ≡ 0 = eqb-true (l .b) 0 (p .1) in
-        (a, omega arith)
-    go false g =
-        let p = and-true (ltb (l .a) i) (ltb (l .b) i) (and-true (leb (l .kind) 5) (ltb (l .a) i && ltb (l .b) i) g .1) in
-        (ltb-true (l .a) i (p .0), ltb-true (l .b) i (p .1))
-
 module _ (labels : List ℕ) (any all : ℕ) (preceded : Bool) where
   -- Two words that agree below line i give a good line i the same truth.
   judgeLine-local : (v w k i : ℕ) (l : Line) → goodLine k i l ≡ true → ((j : ℕ) → j < i → bit v j ≡ bit w j)
@@ -66,13 +48,15 @@ module _ (labels : List ℕ) (any all : ℕ) (preceded : Bool) where
           rw (agree (l .a) (p .0), agree (l .b) (p .1))
 
   -- Later lines leave the bits of earlier ones as they are.
-  judgeFrom-under : (v i : ℕ) (ls : List Line) (j : ℕ) → j < i → bit (judgeFrom labels any all preceded v i ls) j ≡ bit v j
+  judgeFrom-under : (v i : ℕ) (ls : List Line) (j : ℕ) → j < i
+      → bit (judgeFrom labels any all preceded v i ls) j ≡ bit v j
   unfolding judgeFrom
   judgeFrom-under v i [] j h = refl
   judgeFrom-under v i (l ∷ ls) j h =
       judgeFrom-under _ (i + 1) ls j (omega arith) ∙ withBit-under v i (judgeLine labels v any all preceded i l) j h
 
-  pub judgeFrom-lt : (v i : ℕ) (ls : List Line) → v < 2 ^ i → judgeFrom labels any all preceded v i ls < 2 ^ (i + length ls)
+  pub judgeFrom-lt : (v i : ℕ) (ls : List Line) → v < 2 ^ i
+      → judgeFrom labels any all preceded v i ls < 2 ^ (i + length ls)
   unfolding judgeFrom
   judgeFrom-lt v i [] h = rw (add-zero i) h
   judgeFrom-lt v i (l ∷ ls) h =
@@ -96,7 +80,8 @@ module _ (labels : List ℕ) (any all : ℕ) (preceded : Bool) where
   judgeFrom-bit v k i (x ∷ ls) (suc j) d h g l =
       let t = judgeLine labels v any all preceded i x in
       let e : i + suc j ≡ i + 1 + j = omega arith in
-      rw e (judgeFrom-bit (withBit v i t) k (i + 1) ls j d (withBit-lt v i t h) (and-true (goodLine k i x) (goodFrom k (i + 1) ls) g .1) (omega arith))
+      let rest : goodFrom k (i + 1) ls ≡ true = and-true (goodLine k i x) (goodFrom k (i + 1) ls) g .1 in
+      rw e (judgeFrom-bit (withBit v i t) k (i + 1) ls j d (withBit-lt v i t h) rest (omega arith))
 
   -- A frontier's word has bits below the number of lines only.
   pub judge-lt : (ls : List Line) → judge labels any all preceded ls < 2 ^ length ls
@@ -114,10 +99,12 @@ module _ (labels : List ℕ) (any all : ℕ) (preceded : Bool) where
   -- Judging the lines from line i on of a table's bytes: line i, then those behind it.
   pub judgeFrom-next : (v : ℕ) (bytes : List ℕ) (n i : ℕ) → i < n
       → judgeFrom labels any all preceded v i (linesFrom bytes (n - i) i)
-      ≡ judgeFrom labels any all preceded (withBit v i (judgeLine labels v any all preceded i (lineAt bytes i))) (i + 1) (linesFrom bytes (n - (i + 1)) (i + 1))
+      ≡ judgeFrom labels any all preceded
+      (withBit v i (judgeLine labels v any all preceded i (lineAt bytes i))) (i + 1) (linesFrom bytes (n - (i + 1)) (i + 1))
   unfolding judgeFrom
   judgeFrom-next v bytes n i h = rw (linesFrom-next bytes n i h)
 
-  pub judgeFrom-end : (v : ℕ) (bytes : List ℕ) (n i : ℕ) → n ≤ i → judgeFrom labels any all preceded v i (linesFrom bytes (n - i) i) ≡ v
+  pub judgeFrom-end : (v : ℕ) (bytes : List ℕ) (n i : ℕ) → n ≤ i
+      → judgeFrom labels any all preceded v i (linesFrom bytes (n - i) i) ≡ v
   unfolding judgeFrom
   judgeFrom-end v bytes n i h = rw (linesFrom-end bytes n i h)

@@ -6,13 +6,18 @@ pub mod Line
 pub mod Table
 pub mod TableBytes
 pub mod Truth
+pub mod ModelCuts
 pub mod Judge
+pub mod Clauses
 -- What is proved of tables
 pub mod TableLaws
 pub mod TableBytesLaws
+pub mod GoodLineLaws
 -- What is proved of truth
 pub mod TruthLaws
 pub mod TruthLocal
 pub mod LineTruthLaws
+-- What is proved of judging
 pub mod JudgeLaws
+pub mod ClauseLaws
 pub mod JudgeTruth

@@ -6,6 +6,7 @@ use mathlib.Core.List.{List, [], _∷_, _++_}
 use lib.ListN.{length, getD, take, drop, length-append, length-take, List·getD-append}
 use lib.Seq.{split-at, getD-at}
 use Rattle.pactl.specs.declared.Line.{Line}
+use Rattle.pactl.specs.Table.{LineIs}
 use Rattle.pactl.specs.Truth.{Model, Property, propositionHolds, notHolds, andHolds, eyHolds, esHolds, asHolds, never, lineHolds, linesHold, lineTruth}
 use Rattle.pactl.specs.Line.{line, propositionLine, notLine, andLine, eyLine, esLine, asLine}
 
@@ -32,10 +33,6 @@ pub record Made (M : Model) (ls : List Line) (i : ℕ) (l : Line) : Type 0 where
   pub earlier : List Property
   pub agrees : (a : ℕ) → a < i → getD earlier a never ≡ lineTruth M ls a
   pub made : lineTruth M ls i ≡ lineHolds M earlier l
-
--- line i of a table is l
-abbrev pub LineIs : List Line → ℕ → Line → Type 0
-LineIs ls i l = (i < length ls) × (getD ls i (line 0 0 0) ≡ l)
 
 pub line-made : (M : Model) (ls : List Line) (i : ℕ) (l : Line) → LineIs ls i l → Made M ls i l
 unfolding lineTruth linesHold

@@ -1,14 +1,21 @@
 -- A rule's table: the bytes of its lines, and which lines are good.
-use Prim.Native.Nat.{ℕ, _+_}
+use Prim.Native.Nat.{ℕ, _+_, _<_}
+use mathlib.Core.Path.{_≡_}
 use mathlib.Core.Bool.{Bool, true, cond, _&&_, _||_}
 use mathlib.Core.List.{List, [], _∷_}
 use lib.Dec.{leb, ltb, eqb}
+use lib.ListN.{length, getD}
 use Rattle.pactl.specs.declared.Line.{Line}
+use Rattle.pactl.specs.Line.{line}
 
 -- The bytes of a table: three for each line (01, The rule).
 unfoldable pub tableBytes : List Line → List ℕ
 tableBytes [] = []
 tableBytes (l ∷ ls) = l .kind ∷ l .a ∷ l .b ∷ tableBytes ls
+
+-- Line i of a table is l.
+abbrev pub LineIs : List Line → ℕ → Line → Type 0
+LineIs ls i l = (i < length ls) × (getD ls i (line 0 0 0) ≡ l)
 
 -- Line i is good, with k processes (01, Turned back, from the state: 34): its kind is at most 5, its process below k
 -- and its proposition at most 7, the lines it names are earlier, an unused b is 0.

@@ -8,7 +8,6 @@ use mathlib.Core.List.{List, [], _∷_, List·Memᴰ, List·Memᴰ·head, List·
 use mathlib.Core.Logic.{_⊎_, inl, inr, ⊎-elim, _↔_}
 use lib.Dec.{T, T-not, not-T}
 use Rattle.clocks.specs.declared.Event.{Event}
-use Rattle.clocks.specs.History.{Consistent, Precedes}
 use Rattle.clocks.specs.Event.{Cut, involved}
 use Rattle.clocks.specs.validity.ClockRule.{consistent-silent}
 use Rattle.clocks.specs.Bounded.{anyOf}
@@ -16,23 +15,9 @@ use Rattle.clocks.specs.cuts.EventLaws.{T-true, apply-next, apply-up}
 use Rattle.clocks.specs.cuts.Predecessors.{predecessor}
 use Rattle.clocks.specs.stored.TestedLaws.{in-takeable, involved-below}
 use Rattle.clocks.specs.stored.BoundedLaws.{and-i, and-l, and-r, or-l, or-r, or-e, any-of-i, any-of-e}
-use Rattle.clocks.specs.Valid.{WellFormed, History, ClockRule}
+use Rattle.clocks.specs.Valid.{WellFormed}
 use Rattle.pactl.specs.Truth.{Model, Property, allOf, size, unrolled, recursive, eyHolds, esStep, esHolds, asStep, notHolds, andHolds, asHolds, before}
-
--- ---- Where they hold
-
--- The model's events are a history under some rule for valid clocks.
-pub record Ruled (M : Model) (valid : List Event → Event → Type 0) : Type 0 where
-  pub rule : ClockRule (M .processes) valid
-  pub by-rule : History (M .processes) valid (M .history)
-
--- A consistent cut of the model.
-abbrev pub CutOf : Model → Cut → Type 0
-CutOf M S = Consistent (M .history) S
-
--- One cut of the model precedes another.
-abbrev pub Leads : Model → Cut → Cut → Type 0
-Leads M S′ S = Precedes (M .history) S′ S
+use Rattle.pactl.specs.ModelCuts.{Ruled, CutOf, Leads}
 
 -- ---- Tests over a list
 pub all-of-i : {A : Type 0} (t : A → Bool) (xs : List A) → ((x : A) → List·Memᴰ x xs → T (t x)) → T (allOf t xs)

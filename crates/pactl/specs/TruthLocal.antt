@@ -17,7 +17,8 @@ use Rattle.clocks.specs.cuts.EventLaws.{apply-up}
 use Rattle.clocks.specs.stored.BoundedLaws.{same-test}
 use Rattle.clocks.specs.cuts.Agree.{agree-sym, agree-below, agree-consistent, agree-precedes}
 use Rattle.clocks.specs.Valid.{History, ClockRule}
-use Rattle.pactl.specs.TruthLaws.{Ruled, Leads, recursive-is, es-looks, some-before, all-before, leads-smaller, as-looks}
+use Rattle.pactl.specs.ModelCuts.{Ruled, Leads}
+use Rattle.pactl.specs.TruthLaws.{recursive-is, es-looks, some-before, all-before, leads-smaller, as-looks}
 use Rattle.pactl.specs.Truth.{Model, Property, allOf, size, propositionHolds, notHolds, andHolds, eyHolds, esStep, esHolds, asStep, asHolds, holds, lineHolds, linesHold, lineTruth, never, before}
 use Rattle.pactl.specs.declared.Line.{Line}
 use Rattle.pactl.specs.Pactl.{Pactl, proposition, negation, conjunction, existsYesterday, existsSince, allSince}

@@ -20,7 +20,10 @@ fn has(word: u64, p: u8) -> bool
     }
 }
 
-// Proposition b of process a.
+// The six clauses, in the order of source 000, section 3, where each is a sentence under "Calculating the Values of
+// Subformulas on the Nodes".
+
+// Sentence 1, val(F, q): proposition b of process a.
 fn judge_proposition(labels: [u8; 8], a: u8, b: u8) -> bool
     ensures { λ r. ⌜ r ≡ propositionJudged labels a b ⌝ }
 {
@@ -31,42 +34,42 @@ fn judge_proposition(labels: [u8; 8], a: u8, b: u8) -> bool
     }
 }
 
-// Not line a.
+// Sentence 2, val(F, ¬η): not line a.
 fn judge_not(v: u64, a: u8) -> bool
     ensures { λ r. ⌜ r ≡ notJudged v a ⌝ }
 {
     !has(v, a)
 }
 
-// Line a and line b.
+// Sentence 3, val(F, (η₁ ∧ η₂)): line a and line b.
 fn judge_and(v: u64, a: u8, b: u8) -> bool
     ensures { λ r. ⌜ r ≡ andJudged v a b ⌝ }
 {
     has(v, a) & has(v, b)
 }
 
-// EY a.
+// Sentence 4, val(F, EY η): line a at some preceding cut.
 fn judge_ey(any: u64, a: u8) -> bool
     ensures { λ r. ⌜ r ≡ eyJudged any a ⌝ }
 {
     has(any, a)
 }
 
-// E(a S b).
+// Sentence 5, val(F, E(η₁ S η₂)): line b, or line a and this line at some preceding cut.
 fn judge_es(v: u64, any: u64, i: u8, a: u8, b: u8) -> bool
     ensures { λ r. ⌜ r ≡ esJudged v any i a b ⌝ }
 {
     has(v, b) | (has(v, a) & has(any, i))
 }
 
-// A(a S b): false without b where nothing precedes.
+// Sentence 6, val(F, A(η₁ S η₂)): line b, or line a and this line at every preceding cut, where there is one.
 fn judge_as(v: u64, all: u64, preceded: bool, i: u8, a: u8, b: u8) -> bool
     ensures { λ r. ⌜ r ≡ asJudged v all preceded i a b ⌝ }
 {
     has(v, b) | (has(v, a) & (preceded & has(all, i)))
 }
 
-// Line i, by its kind.
+// Line i, by its kind: kinds 0 to 5 are sentences 1 to 6.
 fn judge_line(
     labels: [u8; 8],
     v: u64,

@@ -12,7 +12,7 @@ use lib.ListN.{getD, length, length-map}
 use lib.Count.{trailingZeros}
 use borrow.Author.Tests.{eq-eqb, ne-eqb}
 use Rattle.clocks.specs.declared.Event.{Event}
-use Rattle.pactl.specs.TruthLaws.{Ruled, Leads}
+use Rattle.pactl.specs.ModelCuts.{Ruled, Leads}
 use Rattle.pactl.specs.Truth.{Model, lineTruth}
 use Rattle.clocks.specs.History.{maskOf, Consistent, Follows, Causal, ofEvent, taken, event, labelOf}
 use Rattle.clocks.specs.Event.{Cut, involved, Ready, apply, minus, less}

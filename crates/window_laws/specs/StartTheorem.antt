@@ -11,7 +11,7 @@ use Rattle.clocks.specs.declared.Event.{Event}
 use Rattle.codec.specs.Bit.{bit}
 use Rattle.codec.specs.BitLaws.{bit-zero}
 use Rattle.pactl.specs.Judge.{judge}
-use Rattle.pactl.specs.TruthLaws.{Leads}
+use Rattle.pactl.specs.ModelCuts.{Leads}
 use Rattle.pactl.specs.Truth.{Model, lineTruth}
 use Rattle.pactl.specs.JudgeTruth.{judged-right}
 use Rattle.clocks.specs.History.{taken, event, labelOf, Consistent, maskOf}

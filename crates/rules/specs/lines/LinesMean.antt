@@ -10,7 +10,8 @@ use lib.Seq.{getD-append-add}
 use Rattle.pactl.specs.declared.Line.{Line}
 use Rattle.rules.specs.Line.{trueLines, constantLines, linesBefore, linesAfter, constantWeight, linesBetween, linesAfterBoth, lineCount, lastLine, linesAt}
 use Rattle.pactl.specs.Truth.{Model, Property, propositionHolds, notHolds, andHolds, holds, lineTruth, eyHolds, esHolds, asHolds}
-use Rattle.pactl.specs.LineTruthLaws.{LineIs, proposition-line, not-line, and-line, ey-line, es-line, as-line}
+use Rattle.pactl.specs.Table.{LineIs}
+use Rattle.pactl.specs.LineTruthLaws.{proposition-line, not-line, and-line, ey-line, es-line, as-line}
 use Rattle.rules.specs.Formula.{constantMeaning, unaryMeaning, Formula, binaryMeaning, meaning, atom, constant, unary, binary}
 use Rattle.rules.specs.declared.Constant.{Constant}
 use Rattle.rules.specs.declared.Constant.the-variants.{True, False}

@@ -1,0 +1,58 @@
+/* Stands around the calls of the library and writes down each reply and, as the call left them, all bytes that were
+ * lent for writing, to the file that RECORDING names. Linked with --wrap for each call: whoever makes the calls knows
+ * nothing of it. */
+#include <stdio.h>
+#include <stdlib.h>
+
+#include "../include/watch.h"
+
+extern __typeof__(watch_open) __real_watch_open, __wrap_watch_open;
+extern __typeof__(watch_offer) __real_watch_offer, __wrap_watch_offer;
+extern __typeof__(watch_take) __real_watch_take, __wrap_watch_take;
+extern __typeof__(watch_find) __real_watch_find, __wrap_watch_find;
+
+static void put(const void *bytes, size_t length) {
+    static FILE *recording;
+    if (recording == NULL) {
+        const char *name = getenv("RECORDING");
+        recording = name == NULL ? NULL : fopen(name, "wb");
+    }
+    if (recording == NULL || fwrite(bytes, 1, length, recording) != length) {
+        fprintf(stderr, "recorder: cannot write to what RECORDING names\n");
+        exit(2);
+    }
+}
+
+static uint64_t put_reply(uint64_t reply) {
+    put(&reply, sizeof reply);
+    return reply;
+}
+
+uint64_t __wrap_watch_open(const uint8_t *rule, size_t rule_len, uint64_t k, uint64_t start_labels, uint8_t *record,
+                           size_t record_len, uint8_t *window, size_t window_len) {
+    uint64_t reply = __real_watch_open(rule, rule_len, k, start_labels, record, record_len, window, window_len);
+    put(record, record_len);
+    put(window, window_len);
+    return put_reply(reply);
+}
+
+uint64_t __wrap_watch_offer(uint64_t mask, uint64_t low, uint64_t high, uint64_t labels, uint8_t *record,
+                            size_t record_len) {
+    uint64_t reply = __real_watch_offer(mask, low, high, labels, record, record_len);
+    put(record, record_len);
+    return put_reply(reply);
+}
+
+uint64_t __wrap_watch_take(uint8_t *record, size_t record_len, uint8_t *window, size_t window_len, uint8_t *scratch,
+                           size_t scratch_len) {
+    uint64_t reply = __real_watch_take(record, record_len, window, window_len, scratch, scratch_len);
+    put(record, record_len);
+    put(window, window_len);
+    put(scratch, scratch_len);
+    return put_reply(reply);
+}
+
+uint64_t __wrap_watch_find(uint64_t line, const uint8_t *record, size_t record_len, const uint8_t *window,
+                           size_t window_len) {
+    return put_reply(__real_watch_find(line, record, record_len, window, window_len));
+}
