@@ -29,12 +29,12 @@ holds-append M earlier [] ys = refl
 holds-append M earlier (x ∷ xs) ys = holds-append M (earlier ++ (lineHolds M earlier x ∷ [])) xs ys
 
 -- ---- line i is made from the properties of the lines before it
-pub record Made (M : Model) (ls : List Line) (i : ℕ) (l : Line) : Type 0 where
+record Made (M : Model) (ls : List Line) (i : ℕ) (l : Line) : Type 0 where
   pub earlier : List Property
   pub agrees : (a : ℕ) → a < i → getD earlier a never ≡ lineTruth M ls a
   pub made : lineTruth M ls i ≡ lineHolds M earlier l
 
-pub line-made : (M : Model) (ls : List Line) (i : ℕ) (l : Line) → LineIs ls i l → Made M ls i l
+line-made : (M : Model) (ls : List Line) (i : ℕ) (l : Line) → LineIs ls i l → Made M ls i l
 unfolding lineTruth linesHold
 line-made M ls i l h = record { earlier = E; agrees = agrees; made = made }
   where
