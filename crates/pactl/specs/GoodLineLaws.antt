@@ -2,7 +2,7 @@
 use Prim.Native.Nat.{ℕ, zero, suc, _+_, _<_}
 use native.Mathlib.Omega.{arith}
 use mathlib.Core.Path.{_≡_, sym, _∙_}
-use mathlib.Core.Bool.{Bool, true, false, true≢false, cond, _&&_, _||_}
+use mathlib.Core.Bool.{true, false, true≢false, _&&_}
 use mathlib.Core.List.{List, [], _∷_}
 use lib.Dec.{leb, ltb, eqb}
 use lib.ListN.{length, getD}
@@ -27,23 +27,7 @@ pub good-at : (k : ℕ) (ls : List Line) (i : ℕ) → goodTable k ls ≡ true �
     → goodLine k i (getD ls i (line 0 0 0)) ≡ true
 good-at k ls i g h = let e : 0 + i ≡ i = omega arith in rw e at (good-from k 0 ls i g h)
 
--- What a good line that is no proposition has in a and b are earlier lines, an unused b too.
-pub good-earlier : (k i : ℕ) (l : Line) → goodLine k i l ≡ true → eqb (l .kind) 0 ≡ false → (l .a < i) × (l .b < i)
-unfolding goodLine
-good-earlier k i l h e = go (eqb (l .kind) 1 || eqb (l .kind) 3) (rw e at h)
-  where
-    go : (t : Bool) → cond t (ltb (l .a) i && eqb (l .b) 0) (leb (l .kind) 5 && (ltb (l .a) i && ltb (l .b) i)) ≡ true
-        → (l .a < i) × (l .b < i)
-    go true g =
-        let p = and-true (ltb (l .a) i) (eqb (l .b) 0) g in
-        let a : l .a < i = ltb-true (l .a) i (p .0) in
-        let b : l .b ≡ 0 = eqb-true (l .b) 0 (p .1) in
-        (a, omega arith)
-    go false g =
-        let both = and-true (leb (l .kind) 5) (ltb (l .a) i && ltb (l .b) i) g .1 in
-        let p = and-true (ltb (l .a) i) (ltb (l .b) i) both in
-        (ltb-true (l .a) i (p .0), ltb-true (l .b) i (p .1))
-
+-- ---- The kinds
 no-kind-above : (k i kind a b : ℕ) → 5 < kind → goodLine k i (line kind a b) ≡ false
 unfolding goodLine
 no-kind-above k i kind a b h =
@@ -53,6 +37,13 @@ no-kind-above k i kind a b h =
       ne-eqb kind 3 (λ e. omega (arith, e)),
       lt-leb kind 5 h,
     )
+
+-- a names an earlier line and b nothing; both name earlier lines
+one-named : (i a b : ℕ) → ltb a i && eqb b 0 ≡ true → (a < i) × (b ≡ 0)
+one-named i a b h = let p = and-true (ltb a i) (eqb b 0) h in (ltb-true a i (p .0), eqb-true b 0 (p .1))
+
+two-named : (i a b : ℕ) → ltb a i && ltb b i ≡ true → (a < i) × (b < i)
+two-named i a b h = let p = and-true (ltb a i) (ltb b i) h in (ltb-true a i (p .0), ltb-true b i (p .1))
 
 -- What is true of a good line of each kind is true of every good line.
 module _ (k i : ℕ) (P : Line → Type 0)
@@ -65,20 +56,24 @@ module _ (k i : ℕ) (P : Line → Type 0)
   of-kind : (kind a b : ℕ) → goodLine k i (line kind a b) ≡ true → P (line kind a b)
   unfolding goodLine
   of-kind zero a b h = of-proposition a b (ltb-true a k (and-true (ltb a k) (leb b 7) h .0))
-  of-kind (suc zero) a b h =
-      let p = and-true (ltb a i) (eqb b 0) h in
-      rw (eqb-true b 0 (p .1)) (of-not a (ltb-true a i (p .0)))
-  of-kind (suc (suc zero)) a b h =
-      let p = and-true (ltb a i) (ltb b i) h in of-and a b (ltb-true a i (p .0)) (ltb-true b i (p .1))
-  of-kind (suc (suc (suc zero))) a b h =
-      let p = and-true (ltb a i) (eqb b 0) h in
-      rw (eqb-true b 0 (p .1)) (of-ey a (ltb-true a i (p .0)))
-  of-kind (suc (suc (suc (suc zero)))) a b h =
-      let p = and-true (ltb a i) (ltb b i) h in of-es a b (ltb-true a i (p .0)) (ltb-true b i (p .1))
-  of-kind (suc (suc (suc (suc (suc zero))))) a b h =
-      let p = and-true (ltb a i) (ltb b i) h in of-as a b (ltb-true a i (p .0)) (ltb-true b i (p .1))
+  of-kind (suc zero) a b h = let n = one-named i a b h in rw (n .1) (of-not a (n .0))
+  of-kind (suc (suc zero)) a b h = let n = two-named i a b h in of-and a b (n .0) (n .1)
+  of-kind (suc (suc (suc zero))) a b h = let n = one-named i a b h in rw (n .1) (of-ey a (n .0))
+  of-kind (suc (suc (suc (suc zero)))) a b h = let n = two-named i a b h in of-es a b (n .0) (n .1)
+  of-kind (suc (suc (suc (suc (suc zero))))) a b h = let n = two-named i a b h in of-as a b (n .0) (n .1)
   of-kind (suc (suc (suc (suc (suc (suc n)))))) a b h =
       absurd (true≢false (sym h ∙ no-kind-above k i (suc (suc (suc (suc (suc (suc n)))))) a b (omega arith)))
 
   pub by-kind : (l : Line) → goodLine k i l ≡ true → P l
   by-kind l h = of-kind (l .kind) (l .a) (l .b) h
+
+-- What a good line that is no proposition has in a and b are earlier lines, an unused b too.
+pub good-earlier : (k i : ℕ) (l : Line) → goodLine k i l ≡ true → eqb (l .kind) 0 ≡ false → (l .a < i) × (l .b < i)
+good-earlier k i =
+    by-kind k i (λ l. eqb (l .kind) 0 ≡ false → (l .a < i) × (l .b < i))
+    (λ a b la e. absurd (true≢false e))
+    (λ a la e. (la, omega (arith, la)))
+    (λ a b la lb e. (la, lb))
+    (λ a la e. (la, omega (arith, la)))
+    (λ a b la lb e. (la, lb))
+    (λ a b la lb e. (la, lb))
