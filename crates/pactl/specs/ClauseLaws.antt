@@ -11,12 +11,14 @@ use Rattle.clocks.specs.Event.{Cut}
 use Rattle.clocks.specs.Bounded.{anyOf}
 use Rattle.clocks.specs.stored.BoundedLaws.{same-test}
 use Rattle.pactl.specs.declared.Line.{Line}
-use Rattle.pactl.specs.Truth.{Model, Property, before, allOf, propositionHolds, notHolds, andHolds, eyHolds, esStep, esHolds, asStep, asHolds, lineTruth}
+use Rattle.pactl.specs.Truth.{Model, Property, before, allOf, lineTruth}
+use Rattle.pactl.specs.Truth.{propositionHolds, notHolds, andHolds, eyHolds, esStep, esHolds, asStep, asHolds}
 use Rattle.pactl.specs.ModelCuts.{Ruled, CutOf}
 use Rattle.pactl.specs.TruthLaws.{recursive-is, es-looks, as-looks, some-before, all-before}
 use Rattle.pactl.specs.LineTruthLaws.{proposition-line, not-line, and-line, ey-line, es-line, as-line}
 use Rattle.pactl.specs.Judge.{propositionJudged, notJudged, andJudged, eyJudged, esJudged, asJudged}
-use Rattle.pactl.specs.Clauses.{SomeBefore, AllBefore, OneBefore, PropositionRight, NotRight, AndRight, EyRight, EsRight, AsRight, ClausesRight}
+use Rattle.pactl.specs.Clauses.{SomeBefore, AllBefore, SomePrecedes, ClausesRight}
+use Rattle.pactl.specs.Clauses.{PropositionRight, NotRight, AndRight, EyRight, EsRight, AsRight}
 
 -- ---- What is said of the preceding cuts, as a test over the list of them
 module _ (M : Model) (valid : List Event → Event → Type 0) (m : Ruled M valid)
@@ -33,8 +35,8 @@ module _ (M : Model) (valid : List Event → Event → Type 0) (m : Ruled M vali
       let is = all-before M valid m x S c in
       same-test (bit all j) (allOf x (before M S)) (λ t. is .1 (h .0 t)) (λ t. h .1 (is .0 t))
 
-  one-test : (preceded : Bool) → OneBefore M S preceded → preceded ≡ anyOf (λ R. true) (before M S)
-  one-test preceded h =
+  precedes-test : (preceded : Bool) → SomePrecedes M S preceded → preceded ≡ anyOf (λ R. true) (before M S)
+  precedes-test preceded h =
       let is = some-before M valid m (λ R. true) S c in
       same-test preceded (anyOf (λ R. true) (before M S))
       (λ t. let r = h .0 t in is .1 (r .0, r .1, tt))
@@ -92,12 +94,12 @@ module _ (M : Model) (ls : List Line) (i : ℕ) (S : Cut) where
         let some : Bool = anyOf (λ R. true) (before M S) in
         let rest : Bool = allOf (asHolds M x y) (before M S) in
         let before-have : preceded && bit all i ≡ some && rest = and-same preceded some (bit all i) rest
-        (one-test M valid m ls S c preceded one) (λ t. rw e at (all-test M valid m ls S c all i (every t))) in
+        (precedes-test M valid m ls S c preceded one) (λ t. rw e at (all-test M valid m ls S c all i (every t))) in
         ap₂ _||_ hb (ap₂ _&&_ ha before-have)
         ∙ sym (ap (λ (q : Property). q S) e ∙ recursive-is M valid m (asStep M x y) (as-looks M valid m x y) S c)
 
 -- ---- Theorem
-pub clauses-right : (M : Model) (valid : List Event → Event → Type 0) → ClausesRight M valid
+pub clauses-right : ClausesRight
 clauses-right M valid m ls i S c = record {
   of-proposition = proposition-right M ls i S;
   of-not = not-right M ls i S;

@@ -2,6 +2,11 @@
 -- under "Calculating the Values of Subformulas on the Nodes". Each gives PaCTL's truth of its line at a cut, from the
 -- labels there, the earlier lines there that it names, and the one line that it reads at the preceding cuts; none goes
 -- through another. What the clauses are: Judge. Proved in ClauseLaws.
+--
+-- The source's letters: val(F, η) is the bit of a line at a cut. Its F is the cut S, its F′ a preceding cut S′, L(F)
+-- the label bytes; q is proposition b of process a; η and η₁ are line a, η₂ is line b, and the formula judged is line
+-- i. The S between η₁ and η₂ is since. The source looks for F′ in its graph, where dropped frontiers are not; the
+-- clauses speak of all preceding cuts, and window_laws JudgingNew shows that a window has what they need.
 use Prim.Native.Nat.{ℕ, _<_}
 use mathlib.Core.Path.{_≡_}
 use mathlib.Core.Bool.{Bool}
@@ -38,9 +43,9 @@ SomeBefore M ls S any j = T (bit any j) ↔ ((S′ : Cut) × Leads M S′ S × T
 abbrev pub AllBefore : Model → List Line → Cut → ℕ → ℕ → Type 0
 AllBefore M ls S all j = T (bit all j) ↔ ((S′ : Cut) → Leads M S′ S → T (lineTruth M ls j S′))
 
--- Whether there is a preceding cut.
-abbrev pub OneBefore : Model → Cut → Bool → Type 0
-OneBefore M S preceded = T preceded ↔ ((S′ : Cut) × Leads M S′ S)
+-- `preceded` says whether some cut precedes.
+abbrev pub SomePrecedes : Model → Cut → Bool → Type 0
+SomePrecedes M S preceded = T preceded ↔ ((S′ : Cut) × Leads M S′ S)
 
 -- ---- The clauses, of line i at a cut S
 module _ (M : Model) (ls : List Line) (i : ℕ) (S : Cut) where
@@ -58,20 +63,21 @@ module _ (M : Model) (ls : List Line) (i : ℕ) (S : Cut) where
   AndRight = (a b v : ℕ) → LineIs ls i (andLine a b) → a < i → b < i → Here M ls S v a → Here M ls S v b
       → andJudged v a b ≡ lineTruth M ls i S
 
-  -- Sentence 4, val(F, EY η): line a at some preceding cut.
+  -- Sentence 4, val(F, EY η): some preceding cut has line a.
   abbrev pub EyRight : Type 0
   EyRight = (a any : ℕ) → LineIs ls i (eyLine a) → a < i → SomeBefore M ls S any a
       → eyJudged any a ≡ lineTruth M ls i S
 
-  -- Sentence 5, val(F, E(η₁ S η₂)): line b, or line a and this line at some preceding cut.
+  -- Sentence 5, val(F, E(η₁ S η₂)): line b, or line a and some preceding cut has this line.
   abbrev pub EsRight : Type 0
   EsRight = (a b v any : ℕ) → LineIs ls i (esLine a b) → a < i → b < i → Here M ls S v a → Here M ls S v b
       → SomeBefore M ls S any i → esJudged v any i a b ≡ lineTruth M ls i S
 
-  -- Sentence 6, val(F, A(η₁ S η₂)): line b, or line a and this line at every preceding cut, where there is one.
+  -- Sentence 6, val(F, A(η₁ S η₂)): line b, or line a and there is a preceding cut and all of them have this line.
+  -- Where nothing precedes, `all` may be anything: the first frontier is judged with 0.
   abbrev pub AsRight : Type 0
   AsRight = (a b v all : ℕ) (preceded : Bool) → LineIs ls i (asLine a b) → a < i → b < i → Here M ls S v a
-      → Here M ls S v b → OneBefore M S preceded → (T preceded → AllBefore M ls S all i)
+      → Here M ls S v b → SomePrecedes M S preceded → (T preceded → AllBefore M ls S all i)
       → asJudged v all preceded i a b ≡ lineTruth M ls i S
 
 -- ---- Statement
@@ -85,6 +91,9 @@ pub record SixRight (M : Model) (ls : List Line) (i : ℕ) (S : Cut) : Type 0 wh
   pub of-es : EsRight M ls i S
   pub of-as : AsRight M ls i S
 
--- They hold of every line of every table, at every consistent cut of a history under some rule for valid clocks.
-abbrev pub ClausesRight : Model → (List Event → Event → Type 0) → Type 0
-ClausesRight M valid = Ruled M valid → (ls : List Line) (i : ℕ) (S : Cut) → CutOf M S → SixRight M ls i S
+-- They hold of every line of every table, at every consistent cut of a history under any rule for valid clocks. (The
+-- laws of the first three ask for no history: they look at this cut alone.)
+abbrev pub ClausesRight : Type 1
+ClausesRight =
+    (M : Model) (valid : List Event → Event → Type 0) → Ruled M valid
+    → (ls : List Line) (i : ℕ) (S : Cut) → CutOf M S → SixRight M ls i S

@@ -14,7 +14,7 @@ use Rattle.pactl.specs.declared.Line.{Line}
 -- In the order of source 000, section 3, where each is a sentence under "Calculating the Values of Subformulas on the
 -- Nodes". v has the bits of the earlier lines, i is the line's own number. That each gives PaCTL's truth: Clauses.
 
--- Sentence 1, val(F, q): proposition b of process a, which the process's label byte says.
+-- Sentence 1, val(F, q): proposition b of process a, as the process's label byte has it.
 unfoldable pub propositionJudged : List ℕ → ℕ → ℕ → Bool
 propositionJudged labels a b = bit (getD labels a 0) b
 
@@ -40,7 +40,7 @@ asJudged v all preceded i a b = bit v b || (bit v a && (preceded && bit all i))
 
 -- ---- Lines
 
--- A line, by its kind. No line of another kind is good.
+-- A line, by its kind: kinds 0 to 5 are sentences 1 to 6. No line of another kind is good.
 unfoldable pub judgeLine : List ℕ → ℕ → ℕ → ℕ → Bool → ℕ → Line → Bool
 judgeLine labels v any all preceded i l =
     cond (eqb (l .kind) 0) (propositionJudged labels (l .a) (l .b))

@@ -99,8 +99,8 @@ module _ (labels : List ℕ) (any all : ℕ) (preceded : Bool) where
   -- Judging the lines from line i on of a table's bytes: line i, then those behind it.
   pub judgeFrom-next : (v : ℕ) (bytes : List ℕ) (n i : ℕ) → i < n
       → judgeFrom labels any all preceded v i (linesFrom bytes (n - i) i)
-      ≡ judgeFrom labels any all preceded
-      (withBit v i (judgeLine labels v any all preceded i (lineAt bytes i))) (i + 1) (linesFrom bytes (n - (i + 1)) (i + 1))
+      ≡ judgeFrom labels any all preceded (withBit v i (judgeLine labels v any all preceded i (lineAt bytes i))) (i + 1)
+      (linesFrom bytes (n - (i + 1)) (i + 1))
   unfolding judgeFrom
   judgeFrom-next v bytes n i h = rw (linesFrom-next bytes n i h)
 

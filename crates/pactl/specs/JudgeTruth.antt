@@ -20,17 +20,17 @@ use Rattle.pactl.specs.ModelCuts.{Ruled, CutOf}
 use Rattle.pactl.specs.Judge.{judge, judgeLine}
 use Rattle.pactl.specs.JudgeLaws.{judge-bit}
 use Rattle.pactl.specs.GoodLineLaws.{good-at, by-kind}
-use Rattle.pactl.specs.Clauses.{LabelHere, Here, SomeBefore, AllBefore, OneBefore}
+use Rattle.pactl.specs.Clauses.{LabelHere, Here, SomeBefore, AllBefore, SomePrecedes}
 use Rattle.pactl.specs.ClauseLaws.{proposition-right, not-right, and-right, ey-right, es-right, as-right}
 
 -- ---- Statement
 
 -- What is gathered from the cuts that precede a cut S: bit i of `any` says that some of them has line i, bit i of `all`
--- that all have it (where there is one).
+-- that all have it, and `preceded` that there is one; without one `all` may be anything.
 pub record Preceding (M : Model) (ls : List Line) (S : Cut) (any all : ℕ) (preceded : Bool) : Type 0 where
   pub some-has : (i : ℕ) → i < length ls → SomeBefore M ls S any i
   pub all-have : T preceded → (i : ℕ) → i < length ls → AllBefore M ls S all i
-  pub some-precedes : OneBefore M S preceded
+  pub some-precedes : SomePrecedes M S preceded
 
 -- The label bytes at a cut.
 abbrev pub LabelsAt : Model → Cut → List ℕ → Type 0

@@ -1,4 +1,4 @@
--- A rule's table: the bytes of its lines, and which lines are good.
+-- A rule's table: its lines, their bytes, and which of them are good.
 use Prim.Native.Nat.{ℕ, _+_, _<_}
 use mathlib.Core.Path.{_≡_}
 use mathlib.Core.Bool.{Bool, true, cond, _&&_, _||_}

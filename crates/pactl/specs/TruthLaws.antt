@@ -1,4 +1,5 @@
--- PaCTL's six clauses, in both directions, at every consistent cut, as 01 and source 000 print them.
+-- PaCTL's semantics (source 000, section 2; 01, The rule), in both directions, at every consistent cut: what the truth
+-- of a formula is, by its operator. How a line is judged is section 3 (Clauses).
 use Prim.Native.Nat.{ℕ, zero, suc, _+_, _≤_, _<_}
 use native.Mathlib.Omega.{arith}
 use native.Mathlib.Decide.{decLt}

@@ -23,7 +23,7 @@ fn has(word: u64, p: u8) -> bool
 // The six clauses, in the order of source 000, section 3, where each is a sentence under "Calculating the Values of
 // Subformulas on the Nodes".
 
-// Sentence 1, val(F, q): proposition b of process a.
+// Sentence 1, val(F, q): proposition b of process a, as the process's label byte has it.
 fn judge_proposition(labels: [u8; 8], a: u8, b: u8) -> bool
     ensures { λ r. ⌜ r ≡ propositionJudged labels a b ⌝ }
 {
@@ -48,21 +48,21 @@ fn judge_and(v: u64, a: u8, b: u8) -> bool
     has(v, a) & has(v, b)
 }
 
-// Sentence 4, val(F, EY η): line a at some preceding cut.
+// Sentence 4, val(F, EY η): some preceding cut has line a.
 fn judge_ey(any: u64, a: u8) -> bool
     ensures { λ r. ⌜ r ≡ eyJudged any a ⌝ }
 {
     has(any, a)
 }
 
-// Sentence 5, val(F, E(η₁ S η₂)): line b, or line a and this line at some preceding cut.
+// Sentence 5, val(F, E(η₁ S η₂)): line b, or line a and some preceding cut has this line.
 fn judge_es(v: u64, any: u64, i: u8, a: u8, b: u8) -> bool
     ensures { λ r. ⌜ r ≡ esJudged v any i a b ⌝ }
 {
     has(v, b) | (has(v, a) & has(any, i))
 }
 
-// Sentence 6, val(F, A(η₁ S η₂)): line b, or line a and this line at every preceding cut, where there is one.
+// Sentence 6, val(F, A(η₁ S η₂)): line b, or line a and there is a preceding cut and all of them have this line.
 fn judge_as(v: u64, all: u64, preceded: bool, i: u8, a: u8, b: u8) -> bool
     ensures { λ r. ⌜ r ≡ asJudged v all preceded i a b ⌝ }
 {
