@@ -11,14 +11,12 @@ use Rattle.clocks.specs.Event.{Cut}
 use Rattle.clocks.specs.Bounded.{anyOf}
 use Rattle.clocks.specs.stored.BoundedLaws.{same-test}
 use Rattle.pactl.specs.declared.Line.{Line}
-use Rattle.pactl.specs.Truth.{Model, Property, before, allOf, lineTruth}
-use Rattle.pactl.specs.Truth.{propositionHolds, notHolds, andHolds, eyHolds, esStep, esHolds, asStep, asHolds}
+use Rattle.pactl.specs.Truth.{Model, Property, before, allOf, propositionHolds, notHolds, andHolds, eyHolds, esStep, esHolds, asStep, asHolds, lineTruth}
 use Rattle.pactl.specs.ModelCuts.{Ruled, CutOf}
 use Rattle.pactl.specs.TruthLaws.{recursive-is, es-looks, as-looks, some-before, all-before}
 use Rattle.pactl.specs.LineTruthLaws.{proposition-line, not-line, and-line, ey-line, es-line, as-line}
 use Rattle.pactl.specs.Judge.{propositionJudged, notJudged, andJudged, eyJudged, esJudged, asJudged}
-use Rattle.pactl.specs.Clauses.{SomeBefore, AllBefore, SomePrecedes, ClausesRight}
-use Rattle.pactl.specs.Clauses.{PropositionRight, NotRight, AndRight, EyRight, EsRight, AsRight}
+use Rattle.pactl.specs.Clauses.{SomeBefore, AllBefore, SomePrecedes, PropositionRight, NotRight, AndRight, EyRight, EsRight, AsRight, ClausesRight}
 
 -- ---- What is said of the preceding cuts, as a test over the list of them
 module _ (M : Model) (valid : List Event → Event → Type 0) (m : Ruled M valid)
