@@ -33,8 +33,8 @@
 extern "C" {
 #endif
 
-#define WATCH_VERSION "0.4.1"    /* of this header and of the library that it was installed with */
-#define WATCH_VERSION_NUMBER 401 /* the same as a number: 10000 major + 100 minor + patch */
+#define WATCH_VERSION "0.5.0"    /* of this header and of the library that it was installed with */
+#define WATCH_VERSION_NUMBER 500 /* the same as a number: 10000 major + 100 minor + patch */
 
 #define WATCH_PROCESSES 8        /* at most so many processes */
 #define WATCH_LINES 64           /* a rule has at most so many lines */
@@ -115,9 +115,12 @@ uint64_t watch_offer(uint64_t mask, uint64_t clock_low, uint64_t clock_high, uin
 uint64_t watch_take(uint8_t *record, size_t record_len, uint8_t *window, size_t window_len,
                     uint8_t *scratch, size_t scratch_len);
 
-/* Finds a kept frontier at which a line of the rule holds. Lines count from 0, the last is the rule
- * (watch_lines - 1). Writes nothing.
- * Accepted: flag 1 and the frontier's place in the window as value, or flag 0 if there is none.
+/* Finds the first kept frontier, in the window's order, at which a line of the rule holds. Lines count from 0, the last
+ * is the rule (watch_lines - 1). The window has its frontiers in ascending order of their counts, process 0 compared
+ * first. Writes nothing.
+ * Accepted: flag 1, and as value the place in the window, from 0: the line holds there and at no frontier before. The
+ * whole reply is 0 exactly if it holds at no kept frontier. So the place follows from the bytes that are lent alone;
+ * versions before 0.5.0 left open which frontier was named.
  * Refused, in this order: 6 record or window, 34, 11. */
 uint64_t watch_find(uint64_t line, const uint8_t *record, size_t record_len,
                     const uint8_t *window, size_t window_len);

@@ -67,13 +67,14 @@ fn first_holding(w: usize, line: u32, window: &[u8], kept: usize) -> usize
     ensures { λ r. ⌜ (r < kept → bit (frontierAt w (now (window .entry)) r .values) line ≡ true) ⌝ }
 {
     let mut i = pass_fours(w, line, window, kept);
-    while i < kept {
+    let mut place = kept;
+    while place == kept && i < kept {
         if codec::has_bit(values_at(window, w, i), line) {
-            return i;
+            place = i;
         }
         i += 1;
     }
-    kept
+    place
 }
 
 // The reply for the first of so many frontiers at which a line holds.

@@ -10,5 +10,4 @@ pub mod OfferLaws
 pub mod TakeLaws
 pub mod TakeLedger
 pub mod TakeLowers
-pub mod FindLaws
 pub mod AfterCall

@@ -44,12 +44,6 @@ module _ (k : ℕ) (table : List Line) (start : Cut) (ts : List Event) where
     );
   }
 
-  -- the frontiers of a represented history are those of any list of its kept cuts
-  pub represented-are : 0 < k → (fs : List Frontier) → Represents (worldOf k table start) ts fs → (cuts : List Cut)
-      → KeptCuts k ts cuts
-      → fs ≡ map (frontierOf (worldOf k table start) ts) cuts
-  represented-are l fs R cuts K = rw (cuts-unique k ts cuts (R .cuts) K (represented-cuts l fs R)) (R .are)
-
   pub represented-number : 0 < k → (fs : List Frontier) → Represents (worldOf k table start) ts fs
       → KeptNumber k ts (length fs)
   represented-number l fs R =

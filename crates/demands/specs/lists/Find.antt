@@ -3,7 +3,7 @@
 use Prim.Native.Nat.{ℕ, suc, _≤_, _<_}
 use native.Mathlib.Omega.{arith}
 use mathlib.Core.Path.{_≡_, refl, sym, ap, subst, _∙_}
-use mathlib.Core.Bool.{Bool, true, false}
+use mathlib.Core.Bool.{Bool, true, false, cond}
 use mathlib.Core.List.{List, map, List·Memᴰ, List·Memᴰ·head, Memᴰ·append-right}
 use mathlib.Core.Logic.{_⊎_, ⊎-elim, _↔_, _≢_}
 use lib.Dec.{leb}
@@ -26,15 +26,16 @@ use Rattle.clocks.specs.Event.{Cut}
 use Rattle.records.specs.Record.{keptCount, lineTotal, recordLength}
 use Rattle.refusals.specs.Refusals.{badRecordLength, badWindowLength, badState, roomOf}
 use Rattle.answers.specs.Answer.{Answer, turnedBack, found, absent}
+use Rattle.numbers.specs.Refusal.{noLineNumber}
 use Rattle.call_find.specs.Find.{findFrom, findCall}
 use Rattle.demands.specs.Run.{Watch}
-use Rattle.demands.specs.World.{worldOf, KeptCuts}
+use Rattle.demands.specs.World.{worldOf}
 use Rattle.demands.specs.statements.Find.{FirstAt, lineOf, FindExact, FindIsExact}
 use Rattle.demands.specs.calls.ListPlaces.{member-take, which-first}
-use Rattle.demands.specs.calls.KeptCutsLaws.{represented-are, represented-cuts}
+use Rattle.demands.specs.calls.KeptCutsLaws.{represented-cuts}
 use Rattle.demands.specs.calls.WatchingLaws.{bytes-long, says-lines, says-frontiers, never-34}
 use Rattle.demands.specs.calls.AfterCall.{room-iff}
-use Rattle.demands.specs.calls.FindLaws.{Finding, finding, first, nowhere}
+use Rattle.call_find.specs.FindLaws.{Finding, finding, first, nowhere}
 use Rattle.demands.specs.lists.SoundRun.{Sound, every-list}
 
 -- ---- The first cut is one
@@ -117,6 +118,11 @@ module _ (line : ℕ) (F : Cut → Frontier) (has : Property) (says : (S : Cut) 
       go (nowhere-here q m) = let z : _≡_ {A = ℕ} 0 1 = cc in absurd (omega arith)
 
 -- ---- After a list of calls
+
+-- What a find comes to where neither 6 nor 34 does: 11, or the search.
+abbrev pub answered : ℕ → List ℕ → List Frontier → Answer
+answered line s fs = cond (leb (lineTotal s) line) (turnedBack noLineNumber 0) (findFrom line 0 fs)
+
 module _ (w k : ℕ) (f : Formula) (start : Cut) (Z : Watch) (S : Sound w k f start Z) where
   abbrev table : List Line
   table = linesAt 0 f
@@ -147,6 +153,9 @@ module _ (w k : ℕ) (f : Formula) (start : Cut) (Z : Watch) (S : Sound w k f st
   unfolding frontierOf
   says line l C = bit-wordOf (length table) (λ j. lineTruth (modelOf (worldOf k table start) ts) table j C) line l
 
+  abbrev cuts : List Cut
+  cuts = S .right .represents .cuts
+
   abbrev answer : ℕ → Answer
   answer line = findCall w line (Z .bytes) (Z .window)
 
@@ -155,23 +164,25 @@ module _ (w k : ℕ) (f : Formula) (start : Cut) (Z : Watch) (S : Sound w k f st
   unfolding findCall
   six h line = rw (long, h)
 
+  pub searched : badWindowLength w (length (Z .window)) ≡ false → (line : ℕ)
+      → findCall w line (Z .bytes) (Z .window) ≡ answered line (Z .bytes) (frontiers w (Z .window) (keptCount (Z .bytes)))
+  unfolding findCall
+  searched h line = rw (long, h, good) refl
+
   eleven : badWindowLength w (length (Z .window)) ≡ false → (line : ℕ) → length table ≤ line
       → answer line ≡ turnedBack 11 0
-  unfolding findCall
-  eleven h line l = rw (long, h, good, lines, le-leb (length table) line l)
+  eleven h line l = searched h line ∙ rw (lines, le-leb (length table) line l) refl
 
-  looks : badWindowLength w (length (Z .window)) ≡ false → (line : ℕ) → line < length table → (cuts : List Cut)
-      → KeptCuts k ts cuts → answer line ≡ findFrom line 0 (map frontier cuts)
-  unfolding findCall
-  looks h line l cuts K =
-      rw (long, h, good, lines, lt-leb (length table) line l, read, represented-are k table start ts (S .rule .some-process) (S .right .kept) (S .right .represents) cuts K)
+  looks : badWindowLength w (length (Z .window)) ≡ false → (line : ℕ) → line < length table
+      → answer line ≡ findFrom line 0 (map frontier cuts)
+  looks h line l =
+      searched h line
+      ∙ rw (lines, lt-leb (length table) line l) (ap (findFrom line 0) (read ∙ S .right .represents .are))
 
-  -- some list of the kept cuts is there
   looks-somewhere : badWindowLength w (length (Z .window)) ≡ false → (line : ℕ) → line < length table → (n : ℕ)
       → answer line ≢ turnedBack n 0
   looks-somewhere h line l n q =
-      let K = represented-cuts k table start ts (S .rule .some-process) (S .right .kept) (S .right .represents) in
-      no-refusal line frontier (lineOf k f start Z line) (says line l) (S .right .represents .cuts) n (sym (looks h line l (S .right .represents .cuts) K) ∙ q)
+      no-refusal line frontier (lineOf k f start Z line) (says line l) cuts n (sym (looks h line l) ∙ q)
 
   other : (line n : ℕ) → badWindowLength w (length (Z .window)) ≡ false → answer line ≡ turnedBack n 0 → n ≡ 11
   other line n h q = go (leb (length table) line) refl
@@ -182,10 +193,14 @@ module _ (w k : ℕ) (f : Formula) (start : Cut) (Z : Watch) (S : Sound w k f st
 
   find-of : FindExact w k f start Z
   find-of = record {
+    cuts = cuts;
+    cuts-are = represented-cuts k table start ts (S .rule .some-process) (S .right .kept) (S .right .represents);
+    in-window = read ∙ S .right .represents .are;
     wrong-length = λ line. ((λ q. is-wrong line q (badWindowLength w (length (Z .window))) refl), λ h. six h line);
     no-line = λ h line. ((λ q. too-far h line q (leb (length table) line) refl), eleven h line);
-    first = λ h line l cuts K i. rw (looks h line l cuts K) (first-exactly line frontier (lineOf k f start Z line) (says line l) cuts i);
-    none = λ h line l cuts K. rw (looks h line l cuts K) (none-exactly line frontier (lineOf k f start Z line) (says line l) cuts);
+    first = λ h line l i.
+        rw (looks h line l) (first-exactly line frontier (lineOf k f start Z line) (says line l) cuts i);
+    none = λ h line l. rw (looks h line l) (none-exactly line frontier (lineOf k f start Z line) (says line l) cuts);
     never-34 = λ line q. not-34 line q (badWindowLength w (length (Z .window))) refl;
   }
     where

@@ -3,7 +3,7 @@
 use Prim.Native.Nat.{ℕ, _≤_, _*_}
 use native.Mathlib.Omega.{arith}
 use mathlib.Core.Path.{_≡_, sym, ap, fun-ext, _∙_, subst}
-use mathlib.Core.Bool.{Bool}
+use mathlib.Core.Bool.{Bool, false}
 use mathlib.Core.List.{List}
 use lib.ListN.{length, take}
 use Rattle.pactl.specs.declared.Line.{Line}
@@ -26,6 +26,8 @@ use Rattle.clocks.specs.Counts.{at}
 use Rattle.demands.specs.Watching.{Watching}
 use Rattle.demands.specs.lists.Delivery.{same-pending, same-taken-events}
 use Rattle.records.specs.Record.{keptCount}
+use Rattle.refusals.specs.Refusals.{badWindowLength}
+use Rattle.call_find.specs.Find.{findCall}
 use Rattle.demands.specs.calls.PendingOrder.{ordered-unique}
 use Rattle.demands.specs.calls.WatchingLaws.{says-frontiers, says-kept}
 use Rattle.demands.specs.Ledger.{Ledger, accounted, Settled}
@@ -41,6 +43,7 @@ use lib.Seq.{take-append-seam}
 use Rattle.frontiers.specs.WindowLaws.{length-framed}
 use Rattle.demands.specs.statements.OrderIndependent.{Alike, OrderIndependent}
 use Rattle.demands.specs.lists.WindowExact.{window-exact-of}
+use Rattle.demands.specs.lists.Find.{answered, searched}
 use Rattle.demands.specs.calls.ValidRule.{valid-rule}
 
 -- ---- Proof
@@ -99,6 +102,17 @@ module _ (w k : ℕ) (f : Formula) (start : Cut) (Y Z : Watch) (S : Sound w k f 
       ∙ ap (λ (n : ℕ). n * frontierLength w) (sym (says-kept w k table start (S .rule) (V′ .ledger) (V′ .bytes) (V′ .window) X)) in
       ap (take (keptCount (V′ .bytes) * frontierLength w)) (X .window-is) ∙ rw (← long) (take-append-seam (framed w (X .kept)) _)
 
+  frontiers-alike : frontiers w (Y .window) (keptCount (Y .bytes)) ≡ frontiers w (Z .window) (keptCount (Z .bytes))
+  frontiers-alike = read-kept Y (S .right) ∙ kept-alike ∙ sym (read-kept Z (T′ .right))
+
+  -- the search is of the record's lines and of the kept frontiers alone
+  finds-alike : badWindowLength w (length (Y .window)) ≡ false → badWindowLength w (length (Z .window)) ≡ false
+      → (line : ℕ) → findCall w line (Y .bytes) (Y .window) ≡ findCall w line (Z .bytes) (Z .window)
+  finds-alike h h′ line =
+      searched w k f start Y S h line ∙ ap (answered line (Y .bytes)) frontiers-alike
+      ∙ ap (λ (s : List ℕ). answered line s (frontiers w (Z .window) (keptCount (Z .bytes)))) bytes-alike
+      ∙ sym (searched w k f start Z T′ h′ line)
+
   -- a cut that both reported: PaCTL's truth there is the same in both histories
   verdict-alike : (counts : List ℕ) (t u : Bool) → TrueVerdict k f start (Y .ledger .history) counts t → TrueVerdict k f start (Z .ledger .history) counts u → t ≡ u
   verdict-alike counts t u p q =
@@ -114,7 +128,8 @@ module _ (w k : ℕ) (f : Formula) (start : Cut) (Y Z : Watch) (S : Sound w k f 
   alike = record {
     same-record = bytes-alike;
     same-window = kept-bytes Y (S .right) ∙ ap (framed w) kept-alike ∙ sym (kept-bytes Z (T′ .right));
-    same-frontiers = read-kept Y (S .right) ∙ kept-alike ∙ sym (read-kept Z (T′ .right));
+    same-frontiers = frontiers-alike;
+    same-finds = finds-alike;
     first-exact = window-exact-of w k f start Y S;
     second-exact = window-exact-of w k f start Z T′;
     same-events-taken = λ e. (same .there e, same .back e);

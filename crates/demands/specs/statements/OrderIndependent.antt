@@ -2,10 +2,10 @@
 -- with "nothing ready", end alike. Proved in lists/OrderIndependent.
 use Prim.Native.Nat.{ℕ, _*_, _<_}
 use mathlib.Core.Path.{_≡_}
-use mathlib.Core.Bool.{Bool}
+use mathlib.Core.Bool.{Bool, false}
 use mathlib.Core.List.{List, List·Memᴰ}
 use mathlib.Core.Logic.{_↔_}
-use lib.ListN.{take}
+use lib.ListN.{length, take}
 use Rattle.clocks.specs.declared.Event.{Event}
 use Rattle.frontiers.specs.Bytes.{frontiers, frontierLength}
 use Rattle.rules.specs.Formula.{Formula}
@@ -15,7 +15,9 @@ use Rattle.clocks.specs.Event.{Cut}
 use Rattle.clocks.specs.History.{In}
 use Rattle.clocks.specs.Counts.{at}
 use Rattle.records.specs.Record.{keptCount}
+use Rattle.refusals.specs.Refusals.{badWindowLength}
 use Rattle.answers.specs.Answer.{state}
+use Rattle.call_find.specs.Find.{findCall}
 use Rattle.demands.specs.Ledger.{Settled}
 use Rattle.demands.specs.Run.{Watch, Call}
 use Rattle.demands.specs.Verdict.{Truthful}
@@ -29,6 +31,9 @@ pub record Alike (w k : ℕ) (f : Formula) (start : Cut) (Y Z : Watch) : Type 0 
   pub same-window : take (keptCount (Y .bytes) * frontierLength w) (Y .window)
       ≡ take (keptCount (Z .bytes) * frontierLength w) (Z .window)
   pub same-frontiers : frontiers w (Y .window) (keptCount (Y .bytes)) ≡ frontiers w (Z .window) (keptCount (Z .bytes))
+  -- so a find answers alike of every line, where both windows have right lengths (02 [4])
+  pub same-finds : badWindowLength w (length (Y .window)) ≡ false → badWindowLength w (length (Z .window)) ≡ false
+      → (line : ℕ) → findCall w line (Y .bytes) (Y .window) ≡ findCall w line (Z .bytes) (Z .window)
   -- these are what demand 2 states
   pub first-exact : WindowExact w k f start Y
   pub second-exact : WindowExact w k f start Z
