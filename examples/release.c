@@ -79,7 +79,7 @@ static void lend_longer(struct watch *w, size_t room) {
     w->room = room;
 }
 
-/* Where it could have been: line 6 is the (and ..) in the rule. */
+/* Where it could have been: at the first kept frontier that has line 6, which is the (and ..) in the rule. */
 static void say_where(const struct watch *w) {
     uint64_t found = watch_find(6, w->record, sizeof w->record, w->window, WATCH_WINDOW_BYTES(w->room));
     if (watch_number(found) != 0) fail("find", found);

@@ -1,5 +1,5 @@
--- The answers of the calls, with 01's numbers and values (01, The calls; Turned back; 02 [1]), and the words
--- that C gets.
+-- The answers of the calls, with 01's numbers and values (01, The calls; Turned back; 02 [1], [4]), and the words that
+-- C gets.
 use Prim.Native.Nat.{ℕ, _+_, _*_, _-_}
 use mathlib.Core.Bool.{Bool, true, false}
 use mathlib.Core.List.{List, map}
@@ -18,7 +18,7 @@ pub data Answer : Type 0 where
   held : ℕ → Answer
   -- an offer of an event that is pending already (02 [1]): neither a refusal nor accepted
   again : Answer
-  -- a kept frontier's place, or none
+  -- the place of the first kept frontier that has the line, or none (02 [4])
   found : ℕ → Answer
   absent : Answer
 

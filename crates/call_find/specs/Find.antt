@@ -1,4 +1,4 @@
--- Find (01, The calls): the first kept frontier at which a line of the table holds, or none.
+-- Find (01, The calls; 02 [4]): the first kept frontier at which a line of the table holds, or none.
 use Prim.Native.Nat.{ℕ, _+_}
 use mathlib.Core.Bool.{cond, _||_}
 use mathlib.Core.List.{List, [], _∷_}

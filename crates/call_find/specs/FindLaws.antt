@@ -1,5 +1,5 @@
--- What find answers, in words (01, The calls: find): the first place at which the line holds, and none exactly if it
--- holds at no frontier.
+-- What find answers, in words (02 [4]): the first place at which the line holds, and none exactly if it holds at no
+-- frontier.
 use Prim.Native.Nat.{ℕ, suc, _+_, _<_, zero}
 use native.Mathlib.Omega.{arith}
 use mathlib.Core.Path.{_≡_, refl, ap, _∙_}

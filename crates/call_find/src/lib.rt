@@ -1,4 +1,4 @@
-// Find (01, The calls): the first kept frontier at which a line of the table holds, or none.
+// Find (01, The calls; 02 [4]): the first kept frontier at which a line of the table holds, or none.
 
 use frontiers::stored::values_at;
 use numbers::refusal::LENGTH;
