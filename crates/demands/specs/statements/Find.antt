@@ -44,7 +44,7 @@ pub record FindExact (w k : ℕ) (f : Formula) (start : Cut) (Z : Watch) : Type 
       → (findCall w line (Z .bytes) (Z .window) ≡ turnedBack lengthNumber 0) ↔ (badWindowLength w (length (Z .window)) ≡ true)
   pub no-line : badWindowLength w (length (Z .window)) ≡ false → (line : ℕ)
       → (findCall w line (Z .bytes) (Z .window) ≡ turnedBack noLineNumber 0) ↔ (length (linesAt 0 f) ≤ line)
-  -- for a line that is there: place i exactly if PaCTL makes it true at the i-th kept cut and false at all before
+  -- for a line that is there: i exactly if PaCTL makes it true at the i-th kept cut, from 0, and false at all before
   pub first : badWindowLength w (length (Z .window)) ≡ false → (line : ℕ) → line < length (linesAt 0 f) → (i : ℕ)
       → (findCall w line (Z .bytes) (Z .window) ≡ found i) ↔ FirstAt (lineOf k f start Z line) cuts i
   -- and none exactly if it is false at every kept cut
