@@ -211,9 +211,17 @@ static void repeats(void) {
     measure("offer, one of 32 pending sent again", sent_again, 32 * REPEATS, 151);
 }
 
-/* A line that holds nowhere, so that every frontier is looked at. */
-static void find_none(struct side *s) {
-    for (unsigned i = 0; i < FINDS; i++) seen(s, s->find(2, s->record, sizeof s->record, s->window, saved.length));
+/* A line that holds nowhere, or at the last frontier alone, so that every one is looked at. */
+enum { RARE_LINE = 2 };
+
+static void find_rare(struct side *s) {
+    for (unsigned i = 0; i < FINDS; i++) seen(s, s->find(RARE_LINE, s->record, sizeof s->record, s->window, saved.length));
+}
+
+static void finds(void) {
+    measure("find, full window, line true nowhere", find_rare, FINDS, ROUNDS);
+    saved.window[WATCH_FRONTIER_BYTES * watch_kept(saved.record) - 8] |= 1 << RARE_LINE;
+    measure("find, full window, line true at the last alone", find_rare, FINDS, ROUNDS);
 }
 
 static void open_often(struct side *s) {
@@ -302,7 +310,7 @@ int main(void) {
     saved.k = 2, saved.rule = "(ep (at 1 7))";
     wide(2, saved.rule, "6", false);
     save(&plain);
-    measure("find, full window, line true nowhere", find_none, FINDS, ROUNDS);
+    finds();
     small_pieces();
     repeats();
     clocks();

@@ -115,12 +115,11 @@ uint64_t watch_offer(uint64_t mask, uint64_t clock_low, uint64_t clock_high, uin
 uint64_t watch_take(uint8_t *record, size_t record_len, uint8_t *window, size_t window_len,
                     uint8_t *scratch, size_t scratch_len);
 
-/* Finds the first kept frontier, in the window's order, at which a line of the rule holds. Lines count from 0, the last
- * is the rule (watch_lines - 1). The window has its frontiers in ascending order of their counts, process 0 compared
- * first. Writes nothing.
+/* Finds where a line of the rule holds: of the kept frontiers that have it, the one that stands first in the window.
+ * Lines count from 0, the last is the rule (watch_lines - 1). A window that these calls wrote has its frontiers in
+ * ascending order of their counts, process 0 compared first. Writes nothing.
  * Accepted: flag 1, and as value the place in the window, from 0: the line holds there and at no frontier before. The
- * whole reply is 0 exactly if it holds at no kept frontier. So the place follows from the bytes that are lent alone;
- * versions before 0.5.0 left open which frontier was named.
+ * whole reply is 0 exactly if it holds at no kept frontier. The line and the lent bytes alone decide (since 0.5.0).
  * Refused, in this order: 6 record or window, 34, 11. */
 uint64_t watch_find(uint64_t line, const uint8_t *record, size_t record_len,
                     const uint8_t *window, size_t window_len);

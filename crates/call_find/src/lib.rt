@@ -67,6 +67,7 @@ fn first_holding(w: usize, line: u32, window: &[u8], kept: usize) -> usize
     ensures { λ r. ⌜ (r < kept → bit (frontierAt w (now (window .entry)) r .values) line ≡ true) ⌝ }
 {
     let mut i = pass_fours(w, line, window, kept);
+    // So many as there are: none is found yet.
     let mut place = kept;
     while place == kept && i < kept {
         if codec::has_bit(values_at(window, w, i), line) {

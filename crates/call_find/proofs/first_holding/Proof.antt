@@ -43,6 +43,13 @@ Inv-loop w line window kept i₀ place₀ i place = Seen w line window kept i pl
 abbrev μ-loop : tie.MeasureT-loop
 μ-loop w line window kept i₀ place₀ i place = kept - i
 
+-- The loop's head, and the start, from there.
+abbrev head : tie.After-has-bit Inv-loop μ-loop → tie.At-loop Inv-loop μ-loop
+head c = c .before .before .before .before
+
+abbrev start : tie.At-loop Inv-loop μ-loop → tie.Start Inv-loop μ-loop
+start c = c .before .before .before
+
 pass-fours-requires : tie.Need-pass-fours-requires Inv-loop μ-loop
 pass-fours-requires c κs = search needs
 
@@ -51,20 +58,18 @@ loop-holds c = (c .pass-fours .ensures .0, le-refl _, λ q. c .pass-fours .ensur
 
 values-at-requires : tie.Need-values-at-requires Inv-loop μ-loop
 values-at-requires c κs =
-    let a = c .before .before .before .before .before .args in
-    let size = frontierLength (a .w) in
-    (search needs, (omega arith, omega (arith, count-within (c .before .before .loop .i) (a .kept) size (search needs))))
+    let a = start (c .before .before) .args in
+    let i = c .before .before .loop .i in
+    (search needs, (omega arith, omega (arith, count-within i (a .kept) (frontierLength (a .w)) (search needs))))
 
 has-bit-requires : tie.Need-has-bit-requires Inv-loop μ-loop
 has-bit-requires c κs = search needs
 
 -- The call's answer is the line's truth at frontier i.
-here : (c : tie.After-has-bit Inv-loop μ-loop)
-    → let l = c .before .before .before .before in let a = l .before .before .before .args in
-    bit (frontierAt (a .w) (now (a .window)) (l .loop .i) .values) (a .line) ≡ c .has-bit .result
+here : (c : tie.After-has-bit Inv-loop μ-loop) → let a = start (head c) .args in
+    bit (frontierAt (a .w) (now (a .window)) (head c .loop .i) .values) (a .line) ≡ c .has-bit .result
 here c =
-    let a = c .before .before .before .before .before .before .before .args in
-    ap (λ (v : ℕ). bit v (a .line)) (sym (c .before .values-at .ensures)) ∙ sym (c .has-bit .ensures)
+    ap (λ (v : ℕ). bit v (start (head c) .args .line)) (sym (c .before .values-at .ensures)) ∙ sym (c .has-bit .ensures)
 
 add-i : tie.Need-add-i Inv-loop μ-loop
 add-i c = search needs
@@ -74,12 +79,12 @@ loop-less c = omega (arith, ltb-true)
 
 loop-again : tie.Need-loop-again Inv-loop μ-loop
 loop-again c =
-    let a = c .before .before .before .before .before .before .before .before .args in
-    let l = c .before .before .before .before .before .loop in
+    let a = start (head (c .before)) .args in
+    let s = now (a .window) in
+    let l = head (c .before) .loop in
     let q : l .place ≡ a .kept = omega arith in
     let m : l .i < a .kept = omega (arith, ltb-true) in
-    let n : NoneBefore (a .w) (a .line) (now (a .window)) (a .kept) (l .i) = l .inv .2 q in
-    let s = now (a .window) in
+    let n : NoneBefore (a .w) (a .line) s (a .kept) (l .i) = l .inv .2 q in
     ⊎-elim
     (λ x. rw (x .1) (seen-here (a .w) (a .line) s (a .kept) (l .i) m n (here (c .before) ∙ x .0 .taken)))
     (λ x. rw (x .1, q) (seen-further (a .w) (a .line) s (a .kept) (l .i) m n (here (c .before) ∙ x .0 .left)))
@@ -88,7 +93,7 @@ loop-again c =
 -- None is left.
 returns : tie.Need-returns Inv-loop μ-loop
 returns c =
-    let a = c .before .before .before .before .before .args in
+    let a = start (c .before .before) .args in
     let l = c .before .before .loop in
     let q : l .place ≡ a .kept = omega arith in
     let e : l .i ≡ l .place = omega (arith, ltb-false) in

@@ -1,7 +1,7 @@
 -- The kept cuts in order are one list, and it is what a window that represents a history holds.
 use Prim.Native.Nat.{ℕ, _<_}
 use mathlib.Core.Path.{_≡_, ap, sym, _∙_}
-use mathlib.Core.List.{List, map}
+use mathlib.Core.List.{List}
 use mathlib.Core.Logic.{inl, inr}
 use lib.Dec.{T}
 use Rattle.frontiers.specs.declared.Frontier.{Frontier}
