@@ -1,4 +1,5 @@
-/* Calls on records and windows that no list of calls leaves. What the paper fixes there is compared, what it leaves free is not. */
+/* Calls on records and windows that no list of calls leaves. What the paper fixes there is compared, and what find
+ * answers; the rest of what it leaves free is not. */
 #include <stdlib.h>
 #include <string.h>
 
@@ -190,11 +191,6 @@ static void unchanged(const char *name, const struct lent *l, const uint8_t *bef
     compare_bytes(name, l->bytes, before, l->length);
 }
 
-static void compare_number(uint64_t reply, unsigned expected) {
-    if (watch_number(reply) != expected) differs("on damaged bytes the number is %u, expected %u", watch_number(reply), expected);
-    if (expected != 0 && reply != expected) differs("refusal %u with flag, value or place", expected);
-}
-
 /* Numbers that need not be an event, or one out of the pending places, or nearly that. Counts at processes that the
  * watch has not are mostly left out: with them it is refused for that. */
 static struct sent damaged_sent(struct source *s, const struct damaged *d, unsigned k) {
@@ -227,10 +223,11 @@ static void damaged_offer(struct source *s, struct damaged *d, unsigned k) {
 
 static void damaged_find(struct source *s, struct damaged *d) {
     uint64_t line = chance(s, 90) ? below(s, 66) : draw(s);
+    const uint8_t *record = d->record.bytes, *window = d->window.bytes;
     remember(d);
     note("find line %llu on damaged bytes\n", (unsigned long long)line);
-    unsigned expected = bytes_find(line, d->record.bytes, d->record.length, d->window.length);
-    compare_number(tally(FIND, watch_find(line, d->record.bytes, d->record.length, d->window.bytes, d->window.length)), expected);
+    uint64_t reply = tally(FIND, watch_find(line, record, d->record.length, window, d->window.length));
+    compare_replies(reply, bytes_find(line, d->record_before, d->record.length, d->window_before, d->window.length));
     unchanged("record", &d->record, d->record_before);
     unchanged("window", &d->window, d->window_before);
 }
@@ -244,7 +241,7 @@ static void damaged_take(struct source *s, struct damaged *d) {
     uint64_t reply = watch_take(d->record.bytes, d->record.length, d->window.bytes, d->window.length, d->scratch.bytes, d->scratch.length);
     unsigned number = watch_number(tally(TAKE, reply));
     if (can.refused != 0) {
-        compare_number(reply, can.refused);
+        compare_replies(reply, can.refused);
         unchanged("scratch", &d->scratch, d->scratch_before);
     } else if (!(reply == 0 ? can.nothing_ready : number == 0 ? can.taken : reply == 35 ? can.false_clock : reply == 36 && can.no_room)) {
         differs("take on damaged bytes answers number %u value %u; possible: nothing ready %d, taken %d, 35 %d, 36 %d", number,

@@ -47,6 +47,7 @@ void print_tally(void);
 
 void fill_junk(struct source *s, uint8_t *bytes, size_t length);
 void compare_bytes(const char *name, const uint8_t *library, const uint8_t *expected, size_t length);
+void compare_replies(uint64_t library, uint64_t expected);
 
 /* The kinds of cases. */
 void try_texts(struct source *s, struct twin *t);

@@ -1,11 +1,11 @@
 /* Records and windows of any bytes, as no list of calls may have left them: refusals, "again" and "nothing ready" are
  * exact there too, and so is what an accepted offer writes; whether a window fits, and what take writes when an event
- * leaves, are free. */
+ * leaves, are free. What find answers would be free as well, but the library promises more: see model.h. */
 #include <string.h>
 
 #include "model.h"
 
-enum { TAKEN_AT = 8, TABLE_AT = 152, PENDING_AT = 344, EVENT = 32 };
+enum { TAKEN_AT = 8, TABLE_AT = 152, PENDING_AT = 344, EVENT = 32, VALUES_AT = 32 };
 
 static unsigned get2(const uint8_t *at) {
     return at[0] + 256u * at[1];
@@ -94,10 +94,17 @@ unsigned bytes_offer(uint64_t mask, uint64_t clock_low, uint64_t clock_high, uin
     return number;
 }
 
-unsigned bytes_find(uint64_t line, const uint8_t *record, size_t record_len, size_t window_len) {
-    if (record_len != RECORD || !window_length(window_len)) return 6;
-    if (damaged(record, window_len / FRONTIER)) return 34;
-    return line < record[1] ? 0 : 11;
+/* The kept frontiers are the first so many of the window and go by their places, whatever their counts are; a line
+ * holds where its bit of the values is set. */
+uint64_t bytes_find(uint64_t line, const uint8_t *record, size_t record_len, const uint8_t *window, size_t window_len) {
+    if (record_len != RECORD || !window_length(window_len)) return reply_word(6, 0, 0, 0);
+    if (damaged(record, window_len / FRONTIER)) return reply_word(34, 0, 0, 0);
+    if (line >= record[1]) return reply_word(11, 0, 0, 0);
+    for (uint32_t place = 0; place < get4(record + 4); place++) {
+        const uint8_t *values = window + FRONTIER * place + VALUES_AT;
+        if (values[line / 8] >> line % 8 & 1) return reply_word(0, 1, place, 0);
+    }
+    return 0;
 }
 
 /* The eight counts of a frontier are the clock, lowered by 1 at the involved processes. */

@@ -1,5 +1,5 @@
 /* The four calls on a watch that is written by these calls only: sections "The calls" and "Turned back", request 1 on
- * an event that is sent again, and request 2 on 35. */
+ * an event that is sent again, request 2 on 35, and request 4 on what find answers. */
 #include <stdlib.h>
 #include <string.h>
 
@@ -161,14 +161,24 @@ uint64_t model_take(struct model *m, uint8_t *record, size_t record_len, uint8_t
     return refused(answer);
 }
 
+/* By its number among the kept cuts, from 0. The cuts stand in the window's order. */
+static uint64_t first_kept_with(const struct cuts *judged, unsigned k, uint64_t line) {
+    uint64_t place = 0;
+    for (size_t i = 0; i < judged->n; i++) {
+        const struct cut *s = &judged->cut[i];
+        if (!kept(judged, s, k)) continue;
+        if (s->lines >> line & 1) return reply_word(0, 1, place, 0);
+        place++;
+    }
+    return 0;
+}
+
 uint64_t model_find(const struct model *m, uint64_t line, size_t record_len, size_t window_len) {
     if (record_len != RECORD || !window_length(window_len)) return refused(6);
     struct cuts all = all_cuts(&m->history);
-    bool short_window = kept_number(&all, m->k) * FRONTIER > window_len, found = false;
     judge_cuts(&all, &m->history, &m->rule, m->start);
-    for (size_t i = 0; line < m->rule.lines && i < all.n; i++)
-        if (kept(&all, &all.cut[i], m->k) && all.cut[i].lines >> line & 1) found = true;
+    uint64_t answer = line < m->rule.lines ? first_kept_with(&all, m->k, line) : refused(11);
+    if (kept_number(&all, m->k) * FRONTIER > window_len) answer = refused(34);
     free_cuts(&all);
-    if (short_window) return refused(34);
-    return line < m->rule.lines ? reply_word(0, found, 0, 0) : refused(11);
+    return answer;
 }

@@ -105,8 +105,9 @@ uint64_t reply_word(unsigned number, unsigned flag, uint64_t value, uint64_t pla
  * accepted. */
 enum { AGAIN = 256 };
 
-/* As the four calls, with the model of the watch that the lent bytes belong to. model_find says only whether some kept frontier has the
- * line: flag, and value 0. */
+/* As the four calls, with the model of the watch that the lent bytes belong to. model_find answers the first kept
+ * frontier in the window's order at which the line holds: flag 1, its number from 0 as value. The word is 0 exactly if
+ * the line holds at none. */
 uint64_t model_open(struct model *m, const uint8_t *rule, size_t rule_len, uint64_t k, uint64_t start_labels,
                     uint8_t *record, size_t record_len, uint8_t *window, size_t window_len);
 uint64_t model_offer(struct model *m, uint64_t mask, uint64_t clock_low, uint64_t clock_high, uint64_t labels,
@@ -124,8 +125,9 @@ bool window_length(size_t length);
 /* The refusal of offer, or AGAIN, or 0: then the event was accepted and is laid down in the record. */
 unsigned bytes_offer(uint64_t mask, uint64_t clock_low, uint64_t clock_high, uint64_t labels, uint8_t *record, size_t record_len);
 
-/* The refusal of find, or 0. */
-unsigned bytes_find(uint64_t line, const uint8_t *record, size_t record_len, size_t window_len);
+/* The reply of find. What an accepted find answers on such bytes the scope leaves free; the library promises what
+ * request 4 says on all bytes that it does not refuse, and is held to that here too. */
+uint64_t bytes_find(uint64_t line, const uint8_t *record, size_t record_len, const uint8_t *window, size_t window_len);
 
 /* What take may do on these bytes. Whether a window fits is free, so more than one may be possible. */
 struct possible {
