@@ -6,7 +6,7 @@
 #include "../../include/watch.h"
 #include "twin.h"
 
-enum { HEADER = 8, TAKEN_AT = 8, CLOCKS_AT = 24, TABLE_AT = 152, PENDING_AT = 344, EVENT = 32 };
+enum { HEADER = 8, TAKEN_AT = 8, CLOCKS_AT = 24, TABLE_AT = 152, PENDING_AT = 344, EVENT = 32, VALUES_AT = 32 };
 
 struct damaged {
     struct lent record, window, scratch;
@@ -61,13 +61,15 @@ static struct sent acceptable(struct source *s, const uint8_t *record) {
     return e;
 }
 
+static void lay_word(uint8_t *at, uint64_t word) {
+    for (unsigned i = 0; i < 8; i++) at[i] = (uint8_t)(word >> 8 * i);
+}
+
 static void lay_event(uint8_t *at, struct sent e) {
     at[0] = (uint8_t)e.mask;
-    for (unsigned i = 0; i < 8; i++) {
-        at[8 + i] = (uint8_t)(e.low >> 8 * i);
-        at[16 + i] = (uint8_t)(e.high >> 8 * i);
-        at[24 + i] = (uint8_t)(e.labels >> 8 * i);
-    }
+    lay_word(at + 8, e.low);
+    lay_word(at + 16, e.high);
+    lay_word(at + 24, e.labels);
 }
 
 /* All pending places filled with a few events and what is nearly one of them, so that there are equal ones, some with
@@ -87,6 +89,10 @@ static void crowd_pending(struct source *s, uint8_t *record) {
     record[2] = chance(s, 30) ? PENDING : (uint8_t)below(s, PENDING + 1);
 }
 
+static unsigned room_of(const struct damaged *d) {
+    return (unsigned)(d->window.length / FRONTIER);
+}
+
 static uint8_t *frontier_at(const struct damaged *d, unsigned place) {
     return d->window.bytes + FRONTIER * place;
 }
@@ -103,9 +109,37 @@ static void lay_counts(uint8_t *at, const struct sent *e) {
     }
 }
 
+/* How many frontiers the record says are kept. Often, and if the window has not so many, it is made to say another
+ * number. */
+static unsigned choose_kept(struct source *s, struct damaged *d) {
+    unsigned kept_frontiers = watch_kept(d->record.bytes);
+    if (kept_frontiers >= 1 && kept_frontiers <= room_of(d) && !chance(s, 40)) return kept_frontiers;
+    kept_frontiers = between(s, 1, room_of(d));
+    memcpy(d->record.bytes + 4, (uint8_t[]){(uint8_t)kept_frontiers, (uint8_t)(kept_frontiers >> 8), 0, 0}, 4);
+    return kept_frontiers;
+}
+
+/* Each line holds first at a place of its own, and behind that wherever it falls. The place is often the first or the
+ * last that is kept, or stands behind those, and then the line holds at none that is kept. */
+static void lay_values(struct source *s, struct damaged *d, unsigned kept_frontiers) {
+    unsigned first[LINES], behind = room_of(d) - kept_frontiers;
+    for (unsigned line = 0; line < LINES; line++) {
+        bool kept_one = behind == 0 || chance(s, 75);
+        first[line] = kept_one ? place_of(s, 0, kept_frontiers) : place_of(s, kept_frontiers, behind);
+    }
+    for (unsigned place = 0; place < room_of(d); place++) {
+        uint64_t values = draw(s);
+        for (unsigned line = 0; line < LINES; line++) {
+            uint64_t bit = (uint64_t)1 << line;
+            if (place <= first[line]) values = place < first[line] ? values & ~bit : values | bit;
+        }
+        lay_word(frontier_at(d, place) + VALUES_AT, values);
+    }
+}
+
 /* Frontiers out of order, twice, or changed over from those that are kept to those behind them. */
 static void disorder(struct source *s, struct damaged *d) {
-    unsigned room = (unsigned)(d->window.length / FRONTIER);
+    unsigned room = room_of(d);
     for (unsigned times = between(s, 1, 4); times > 0; times--) {
         uint8_t saved[FRONTIER], *one = frontier_at(d, below(s, room)), *two = frontier_at(d, below(s, room));
         memcpy(saved, one, FRONTIER);
@@ -131,7 +165,7 @@ static struct sent ready_sent(struct source *s, const uint8_t *record) {
 /* Puts the event's lowered clock into the window, or nearly: among the kept frontiers, only behind them, with another
  * count at a process that the watch has not, with any other count, not lowered at one of its processes. */
 static void plant(struct source *s, struct damaged *d, struct sent e, unsigned kept_frontiers) {
-    unsigned k = d->record.bytes[0], room = (unsigned)(d->window.length / FRONTIER);
+    unsigned k = d->record.bytes[0], behind = room_of(d) - kept_frontiers;
     unsigned way = below(s, 6), p = below(s, PROCESSES), count;
     while (way == 4 && e.mask % 256 != 0 && !(e.mask >> p & 1)) p = (p + 1) % PROCESSES;
     for (unsigned q = 0; q < PROCESSES; q++)
@@ -140,18 +174,14 @@ static void plant(struct source *s, struct damaged *d, struct sent e, unsigned k
     count = sent_count(&e, p);
     if (way == 2 || way == 3) set_sent_count(&e, p, chance(s, 50) ? count ^ 1u << below(s, 16) : (count + 1) & 65535);
     if (way != 1) lay_counts(frontier_at(d, place_of(s, 0, kept_frontiers)), &e);
-    else if (kept_frontiers < room) lay_counts(frontier_at(d, place_of(s, kept_frontiers, room - kept_frontiers)), &e);
+    else if (behind > 0) lay_counts(frontier_at(d, place_of(s, kept_frontiers, behind)), &e);
 }
 
 /* Several events that are ready at once, for most of them something planted in the window. Some taken counts are large,
  * or are those of a process that the watch has not. */
-static void plant_ready(struct source *s, struct damaged *d) {
+static void plant_ready(struct source *s, struct damaged *d, unsigned kept_frontiers) {
     uint8_t *record = d->record.bytes;
-    unsigned room = (unsigned)(d->window.length / FRONTIER), kept_frontiers = watch_kept(record), n = between(s, 1, 5);
-    if (kept_frontiers < 1 || kept_frontiers > room || chance(s, 40)) {
-        kept_frontiers = between(s, 1, room);
-        memcpy(record + 4, (uint8_t[]){(uint8_t)kept_frontiers, (uint8_t)(kept_frontiers >> 8), 0, 0}, 4);
-    }
+    unsigned n = between(s, 1, 5);
     if (record[0] < PROCESSES && chance(s, 20)) record[TAKEN_AT + 2 * between(s, record[0], 7)] = (uint8_t)below(s, 4);
     if (chance(s, 15)) record[TAKEN_AT + below(s, 16)] = (uint8_t)draw(s);
     for (unsigned i = 0; i < n; i++) {
@@ -164,9 +194,11 @@ static void plant_ready(struct source *s, struct damaged *d) {
 
 static void damage(struct source *s, struct damaged *d) {
     unsigned times = between(s, 1, 4);
-    bool crowded = chance(s, 25), planted = !crowded && chance(s, 35);
+    bool crowded = chance(s, 25), planted = !crowded && chance(s, 35), valued = chance(s, 30);
+    unsigned kept_frontiers = planted || valued ? choose_kept(s, d) : 0;
     if (chance(s, 20)) disorder(s, d);
-    if (planted) plant_ready(s, d);
+    if (valued) lay_values(s, d, kept_frontiers);
+    if (planted) plant_ready(s, d, kept_frontiers);
     if (planted && chance(s, 80)) return;
     if (crowded) crowd_pending(s, d->record.bytes);
     if (!crowded || chance(s, 30))
@@ -178,7 +210,7 @@ static void damage(struct source *s, struct damaged *d) {
     if (chance(s, 50))
         for (unsigned i = 0; i < times; i++) damage_byte(s, d->window.bytes + below(s, (unsigned)d->window.length));
     if (chance(s, 5)) fill_junk(s, d->window.bytes, d->window.length);
-    if (chance(s, 20)) d->record.bytes[4] = (uint8_t)below(s, (unsigned)(d->window.length / FRONTIER) + 2);
+    if (chance(s, 20)) d->record.bytes[4] = (uint8_t)below(s, room_of(d) + 2);
 }
 
 static void remember(struct damaged *d) {
@@ -221,9 +253,11 @@ static void damaged_offer(struct source *s, struct damaged *d, unsigned k) {
     unchanged("record", &d->record, d->record_before);
 }
 
+/* Mostly a line of the table, by the record's own number of lines. */
 static void damaged_find(struct source *s, struct damaged *d) {
-    uint64_t line = chance(s, 90) ? below(s, 66) : draw(s);
     const uint8_t *record = d->record.bytes, *window = d->window.bytes;
+    unsigned lines = d->record.length == RECORD && chance(s, 85) ? watch_lines(record) : LINES + 1;
+    uint64_t line = chance(s, 95) ? below(s, lines + 1) : draw(s);
     remember(d);
     note("find line %llu on damaged bytes\n", (unsigned long long)line);
     uint64_t reply = tally(FIND, watch_find(line, record, d->record.length, window, d->window.length));
@@ -273,9 +307,9 @@ void damage_excursion(struct source *s, const struct twin *t, unsigned calls) {
     memcpy(d->window.bytes, t->window_bytes, FRONTIER * room);
     if (d->record.length == RECORD) damage(s, d);
     for (unsigned i = 0; i < calls; i++) {
-        unsigned action = below(s, 10);
+        unsigned action = below(s, 11);
         if (action < 4) damaged_offer(s, d, t->model.k);
-        else if (action < 5) damaged_find(s, d);
+        else if (action < 6) damaged_find(s, d);
         else damaged_take(s, d);
         if (!lent_intact(&d->record) || !lent_intact(&d->window) || !lent_intact(&d->scratch))
             differs("a byte outside the buffers changed");

@@ -1,6 +1,6 @@
 /* Demand 3, tried: two lists of calls that accept the same events in different orders, each ended by "nothing ready",
  * leave the same record and the same frontiers; a verdict that both reported for the same counts is the same, and it is
- * the one of that cut among all cuts of what is taken at the end. */
+ * the one of that cut among all cuts of what is taken at the end. And find names the same place for each line. */
 #include <stdio.h>
 #include <string.h>
 
@@ -174,6 +174,21 @@ static void compare_with_end(const struct list *l) {
     free_cuts(&all);
 }
 
+static void compare_found(const struct twin *t, unsigned line, uint64_t expected) {
+    note("find line %u window %zu\n", line, t->window.length);
+    uint64_t reply = watch_find(line, t->record.bytes, RECORD, t->window.bytes, t->window.length);
+    compare_replies(tally(FIND, reply), expected);
+}
+
+/* The place is read from the bytes: wide ones are too large for the model's cuts. */
+static void compare_finds(const struct twin *one, const struct twin *two) {
+    for (unsigned line = 0; line < watch_lines(one->record.bytes); line++) {
+        uint64_t expected = bytes_find(line, one->record.bytes, RECORD, one->window.bytes, one->window.length);
+        compare_found(one, line, expected);
+        compare_found(two, line, expected);
+    }
+}
+
 static void compare_ends(const struct twin *one, const struct twin *two) {
     size_t frontiers = FRONTIER * watch_kept(one->record.bytes);
     note("the records and kept frontiers of two orders are compared\n");
@@ -205,7 +220,7 @@ void try_orders(struct source *s, struct twin *t, struct twin *other, bool wide)
     note("the other order\n");
     list_open(&two, text, length, k, labels, FRONTIER * between(s, 1, ROOM));
     shuffle(s, all.event, all.n, chance(s, 50) && all.n <= 32);
-    if (ended && list_run(&two, &all)) compare_ends(t, other);
+    if (ended && list_run(&two, &all)) compare_ends(t, other), compare_finds(t, other);
     compare_verdicts(&one.verdicts, &two.verdicts);
     if (!wide) compare_with_end(&one), compare_with_end(&two);
 }

@@ -49,9 +49,12 @@ static void lend_longer(struct source *s, struct twin *t) {
     twin_lend(t, s, RECORD, FRONTIER * (longer < ROOM ? longer : ROOM));
 }
 
+/* One line; now and then all of them, since few hold at some kept frontiers but not at the first. */
 static void random_find(struct source *s, struct twin *t) {
     unsigned lines = t->model.rule.lines;
-    twin_find(t, chance(s, 90) ? below(s, lines + 1) : chance(s, 50) ? lines - 1 : sized(s));
+    bool each = chance(s, 10);
+    for (unsigned line = 0; each && line < lines; line++) twin_find(t, line);
+    if (!each) twin_find(t, chance(s, 90) ? below(s, lines + 1) : chance(s, 50) ? lines - 1 : sized(s));
 }
 
 static void random_offer(struct source *s, struct twin *t, const struct execution *x) {
