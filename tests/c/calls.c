@@ -21,6 +21,7 @@ int main(void) {
     run("tests/c/orders.c", test_orders);
     run("tests/c/examples.c", test_examples);
     run("tests/c/messages.c", test_messages);
+    run("tests/c/find.c", test_find);
     run("tests/c/edges.c", test_edges);
     run("tests/c/stack.c", test_stack);
     if (failures != 0) {

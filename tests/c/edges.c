@@ -39,7 +39,7 @@ static void check_alignment(struct subject *s) {
         CHECK(all_zero(s->scratch.bytes, 160));
         CHECK_REPLY(offer(s, 2, 0, 1, 0, 0, 0x100), held(1));
         CHECK(watch_take(s->record.bytes, s->record.length, s->window.bytes, 160, s->scratch.bytes, 160) == state(1, 3));
-        CHECK_REPLY(try_find(s, 6), (uint64_t)1 << 8 | (uint64_t)2 << 16);
+        CHECK_REPLY(try_find(s, 6), found(2));
         CHECK(lent_intact(&s->scratch));
     }
 }
@@ -119,7 +119,7 @@ static void check_full_window(struct subject *s) {
     CHECK_REPLY(offer(s, 2, 0, 1024, 0, 0, 0), WATCH_AGAIN);
     CHECK_REPLY(offer(s, 3, 1, 1024, 0, 0, 0), refused(32));
     for (unsigned i = 0; i < 1024; i += 341) CHECK(watch_cut(s->window.bytes, i, 0) == 0 && watch_cut(s->window.bytes, i, 1) == i);
-    CHECK_REPLY(try_find(s, 5), (uint64_t)1 << 8 | (uint64_t)1 << 16);
+    CHECK_REPLY(try_find(s, 5), found(1));
     CHECK_REPLY(offer(s, 1, 1, 1023, 0, 0, 1), held(2));
     CHECK_REPLY(try_take(s), state(1, 2));
     CHECK(all_zero(s->window.bytes + 80, s->window.length - 80));

@@ -212,12 +212,12 @@ static void check_find(struct subject *s) {
     CHECK(watch_lines(s->record.bytes) == 6);
     CHECK_REPLY(try_find(s, 6), refused(11));
     for (size_t i = 0; i < sizeof wrong / sizeof wrong[0]; i++) CHECK_REPLY(try_find(s, wrong[i]), refused(11));
-    CHECK_REPLY(try_find(s, 3), (uint64_t)1 << 8);
-    CHECK_REPLY(try_find(s, 5), 0);
+    CHECK_REPLY(try_find(s, 3), found(0));
+    CHECK_REPLY(try_find(s, 5), found(NONE));
     CHECK_REPLY(offer(s, 1, 1, 0, 0, 0, 2), held(1));
     CHECK_REPLY(try_take(s), state(1, 2));
-    CHECK_REPLY(try_find(s, 5), (uint64_t)1 << 8 | 1 << 16);
-    CHECK_REPLY(try_find(s, 2), 0);
+    CHECK_REPLY(try_find(s, 5), found(1));
+    CHECK_REPLY(try_find(s, 2), found(NONE));
 }
 
 /* A ready event with a false clock leaves, whatever stands in front of it and does not fit: here process 1 forgets that

@@ -36,11 +36,16 @@ static inline uint64_t state(unsigned truth, unsigned kept) { return (uint64_t)t
 static inline uint64_t held(unsigned number) { return (uint64_t)number << 16; }
 #define NOTHING_READY ((uint64_t)0)
 
+/* Find's reply: the place of a frontier, or that there is none. */
+enum { NONE = -1 };
+static inline uint64_t found(int place) { return place == NONE ? 0 : (uint64_t)1 << 8 | (uint64_t)place << 16; }
+
 void test_texts(void);
 void test_refusals(void);
 void test_orders(void);
 void test_examples(void);
 void test_messages(void);
+void test_find(void);
 void test_edges(void);
 void test_stack(void);
 
