@@ -1,4 +1,4 @@
-/* Request 4: find answers the first kept frontier in the window's order at which the line holds. */
+/* Request 4: of the kept frontiers that have a line, find names the one that stands first in the window. */
 #include <string.h>
 
 #include "subject.h"

@@ -105,9 +105,9 @@ uint64_t reply_word(unsigned number, unsigned flag, uint64_t value, uint64_t pla
  * accepted. */
 enum { AGAIN = 256 };
 
-/* As the four calls, with the model of the watch that the lent bytes belong to. model_find answers the first kept
- * frontier in the window's order at which the line holds: flag 1, its number from 0 as value. The word is 0 exactly if
- * the line holds at none. */
+/* As the four calls, with the model of the watch that the lent bytes belong to. Of the kept frontiers that have
+ * the line model_find answers the one that stands first in the window: flag 1, its number from 0 as value. The word is
+ * 0 exactly if none has it. */
 uint64_t model_open(struct model *m, const uint8_t *rule, size_t rule_len, uint64_t k, uint64_t start_labels,
                     uint8_t *record, size_t record_len, uint8_t *window, size_t window_len);
 uint64_t model_offer(struct model *m, uint64_t mask, uint64_t clock_low, uint64_t clock_high, uint64_t labels,
