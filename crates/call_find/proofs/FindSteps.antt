@@ -17,11 +17,13 @@ use Rattle.call_find.specs.FindCode.{replyFrom, fourValues}
 -- ---- Through the frontiers
 
 module _ (w line : ℕ) (window : List ℕ) (kept i : ℕ) where
-  pub find-here : i < kept → bit (frontierAt w window i .values) line ≡ true → replyFrom w line window kept i ≡ 256 + 65536 * i
+  pub find-here : i < kept → bit (frontierAt w window i .values) line ≡ true
+      → replyFrom w line window kept i ≡ 256 + 65536 * i
   unfolding findFrom frontiers replyWord
   find-here l h = rw (rest-next kept (frontierAt w window) i l, h)
 
-  pub find-further : i < kept → bit (frontierAt w window i .values) line ≡ false → replyFrom w line window kept i ≡ replyFrom w line window kept (i + 1)
+  pub find-further : i < kept → bit (frontierAt w window i .values) line ≡ false
+      → replyFrom w line window kept i ≡ replyFrom w line window kept (i + 1)
   unfolding findFrom frontiers
   find-further l h = rw (rest-next kept (frontierAt w window) i l, h)
 
@@ -31,14 +33,17 @@ module _ (w line : ℕ) (window : List ℕ) (kept i : ℕ) where
 
 -- ---- Four frontiers at once
 
-pub find-further-four : (w line : ℕ) (window : List ℕ) (kept i : ℕ) → i + 4 ≤ kept → bit (fourValues w window i) line ≡ false
+pub find-further-four : (w line : ℕ) (window : List ℕ) (kept i : ℕ) → i + 4 ≤ kept
+    → bit (fourValues w window i) line ≡ false
     → replyFrom w line window kept i ≡ replyFrom w line window kept (i + 4)
 find-further-four w line window kept i l h =
-    let halves : (bit (bitOr (v i) (v (i + 1))) line ≡ false) × (bit (bitOr (v (i + 2)) (v (i + 3))) line ≡ false) = neither (bitOr (v i) (v (i + 1))) (bitOr (v (i + 2)) (v (i + 3))) h in
-    let front : (bit (v i) line ≡ false) × (bit (v (i + 1)) line ≡ false) = neither (v i) (v (i + 1)) (halves .0) in
-    let back : (bit (v (i + 2)) line ≡ false) × (bit (v (i + 3)) line ≡ false) = neither (v (i + 2)) (v (i + 3)) (halves .1) in
-    further i (i + 1) (omega arith) (omega arith) (front .0) ∙ further (i + 1) (i + 2) (omega arith) (omega arith) (front .1)
-    ∙ further (i + 2) (i + 3) (omega arith) (omega arith) (back .0) ∙ further (i + 3) (i + 4) (omega arith) (omega arith) (back .1)
+    let halves = neither (bitOr (v i) (v (i + 1))) (bitOr (v (i + 2)) (v (i + 3))) h in
+    let front = neither (v i) (v (i + 1)) (halves .0) in
+    let back = neither (v (i + 2)) (v (i + 3)) (halves .1) in
+    further i (i + 1) (omega arith) (omega arith) (front .0)
+    ∙ further (i + 1) (i + 2) (omega arith) (omega arith) (front .1)
+    ∙ further (i + 2) (i + 3) (omega arith) (omega arith) (back .0)
+    ∙ further (i + 3) (i + 4) (omega arith) (omega arith) (back .1)
   where
     v : ℕ → ℕ
     v j = frontierAt w window j .values
@@ -46,5 +51,6 @@ find-further-four w line window kept i l h =
     neither : (a b : ℕ) → bit (bitOr a b) line ≡ false → (bit a line ≡ false) × (bit b line ≡ false)
     neither a b e = or-false-e (bit a line) (bit b line) (sym (bit-or a b line) ∙ e)
 
-    further : (j k : ℕ) → j < kept → j + 1 ≡ k → bit (v j) line ≡ false → replyFrom w line window kept j ≡ replyFrom w line window kept k
+    further : (j k : ℕ) → j < kept → j + 1 ≡ k → bit (v j) line ≡ false
+        → replyFrom w line window kept j ≡ replyFrom w line window kept k
     further j k b q e = find-further w line window kept j b e ∙ ap (replyFrom w line window kept) q

@@ -14,4 +14,6 @@ replyFrom w line window kept i = replyWord (findFrom line i (drop i (frontiers w
 -- The bits that any of four frontiers has in its values, from number i on.
 abbrev pub fourValues : ℕ → List ℕ → ℕ → ℕ
 fourValues w window i =
-    bitOr (bitOr (frontierAt w window i .values) (frontierAt w window (i + 1) .values)) (bitOr (frontierAt w window (i + 2) .values) (frontierAt w window (i + 3) .values))
+    bitOr
+    (bitOr (frontierAt w window i .values) (frontierAt w window (i + 1) .values))
+    (bitOr (frontierAt w window (i + 2) .values) (frontierAt w window (i + 3) .values))

@@ -11,26 +11,52 @@ use denote.Ref.{now}
 use Rattle.call_find.proofs.find.Statement.{statement}
 use Rattle.refusals.specs.RefusalLaws.{right-length, state-within, room-within}
 use Rattle.call_find.specs.Find.{findCall}
-use Rattle.records.specs.Record.{lineTotal}
+use Rattle.records.specs.Record.{lineTotal, recordLength}
 use Rattle.refusals.specs.Refusals.{badRecordLength, badWindowLength, roomOf, badState}
 use Rattle.answers.specs.Answer.{replyWord}
 
-bad-record-length-requires : tie.Need-bad-record-length-requires
-bad-record-length-requires c κs = search needs
+-- ---- Places in the walk: the start, and where 6 and 34 have let the call pass
 
--- The tests that let the call pass.
-length-passed : (c : tie.Else1) → badRecordLength (c .before .before .before .before .args .w) (length (now (c .before .before .before .before .args .«record»))) ≡ false
+abbrev start : tie.Else1 → tie.Start
+start c = c .before .before .before .before
+
+abbrev record-right : tie.Else2 → tie.Else1
+record-right c = c .before .before
+
+abbrev window-right : tie.After-bad-state → tie.Else2
+window-right c = c .before .before
+
+abbrev lengths-right : tie.Else3 → tie.Else1
+lengths-right c = record-right (window-right (c .before))
+
+-- ---- The tests that let it pass
+
+length-passed : (c : tie.Else1) → badRecordLength (start c .args .w) (length (now (start c .args .«record»))) ≡ false
 length-passed c = sym (c .before .bad-record-length .ensures) ∙ c .if1 .left
 
-window-passed : (c : tie.Else2) → badWindowLength (c .before .before .before .before .before .before .args .w) (length (now (c .before .before .before .before .before .before .args .window))) ≡ false
+window-passed : (c : tie.Else2) → let a = start (record-right c) .args in
+    badWindowLength (a .w) (length (now (a .window))) ≡ false
 window-passed c = sym (c .before .bad-window-length .ensures) ∙ c .if2 .left
 
 -- The state is judged with the window's room.
-state-read : (c : tie.After-bad-state) → badState (c .before .before .before .before .before .before .before .before .args .w) (roomOf (c .before .before .before .before .before .before .before .before .args .w) (length (now (c .before .before .before .before .before .before .before .before .args .window)))) (now (c .before .before .before .before .before .before .before .before .args .«record»)) ≡ c .bad-state .result
-state-read c = sym (c .bad-state .ensures ∙ ap (λ (room : ℕ). badState (c .before .before .before .before .before .before .before .before .args .w) room (now (c .before .before .before .before .before .before .before .before .args .«record»))) (c .before .room-of .ensures))
+state-read : (c : tie.After-bad-state) → let a = start (record-right (window-right c)) .args in
+    badState (a .w) (roomOf (a .w) (length (now (a .window)))) (now (a .«record»)) ≡ c .bad-state .result
+state-read c =
+    let a = start (record-right (window-right c)) .args in
+    let room = c .before .room-of in
+    sym (c .bad-state .ensures ∙ ap (λ (n : ℕ). badState (a .w) n (now (a .«record»))) (room .ensures))
 
-state-passed : (c : tie.Else3) → badState (c .before .before .before .before .before .before .before .before .before .args .w) (roomOf (c .before .before .before .before .before .before .before .before .before .args .w) (length (now (c .before .before .before .before .before .before .before .before .before .args .window)))) (now (c .before .before .before .before .before .before .before .before .before .args .«record»)) ≡ false
+state-passed : (c : tie.Else3) → let a = start (lengths-right c) .args in
+    badState (a .w) (roomOf (a .w) (length (now (a .window)))) (now (a .«record»)) ≡ false
 state-passed c = state-read (c .before) ∙ c .if3 .left
+
+record-long : (c : tie.Else1) → length (now (start c .args .«record»)) ≡ recordLength (start c .args .w)
+record-long c = right-length (start c .args .w) (length (now (start c .args .«record»))) (length-passed c)
+
+-- ---- Needs
+
+bad-record-length-requires : tie.Need-bad-record-length-requires
+bad-record-length-requires c κs = search needs
 
 returns : tie.Need-returns
 unfolding findCall replyWord
@@ -47,42 +73,54 @@ room-of-requires : tie.Need-room-of-requires
 room-of-requires c κs = search needs
 
 bad-state-requires : tie.Need-bad-state-requires
-bad-state-requires c κs = (search needs, right-length (c .before .before .before .before .before .before .before .args .w) (length (now (c .before .before .before .before .before .before .before .args .«record»))) (length-passed (c .before .before .before)))
+bad-state-requires c κs = (search needs, record-long (record-right (c .before)))
 
 returns-3 : tie.Need-returns-3
 unfolding findCall replyWord
-returns-3 c = rw (length-passed (c .before .before .before .before .before), window-passed (c .before .before .before), state-read (c .before), c .if3 .taken)
+returns-3 c =
+    let w = window-right (c .before) in
+    rw (length-passed (record-right w), window-passed w, state-read (c .before), c .if3 .taken)
 
 line-total-requires : tie.Need-line-total-requires
-line-total-requires c κs = omega (arith, right-length (c .before .before .before .before .before .before .before .before .before .args .w) (length (now (c .before .before .before .before .before .before .before .before .before .args .«record»))) (length-passed (c .before .before .before .before .before)))
+line-total-requires c κs = omega (arith, record-long (lengths-right c))
 
 cast-if4 : tie.Need-cast-if4
 cast-if4 c = search needs
 
 returns-4 : tie.Need-returns-4
 unfolding findCall replyWord
-returns-4 c = rw (length-passed (c .before .before .before .before .before .before .before), window-passed (c .before .before .before .before .before), state-passed (c .before .before), le-leb (lineTotal (now (c .before .before .before .before .before .before .before .before .before .before .before .args .«record»))) (c .before .before .before .before .before .before .before .before .before .before .before .args .line) (omega arith))
+returns-4 c =
+    let e = c .before .before in
+    let a = start (lengths-right e) .args in
+    let far = le-leb (lineTotal (now (a .«record»))) (a .line) (omega arith) in
+    rw (length-passed (lengths-right e), window-passed (window-right (e .before)), state-passed e, far)
 
 cast-find-first : tie.Need-cast-find-first
 cast-find-first c = search needs
 
 kept-count-requires : tie.Need-kept-count-requires
-kept-count-requires c κs = omega (arith, right-length (c .before .before .before .before .before .before .before .before .before .before .before .args .w) (length (now (c .before .before .before .before .before .before .before .before .before .before .before .args .«record»))) (length-passed (c .before .before .before .before .before .before .before)))
+kept-count-requires c κs = omega (arith, record-long (lengths-right (c .before .before)))
 
 cast-find-first-2 : tie.Need-cast-find-first-2
 cast-find-first-2 c = search needs
 
 find-first-requires : tie.Need-find-first-requires
 find-first-requires c κs =
-    let within = state-within (c .before .before .before .before .before .before .before .before .before .before .before .before .args .w) (roomOf (c .before .before .before .before .before .before .before .before .before .before .before .before .args .w) (length (now (c .before .before .before .before .before .before .before .before .before .before .before .before .args .window)))) (now (c .before .before .before .before .before .before .before .before .before .before .before .before .args .«record»)) (state-passed (c .before .before .before)) in
-    let kept : c .kept-count .result ≤ roomOf (c .before .before .before .before .before .before .before .before .before .before .before .before .args .w) (length (now (c .before .before .before .before .before .before .before .before .before .before .before .before .args .window))) = omega (arith, within .4) in
-    (search needs, (omega (arith, within .2), (omega (arith, within .3), room-within (c .before .before .before .before .before .before .before .before .before .before .before .before .args .w) (c .kept-count .result) (length (now (c .before .before .before .before .before .before .before .before .before .before .before .before .args .window))) kept)))
+    let e = c .before .before .before in
+    let a = start (lengths-right e) .args in
+    let room = roomOf (a .w) (length (now (a .window))) in
+    let within = state-within (a .w) room (now (a .«record»)) (state-passed e) in
+    let kept : c .kept-count .result ≤ room = omega (arith, within .4) in
+    let held = room-within (a .w) (c .kept-count .result) (length (now (a .window))) kept in
+    (search needs, (omega (arith, within .2), (omega (arith, within .3), held)))
 
 returns-5 : tie.Need-returns-5
 unfolding findCall
 returns-5 c =
-    rw (length-passed (c .before .before .before .before .before .before .before .before .before), window-passed (c .before .before .before .before .before .before .before), state-passed (c .before .before .before .before), lt-leb (lineTotal (now (c .before .before .before .before .before .before .before .before .before .before .before .before .before .args .«record»))) (c .before .before .before .before .before .before .before .before .before .before .before .before .before .args .line) (omega arith))
-    (cc)
+    let e = c .before .before .before .before in
+    let a = start (lengths-right e) .args in
+    let there = lt-leb (lineTotal (now (a .«record»))) (a .line) (omega arith) in
+    rw (length-passed (lengths-right e), window-passed (window-right (e .before)), state-passed e, there) (cc)
 
 pub find-spec : {M : Type 1} → statement M
 find-spec =

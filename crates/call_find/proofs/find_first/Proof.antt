@@ -19,7 +19,8 @@ returns : tie.Need-returns
 returns c =
     let a = c .before .before .before .args in
     let f = c .before .first-holding in
-    sym (f .ensures .1 .0 ∙ find-here (a .w) (a .line) (now (a .window)) (a .kept) (f .result) (search needs) (f .ensures .1 .1 (search needs)))
+    let here = f .ensures .1 .1 (search needs) in
+    sym (f .ensures .1 .0 ∙ find-here (a .w) (a .line) (now (a .window)) (a .kept) (f .result) (search needs) here)
 
 returns-2 : tie.Need-returns-2
 returns-2 c =

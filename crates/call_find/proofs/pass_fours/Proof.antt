@@ -3,6 +3,7 @@ use Prim.Native.Nat.{ℕ, _-_, _≤_, _+_}
 use native.Mathlib.Nat.{mul-le-mul-right}
 use native.Mathlib.Omega.{arith}
 use mathlib.Core.Path.{_≡_, refl, sym, ap, _∙_}
+use mathlib.Core.Bool.{false}
 use borrow.Author.Needs.{needs}
 use denote.Ref.{now}
 use Rattle.codec.specs.Bit.{bit}
@@ -10,7 +11,7 @@ use Rattle.frontiers.specs.Bytes.{frontierLength}
 use Rattle.call_find.proofs.FindSteps.{find-further-four}
 use Rattle.call_find.proofs.pass_fours.Statement.{statement}
 use Rattle.call_find.proofs.pass_fours.Tie as tie
-use Rattle.call_find.specs.FindCode.{replyFrom}
+use Rattle.call_find.specs.FindCode.{replyFrom, fourValues}
 
 abbrev Inv-loop : tie.InvT-loop
 Inv-loop w line window kept i₀ i = (i ≤ kept) × (replyFrom w line window kept 0 ≡ replyFrom w line window kept i)
@@ -44,10 +45,14 @@ loop-less c = search needs
 
 loop-again : tie.Need-loop-again Inv-loop μ-loop
 loop-again c =
-    let a = c .before .before .before .before .before .before .args in
-    let l = c .before .before .before .before .loop in
-    let none : c .before .has-bit .result ≡ bit (c .before .before .four-values .result) (a .line) = c .before .has-bit .ensures in
-    (omega arith, l .inv .1 ∙ find-further-four (a .w) (a .line) (now (a .window)) (a .kept) (l .i) (omega arith) (ap (λ (v : ℕ). bit v (a .line)) (sym (c .before .before .four-values .ensures)) ∙ sym none ∙ c .if1 .left))
+    let head = c .before .before .before .before in
+    let a = head .before .before .args in
+    let i = head .loop .i in
+    let four = c .before .before .four-values in
+    let none : bit (fourValues (a .w) (now (a .window)) i) (a .line) ≡ false =
+    ap (λ (v : ℕ). bit v (a .line)) (sym (four .ensures)) ∙ sym (c .before .has-bit .ensures) ∙ c .if1 .left in
+    let further = find-further-four (a .w) (a .line) (now (a .window)) (a .kept) i (omega arith) none in
+    (omega arith, head .loop .inv .1 ∙ further)
 
 returns-2 : tie.Need-returns-2 Inv-loop μ-loop
 returns-2 c = search needs

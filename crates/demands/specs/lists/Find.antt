@@ -41,14 +41,17 @@ use Rattle.demands.specs.lists.SoundRun.{Sound, every-list}
 -- ---- The first cut is one
 first-unique : (has : Property) (cuts : List Cut) (i j : ℕ) → FirstAt has cuts i → FirstAt has cuts j → i ≡ j
 first-unique has cuts i j x y = ⊎-elim (λ q. sym (x .place) ∙ ap length (q .0) ∙ y .place)
-    (⊎-elim (λ m. absurd (clash (y .none-before (x .cut) m) (x .here))) (λ m. absurd (clash (x .none-before (y .cut) m) (y .here))))
+    (⊎-elim
+    (λ m. absurd (clash (y .none-before (x .cut) m) (x .here)))
+    (λ m. absurd (clash (x .none-before (y .cut) m) (y .here))))
     (which-first (x .before) (x .behind) (y .before) (y .behind) (x .cut) (y .cut) (sym (x .cuts-are) ∙ y .cuts-are))
   where
     clash : {b : Bool} → b ≡ false → b ≡ true → ⊥
     clash p q = let z : _≡_ {A = Bool} false true = sym p ∙ q in let u : _≡_ {A = ℕ} 0 1 = cc in omega arith
 
 -- ---- Frontiers of cuts, a bit of whose values is a property
-module _ (line : ℕ) (F : Cut → Frontier) (has : Property) (says : (S : Cut) → bit (F S .values) line ≡ has S) (cuts : List Cut) where
+module _ (line : ℕ) (F : Cut → Frontier) (has : Property)
+    (says : (S : Cut) → bit (F S .values) line ≡ has S) (cuts : List Cut) where
   zero-cut : Cut
   zero-cut p = 0
 
@@ -60,7 +63,8 @@ module _ (line : ℕ) (F : Cut → Frontier) (has : Property) (says : (S : Cut) 
   at-place : (j : ℕ) (b : Bool) → j < length cuts → bit (getD (map F cuts) j (F zero-cut) .values) line ≡ b
       → has (getD cuts j zero-cut) ≡ b
   at-place j b l q =
-      sym (says (getD cuts j zero-cut)) ∙ ap (λ (g : Frontier). bit (g .values) line) (sym (getD-mapped F cuts j zero-cut (F zero-cut) l)) ∙ q
+      sym (says (getD cuts j zero-cut))
+      ∙ ap (λ (g : Frontier). bit (g .values) line) (sym (getD-mapped F cuts j zero-cut (F zero-cut) l)) ∙ q
 
   found-case : Case
   found-case = go (finding line 0 (map F cuts) (F zero-cut))
@@ -76,10 +80,15 @@ module _ (line : ℕ) (F : Cut → Frontier) (has : Property) (says : (S : Cut) 
             cuts-are = split-at cuts j zero-cut m;
             place = length-take-le j cuts (omega arith);
             here = at-place j true m t;
-            none-before = λ C c. let p = member-take cuts j zero-cut C c in subst (λ (D : Cut). has D ≡ false) (p .3) (at-place (p .0) false (p .2) (n (p .0) (p .1)));
+            none-before = λ C c.
+                let p = member-take cuts j zero-cut C c in
+                subst (λ (D : Cut). has D ≡ false) (p .3) (at-place (p .0) false (p .2) (n (p .0) (p .1)));
           })
-      go (nowhere q n) = nowhere-here q (λ C c. let p = member-place cuts C zero-cut c in
-          subst (λ (D : Cut). has D ≡ false) (p .2) (at-place (p .0) false (p .1) (n _ (place-member (map F cuts) (p .0) (F zero-cut) (omega (arith, p .1, length-map cuts F))))))
+      go (nowhere q n) = nowhere-here q (λ C c.
+          let p = member-place cuts C zero-cut c in
+          let m : p .0 < length (map F cuts) = omega (arith, p .1, length-map cuts F) in
+          let b = n _ (place-member (map F cuts) (p .0) (F zero-cut) m) in
+          subst (λ (D : Cut). has D ≡ false) (p .2) (at-place (p .0) false (p .1) b))
 
   first-exactly : (i : ℕ) → (findFrom line 0 (map F cuts) ≡ found i) ↔ FirstAt has cuts i
   first-exactly i = (there found-case, back found-case)
@@ -136,18 +145,22 @@ module _ (w k : ℕ) (f : Formula) (start : Cut) (Z : Watch) (S : Sound w k f st
   long : badRecordLength w (length (Z .bytes)) ≡ false
   unfolding badRecordLength
   long =
-      rw (eq-eqb (length (Z .bytes)) (recordLength w) (bytes-long w k table start (S .rule) (Z .ledger) (Z .bytes) (Z .window) (S .right)))
+      let n = bytes-long w k table start (S .rule) (Z .ledger) (Z .bytes) (Z .window) (S .right) in
+      rw (eq-eqb (length (Z .bytes)) (recordLength w) n)
 
   good : badState w (roomOf w (length (Z .window))) (Z .bytes) ≡ false
   good =
-      never-34 w k table start (S .rule) (Z .ledger) (Z .bytes) (Z .window) (S .right) (roomOf w (length (Z .window))) (room-iff w (length (S .right .kept)) (length (Z .window)) .1 (S .right .room))
+      let fits = room-iff w (length (S .right .kept)) (length (Z .window)) .1 (S .right .room) in
+      let room = roomOf w (length (Z .window)) in
+      never-34 w k table start (S .rule) (Z .ledger) (Z .bytes) (Z .window) (S .right) room fits
 
   lines : lineTotal (Z .bytes) ≡ length table
   lines = says-lines w k table start (S .rule) (Z .ledger) (Z .bytes) (Z .window) (S .right)
 
   read : frontiers w (Z .window) (keptCount (Z .bytes)) ≡ S .right .kept
   read =
-      ap (λ (s : List ℕ). frontiers w s (keptCount (Z .bytes))) (S .right .window-is) ∙ says-frontiers w k table start (S .rule) (Z .ledger) (Z .bytes) (Z .window) (S .right) (length (Z .window))
+      ap (λ (s : List ℕ). frontiers w s (keptCount (Z .bytes))) (S .right .window-is)
+      ∙ says-frontiers w k table start (S .rule) (Z .ledger) (Z .bytes) (Z .window) (S .right) (length (Z .window))
 
   says : (line : ℕ) → line < length table → (C : Cut) → bit (frontier C .values) line ≡ lineOf k f start Z line C
   unfolding frontierOf
@@ -165,7 +178,8 @@ module _ (w k : ℕ) (f : Formula) (start : Cut) (Z : Watch) (S : Sound w k f st
   six h line = rw (long, h)
 
   pub searched : badWindowLength w (length (Z .window)) ≡ false → (line : ℕ)
-      → findCall w line (Z .bytes) (Z .window) ≡ answered line (Z .bytes) (frontiers w (Z .window) (keptCount (Z .bytes)))
+      → findCall w line (Z .bytes) (Z .window)
+      ≡ answered line (Z .bytes) (frontiers w (Z .window) (keptCount (Z .bytes)))
   unfolding findCall
   searched h line = rw (long, h, good) refl
 

@@ -41,7 +41,8 @@ pub record FindExact (w k : ℕ) (f : Formula) (start : Cut) (Z : Watch) : Type 
   pub in-window : frontiers w (Z .window) (keptCount (Z .bytes))
       ≡ map (frontierAfter k f start (Z .ledger .history)) cuts
   pub wrong-length : (line : ℕ)
-      → (findCall w line (Z .bytes) (Z .window) ≡ turnedBack lengthNumber 0) ↔ (badWindowLength w (length (Z .window)) ≡ true)
+      → (findCall w line (Z .bytes) (Z .window) ≡ turnedBack lengthNumber 0)
+      ↔ (badWindowLength w (length (Z .window)) ≡ true)
   pub no-line : badWindowLength w (length (Z .window)) ≡ false → (line : ℕ)
       → (findCall w line (Z .bytes) (Z .window) ≡ turnedBack noLineNumber 0) ↔ (length (linesAt 0 f) ≤ line)
   -- for a line that is there: i exactly if PaCTL makes it true at the i-th kept cut, from 0, and false at all before
