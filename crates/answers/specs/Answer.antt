@@ -1,4 +1,4 @@
--- The answers of the calls, with 01's numbers and values (01, The calls; Turned back; 02 [1], [4]), and the words that
+-- The answers of the calls, with 01's numbers and values (01, The calls; Turned back; 02 [1], [4], [5]), and the words that
 -- C gets.
 use Prim.Native.Nat.{ℕ, _+_, _*_, _-_}
 use mathlib.Core.Bool.{Bool, true, false}
@@ -21,6 +21,8 @@ pub data Answer : Type 0 where
   -- the place of the first kept frontier that has the line, or none (02 [4])
   found : ℕ → Answer
   absent : Answer
+  -- a process closed: the frontiers kept (02 [5])
+  processClosed : ℕ → Answer
 
 -- 1 for true.
 abbrev pub flag : Bool → ℕ
@@ -36,6 +38,7 @@ replyWord (held n) = 65536 * n
 replyWord again = 256
 replyWord (found i) = 256 + 65536 * i
 replyWord absent = 0
+replyWord (processClosed n) = 65536 * n
 
 -- The answer of an event taken: the counts, the last line at the last frontier, the frontiers kept.
 unfoldable pub stateOf : ℕ → List ℕ → List Frontier → Answer

@@ -1,4 +1,4 @@
--- Offer (01, The calls; 02 [1]): an event is added to the pending ones, in its place by lowest process and count; or it
+-- Offer (01, The calls; 02 [1], [5]): an event is added to the pending ones, in its place by lowest process and count; or it
 -- is one of them already, or turned back.
 use Prim.Native.Nat.{ℕ, suc, _+_, _%_}
 use mathlib.Core.Bool.{cond}
@@ -9,11 +9,11 @@ use Rattle.clocks.specs.declared.Event.{Event}
 use Rattle.clocks.specs.Key.{keyOf, keyBefore}
 use Rattle.clocks.specs.Counts.{at}
 use Rattle.clocks.specs.Refusal.{badMask, badClock, badLabels}
-use Rattle.records.specs.Record.{processCount, pendingCount, takenCounts, pendingEvents, inserted}
-use Rattle.refusals.specs.Refusals.{badRecordLength, badState, alreadyTaken, conflicting}
+use Rattle.records.specs.Record.{processCount, pendingCount, closedMask, takenCounts, pendingEvents, inserted}
+use Rattle.refusals.specs.Refusals.{badRecordLength, badState, namesClosed, alreadyTaken, conflicting}
 use Rattle.repeats.specs.Repeats.{repeated}
 use Rattle.answers.specs.Answer.{Answer, turnedBack, held, again}
-use Rattle.numbers.specs.Refusal.{clockNumber, conflictNumber, fullNumber, labelsNumber, lengthNumber, maskNumber, stateNumber, takenNumber}
+use Rattle.numbers.specs.Refusal.{clockNumber, conflictNumber, fullNumber, labelsNumber, lengthNumber, maskNumber, namedNumber, stateNumber, takenNumber}
 
 -- What a call that is lent the record answers and leaves there.
 pub record Offered : Type 0 where
@@ -38,8 +38,9 @@ offerCall w mask clock labels s =
     (cond (badMask (processCount s) mask) (turned maskNumber)
     (cond (badClock (processCount s) mask clock) (turned clockNumber)
     (cond (badLabels mask labels) (turned labelsNumber)
+    (cond (namesClosed (closedMask s) e) (turned namedNumber)
     (cond (alreadyTaken e (at (takenCounts w s))) (turned takenNumber)
     (cond (repeated e (pendingEvents w s)) (record { answer = again; bytes = s })
     (cond (conflicting e (pendingEvents w s)) (turned conflictNumber)
     (cond (leb 32 (pendingCount s)) (turned fullNumber)
-    (record { answer = held (pendingCount s + 1); bytes = inserted w s (placeAmong e (pendingEvents w s)) e })))))))))
+    (record { answer = held (pendingCount s + 1); bytes = inserted w s (placeAmong e (pendingEvents w s)) e }))))))))))

@@ -4,12 +4,12 @@ use native.Mathlib.Omega.{arith}
 use mathlib.Core.Path.{_≡_, refl}
 use mathlib.Core.Bool.{true, false}
 use mathlib.Core.List.{List}
-use lib.Dec.{leb}
+use lib.Dec.{leb, eqb}
 use lib.ListN.{length}
 use Rattle.clocks.specs.Counts.{at}
 use Rattle.clocks.specs.Refusal.{badMask, badClock, badLabels}
-use Rattle.records.specs.Record.{processCount, pendingCount, takenCounts, pendingEvents, inserted}
-use Rattle.refusals.specs.Refusals.{badRecordLength, badState, alreadyTaken, conflicting}
+use Rattle.records.specs.Record.{processCount, pendingCount, closedMask, takenCounts, pendingEvents, inserted}
+use Rattle.refusals.specs.Refusals.{badRecordLength, badState, namesClosed, alreadyTaken, conflicting}
 use Rattle.repeats.specs.Repeats.{repeated}
 use Rattle.answers.specs.Answer.{turnedBack, held, again}
 use Rattle.answers.specs.Turns.{by-test}
@@ -17,12 +17,12 @@ use Rattle.call_offer.specs.Offer.{Offered, placeAmong, offeredEvent, of
 
 -- What it answers and leaves then.
 pub data Case (w mask : ℕ) (clock labels s : List ℕ) (o : Offered) : Type 0 where
-  -- ... by a number below 35
-  turned : (n : ℕ) → 0 < n → n < 35 → o ≡ record { answer = turnedBack n 0; bytes = s } → Case w mask clock labels s o
+  -- ... by a number below 43 that is not take's 35
+  turned : (n : ℕ) → 0 < n → n < 43 → eqb n 35 ≡ false → o ≡ record { answer = turnedBack n 0; bytes = s } → Case w mask clock labels s o
   repeats : badMask (processCount s) mask ≡ false → repeated (offeredEvent mask clock labels) (pendingEvents w s) ≡ true
       → o ≡ record { answer = again; bytes = s } → Case w mask clock labels s o
   accepted : badMask (processCount s) mask ≡ false → badClock (processCount s) mask clock ≡ false
-      → badLabels mask labels ≡ false
+      → badLabels mask labels ≡ false → namesClosed (closedMask s) (offeredEvent mask clock labels) ≡ false
       → alreadyTaken (offeredEvent mask clock labels) (at (takenCounts w s)) ≡ false
       → conflicting (offeredEvent mask clock labels) (pendingEvents w s) ≡ false → leb 32 (pendingCount s) ≡ false
       → o ≡ record {
@@ -41,13 +41,14 @@ offer-case w mask clock labels s =
     let by = by-test (Case w mask clock labels s) in
     let back : ℕ → Offered = λ n. record { answer = turnedBack n 0; bytes = s } in
     let e = offeredEvent mask clock labels in
-    by (badRecordLength w (length s)) (back 6) _ (λ _. turned 6 (omega arith) (omega arith) refl) λ _.
-    by (badState w 1024 s) (back 34) _ (λ _. turned 34 (omega arith) (omega arith) refl) λ _.
-    by (badMask (processCount s) mask) (back 7) _ (λ _. turned 7 (omega arith) (omega arith) refl) λ h7.
-    by (badClock (processCount s) mask clock) (back 8) _ (λ _. turned 8 (omega arith) (omega arith) refl) λ h8.
-    by (badLabels mask labels) (back 9) _ (λ _. turned 9 (omega arith) (omega arith) refl) λ h9.
-    by (alreadyTaken e (at (takenCounts w s))) (back 31) _ (λ _. turned 31 (omega arith) (omega arith) refl) λ h31.
+    by (badRecordLength w (length s)) (back 6) _ (λ _. turned 6 (omega arith) (omega arith) refl refl) λ _.
+    by (badState w 1024 s) (back 34) _ (λ _. turned 34 (omega arith) (omega arith) refl refl) λ _.
+    by (badMask (processCount s) mask) (back 7) _ (λ _. turned 7 (omega arith) (omega arith) refl refl) λ h7.
+    by (badClock (processCount s) mask clock) (back 8) _ (λ _. turned 8 (omega arith) (omega arith) refl refl) λ h8.
+    by (badLabels mask labels) (back 9) _ (λ _. turned 9 (omega arith) (omega arith) refl refl) λ h9.
+    by (namesClosed (closedMask s) e) (back 42) _ (λ _. turned 42 (omega arith) (omega arith) refl refl) λ h42.
+    by (alreadyTaken e (at (takenCounts w s))) (back 31) _ (λ _. turned 31 (omega arith) (omega arith) refl refl) λ h31.
     by (repeated e (pendingEvents w s)) (record { answer = again; bytes = s }) _ (λ h. repeats h7 h refl) λ _.
-    by (conflicting e (pendingEvents w s)) (back 32) _ (λ _. turned 32 (omega arith) (omega arith) refl) λ h32.
-    by (leb 32 (pendingCount s)) (back 33) _ (λ _. turned 33 (omega arith) (omega arith) refl) λ h33.
-    accepted h7 h8 h9 h31 h32 h33 refl
+    by (conflicting e (pendingEvents w s)) (back 32) _ (λ _. turned 32 (omega arith) (omega arith) refl refl) λ h32.
+    by (leb 32 (pendingCount s)) (back 33) _ (λ _. turned 33 (omega arith) (omega arith) refl refl) λ h33.
+    accepted h7 h8 h9 h42 h31 h32 h33 refl

@@ -6,8 +6,8 @@ use lib.Dec.{leb, eqb}
 use lib.ListN.{length}
 use Rattle.clocks.specs.Counts.{at}
 use Rattle.clocks.specs.Refusal.{eventFault}
-use Rattle.records.specs.Record.{processCount, pendingCount, takenCounts, pendingEvents}
-use Rattle.refusals.specs.Refusals.{badRecordLength, badState, alreadyTaken, conflicting}
+use Rattle.records.specs.Record.{processCount, pendingCount, closedMask, takenCounts, pendingEvents}
+use Rattle.refusals.specs.Refusals.{badRecordLength, badState, namesClosed, alreadyTaken, conflicting}
 use Rattle.repeats.specs.Repeats.{repeated}
 use Rattle.clocks.specs.declared.Event.{Event}
 use Rattle.call_offer.specs.Offer.{offeredEvent}
@@ -25,6 +25,7 @@ unacceptedWord w mask clock labels s =
     cond (badRecordLength w (length s)) 6
     (cond (badState w 1024 s) 34
     (cond (eqb (eventFault (processCount s) mask clock labels) 0)
+    (cond (namesClosed (closedMask s) (offeredEvent mask clock labels)) 42
     (cond (alreadyTaken (offeredEvent mask clock labels) (at (takenCounts w s))) 31
-    (pendingWord w (offeredEvent mask clock labels) s))
+    (pendingWord w (offeredEvent mask clock labels) s)))
     (eventFault (processCount s) mask clock labels)))

@@ -72,3 +72,11 @@ falseClockNumber = 35
 -- call_take Take: an event is ready, and none fits.
 abbrev pub noRoomNumber : ℕ
 noRoomNumber = 36
+
+-- refusals Refusals: notOpen.
+abbrev pub notOpenNumber : ℕ
+notOpenNumber = 41
+
+-- refusals Refusals: namedBy at close, namesClosed at offer.
+abbrev pub namedNumber : ℕ
+namedNumber = 42

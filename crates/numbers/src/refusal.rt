@@ -39,3 +39,7 @@ pub const STATE: u64 = 34;
 pub const FALSE_CLOCK: u64 = 35;
 // call_take Take: an event is ready, and none fits.
 pub const NO_ROOM: u64 = 36;
+// refusals Refusals: notOpen.
+pub const NOT_OPEN: u64 = 41;
+// refusals Refusals: namedBy at close, namesClosed at offer.
+pub const NAMED: u64 = 42;

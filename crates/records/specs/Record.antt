@@ -49,6 +49,10 @@ lineTotal s = getD s 1 0
 abbrev pub pendingCount : List ℕ → ℕ
 pendingCount s = getD s 2 0
 
+-- The closed processes, a bit for each (02 [5]).
+abbrev pub closedMask : List ℕ → ℕ
+closedMask s = getD s 3 0
+
 -- The number of kept frontiers.
 abbrev pub keptCount : List ℕ → ℕ
 keptCount s = number s 4 4
@@ -100,6 +104,10 @@ removed w s i =
 unfoldable pub clocksSet : ℕ → ℕ → List ℕ → Event → List ℕ
 clocksSet w zero s e = s
 clocksSet w (suc p) s e = cond (involved e p) (sets (clocksSet w p s e) (clocksPlace w + p * (8 * w)) (countBytes w (e .clock))) (clocksSet w p s e)
+
+-- The closed processes, and the number of frontiers kept.
+unfoldable pub closedSet : List ℕ → ℕ → ℕ → List ℕ
+closedSet s closed kept = put (set s 3 closed) 4 4 kept
 
 -- The taken counts with the event, its clock as its processes' last, and the number of frontiers kept.
 unfoldable pub counted : ℕ → List ℕ → Event → ℕ → List ℕ

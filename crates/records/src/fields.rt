@@ -5,7 +5,7 @@ ghost use Prim.Native.Nat.{_+_, _*_, _≤_, _<_};
 ghost use mathlib.Core.Path.{_≡_};
 ghost use lib.ListN.{length, getD};
 ghost use Rattle.frontiers.specs.Width.{Width};
-ghost use Rattle.records.specs.Record.{tablePlace, eventLength, pendingPlace, recordLength, processCount, lineTotal, pendingCount, keptCount, takenCounts, pendingAt};
+ghost use Rattle.records.specs.Record.{tablePlace, eventLength, pendingPlace, recordLength, processCount, lineTotal, pendingCount, closedMask, keptCount, takenCounts, pendingAt};
 
 // A byte of the record.
 fn byte(record: &[u8], at: usize) -> u32
@@ -37,6 +37,14 @@ pub fn pending_count(record: &[u8]) -> usize
     ensures { λ r. ⌜ (r ≡ pendingCount (now («record» .entry))) × (r < 256) ⌝ }
 {
     byte(record, 2) as usize
+}
+
+// The closed processes, a bit for each.
+pub fn closed_mask(record: &[u8]) -> u32
+    requires { ⌜ 8 ≤ length (now «record») ⌝ }
+    ensures { λ r. ⌜ (r ≡ closedMask (now («record» .entry))) × (r < 256) ⌝ }
+{
+    byte(record, 3)
 }
 
 // The number of kept frontiers.

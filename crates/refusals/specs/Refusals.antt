@@ -5,6 +5,7 @@ use mathlib.Core.Bool.{Bool, not, _&&_, _||_}
 use mathlib.Core.List.{List}
 use lib.Dec.{leb, ltb, eqb}
 use Rattle.clocks.specs.declared.Event.{Event}
+use Rattle.codec.specs.Bit.{bit}
 use Rattle.frontiers.specs.Bytes.{frontierLength}
 use Rattle.pactl.specs.Table.{goodTable}
 use Rattle.clocks.specs.Event.{count, Cut, involved}
@@ -51,6 +52,18 @@ conflicts e f = anyBelow 8 (λ p. (involved e p && involved f p) && eqb (count e
 -- 32: a pending event has the same count at a common process.
 unfoldable pub conflicting : Event → List Event → Bool
 conflicting e fs = anyOf (conflicts e) fs
+
+-- 41: a process that the watch has not, or that is closed already (02 [5]).
+unfoldable pub notOpen : ℕ → ℕ → ℕ → Bool
+notOpen k closed p = leb k p || bit closed p
+
+-- 42, of a close: a pending event names the process (02 [5]).
+unfoldable pub namedBy : ℕ → List Event → Bool
+namedBy p es = anyOf (λ e. involved e p) es
+
+-- 42, of an offer: the event names a closed process (02 [5]).
+unfoldable pub namesClosed : ℕ → Event → Bool
+namesClosed closed e = anyBelow 8 (λ p. involved e p && bit closed p)
 
 -- The record's numbers: k not 1 to 8, more than 32 pending, lines not 1 to 64, kept not 1 to 1,024 or above the room.
 unfoldable pub badNumbers : ℕ → ℕ → ℕ → ℕ → ℕ → Bool

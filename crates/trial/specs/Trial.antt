@@ -10,19 +10,19 @@ use Rattle.clocks.specs.Bounded.{anyOf}
 use Rattle.frontiers.specs.declared.Frontier.{Frontier}
 use Rattle.lookup.specs.Order.{same}
 use Rattle.window.specs.Step.{Setting, fits}
-use Rattle.records.specs.Record.{processCount, takenCounts, tableLines, pendingEvents, readyIn}
+use Rattle.records.specs.Record.{processCount, closedMask, takenCounts, tableLines, pendingEvents, readyIn}
 
 -- The clock is valid by these frontiers: 1 less at the processes that take part it is one of them, on all eight counts
 -- (02 [2]: lowering it gives a kept frontier).
 unfoldable pub validAmong : List Frontier → Event → Bool
 validAmong fs e = anyOf (λ f. same (f .counts) (listOf 8 (lowered e))) fs
 
--- The setting of a step for an event, as the record's bytes have it; no process is closed.
+-- The setting of a step for an event, as the record's bytes have it.
 unfoldable pub settingIn : ℕ → List ℕ → Event → Setting
 settingIn w s e = record {
   stored = 8;
   processes = processCount s;
-  closed = 0;
+  closed = closedMask s;
   table = tableLines w s;
   event = e;
   reached = apply e (at (takenCounts w s));

@@ -31,11 +31,16 @@ pub record Setting : Type 0 where
 
 -- ---- Which frontiers stay, which are advanced
 
--- Some open process has all its taken events in the frontier, or it is the largest (01: dropped).
+-- Counts that are kept, where so many processes are stored and k there are, by the mask of the closed ones and the
+-- taken counts: some open process has all its taken events there, or they are the largest (01: dropped; 02 [5]).
+abbrev pub keptBy : ℕ → ℕ → ℕ → Cut → Cut → Bool
+keptBy stored k closed reached counts =
+    anyBelow k (λ p. not (bit closed p) && eqb (counts p) (reached p))
+    || allBelow stored (λ p. eqb (counts p) (reached p))
+
+-- The frontier is kept with the event taken.
 unfoldable pub stays : Setting → Frontier → Bool
-stays s f =
-    anyBelow (s .processes) (λ p. not (bit (s .closed) p) && eqb (at (f .counts) p) (s .reached p))
-    || allBelow (s .stored) (λ p. eqb (at (f .counts) p) (s .reached p))
+stays s f = keptBy (s .stored) (s .processes) (s .closed) (s .reached) (at (f .counts))
 
 -- The event is enabled at the frontier.
 unfoldable pub enabledAt : Setting → Frontier → Bool

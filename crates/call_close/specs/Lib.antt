@@ -1,0 +1,6 @@
+-- Close.
+
+-- What a reader has to believe
+pub mod Close
+-- What its functions' contracts cite
+pub mod CloseCode
