@@ -4,10 +4,12 @@
 pub mod Represents
 pub mod StartTheorem
 pub mod StepTheorem
+pub mod CloseTheorem
 pub mod Unique
 pub mod Verdict
 pub mod KnownCuts
 -- What leads to them
+pub mod KeptTest
 pub mod OrderCuts
 pub mod MergeLaws
 pub mod FrontierLaws

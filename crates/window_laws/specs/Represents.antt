@@ -21,8 +21,8 @@ use Rattle.frontiers.specs.declared.Frontier.{Frontier}
 use Rattle.window.specs.Step.{Setting}
 use Rattle.lookup.specs.Order.{before}
 
--- What does not change while a watch runs: how many processes are stored and how many there are, which are closed, the
--- start labels, the rule's table.
+-- What a watch stands in, whatever is taken: how many processes are stored and how many there are, which are closed
+-- (a close alone changes them), the start labels, the rule's table.
 pub record World : Type 0 where
   pub stored : ℕ
   pub processes : ℕ

@@ -22,14 +22,15 @@ use Rattle.clocks.specs.cuts.EventLaws.{true-T, T-true, ready-same, apply-next}
 use Rattle.clocks.specs.stored.TestedLaws.{involved-below, ready-test}
 use Rattle.clocks.specs.Counts.{at, listOf}
 use Rattle.clocks.specs.stored.BoundedLaws.{and-i, and-l, and-r, or-l, or-r, or-e, all-i, all-e, any-i, any-e}
-use Rattle.clocks.specs.stored.CountsLaws.{length-listOf, getD-listOf, at-beyond}
+use Rattle.clocks.specs.stored.CountsLaws.{getD-listOf, at-listOf-all}
 use Rattle.clocks.specs.Valid.{WellFormed, Takeable, History}
 use Rattle.clocks.specs.cuts.Agree.{agree-old}
 use Rattle.clocks.specs.cuts.KeptStep.{new-kept, kept-step}
 use Rattle.clocks.specs.cuts.Step.{consistent-old, consistent-new}
-use Rattle.window.specs.Step.{Setting, stays, enabledAt, advanced, Slot, slotCounts, lay, staying, fresh, Gathered, gathered, judgedBy, filtered, merge, slots, stepped}
+use Rattle.window.specs.Step.{Setting, keptBy, stays, enabledAt, advanced, Slot, slotCounts, lay, staying, fresh, Gathered, gathered, judgedBy, filtered, merge, slots, stepped}
 use Rattle.window_laws.specs.Represents.{World, openIn, frontierOf, settingOf, Proper, KeptIn, Sorted, SortedBy, Represents}
 use Rattle.frontiers.specs.declared.Frontier.{Frontier}
+use Rattle.window_laws.specs.KeptTest.{kept-test}
 use Rattle.window_laws.specs.FrontierLaws.{frontier-agree, advanced-counts}
 use Rattle.window_laws.specs.MergeLaws.{sorted-front, sorted-back, merge-e, merge-sorted, merge-map, sorted-filtered, sorted-map, merge-i}
 use Rattle.window_laws.specs.JudgingNew.{judged-new}
@@ -62,14 +63,6 @@ module _ (W : World) (valid : List Event → Event → Type 0) (ts : List Event)
   in-open : (p : ℕ) → involved e p ≡ true → (p < W .processes) × T (openIn W p)
   in-open p b = (involved-below (W .processes) e (tk .formed) p b, opens p b)
 
-  -- a cut that is stored whole
-  at-whole : (S : Cut) → ((p : ℕ) → n ≤ p → S p ≡ 0) → at (listOf n S) ≡ S
-  at-whole S z = fun-ext (λ p. every p (decLt p n))
-    where
-      every : (p : ℕ) → Dec (p < n) → getD (listOf n S) p 0 ≡ S p
-      every p (yes l) = getD-listOf n S p 0 l
-      every p (no l) = at-beyond (listOf n S) p (omega (arith, length-listOf n S)) ∙ sym (z p (omega arith))
-
   old-silent : (S : Cut) → Consistent ts S → (p : ℕ) → n ≤ p → S p ≡ 0
   old-silent S c p l = consistent-silent (W .processes) valid ts (P .by-rule) S c p (omega (arith, P .room))
 
@@ -82,39 +75,16 @@ module _ (W : World) (valid : List Event → Event → Type 0) (ts : List Event)
 
   enabled-test : (S : Cut) → Consistent ts S → T (enabledAt s (frontierOf W ts S)) ↔ Ready e S
   unfolding enabledAt frontierOf
-  enabled-test S c = rw (at-whole S (old-silent S c)) (ready-test n e formed S)
+  enabled-test S c = rw (at-listOf-all n S (old-silent S c)) (ready-test n e formed S)
 
   stays-test : (S : Cut) → Consistent ts S → T (stays s (frontierOf W ts S)) ↔ Kept (W .processes) (openIn W) us S
   unfolding stays frontierOf
   stays-test S c =
-      subst⁻¹ (λ (C : Cut). T (anyBelow (W .processes) (λ p. openIn W p && eqb (C p) (taken us p)) || allBelow n (λ p. eqb (C p) (taken us p))) ↔ Kept (W .processes) (openIn W) us S)
-      (at-whole S (old-silent S c)) (there, back)
-    where
-      open-one : ℕ → Bool
-      open-one p = openIn W p && eqb (S p) (taken us p)
-
-      same-one : ℕ → Bool
-      same-one p = eqb (S p) (taken us p)
-
-      taken-silent-us : (p : ℕ) → n ≤ p → taken us p ≡ 0
-      taken-silent-us p l = taken-silent (W .processes) valid us later p (omega (arith, P .room))
-
-      largest : T (allBelow n same-one) → (p : ℕ) → Dec (p < n) → S p ≡ taken us p
-      largest t p (yes l) = eqb→eq (S p) (taken us p) (all-e n same-one t p l)
-      largest t p (no l) = old-silent S c p (omega arith) ∙ sym (taken-silent-us p (omega arith))
-
-      there : T (anyBelow (W .processes) open-one || allBelow n same-one) → Kept (W .processes) (openIn W) us S
-      there t = ⊎-elim
-          (λ a. let w = any-e (W .processes) open-one a in
-          inl (w .0, w .1, and-l (openIn W (w .0)) (eqb (S (w .0)) (taken us (w .0))) (w .2), eqb→eq (S (w .0)) (taken us (w .0)) (and-r (openIn W (w .0)) (eqb (S (w .0)) (taken us (w .0))) (w .2))))
-          (λ a. inr (fun-ext (λ p. largest a p (decLt p n))))
-          (or-e (anyBelow (W .processes) open-one) (allBelow n same-one) t)
-
-      back : Kept (W .processes) (openIn W) us S → T (anyBelow (W .processes) open-one || allBelow n same-one)
-      back (inl w) = or-l (anyBelow (W .processes) open-one) (allBelow n same-one)
-          (any-i (W .processes) open-one (w .0) (w .1) (and-i (openIn W (w .0)) (eqb (S (w .0)) (taken us (w .0))) (w .2) (true-T (eq-eqb (S (w .0)) (taken us (w .0)) (w .3)))))
-      back (inr q) = or-r (anyBelow (W .processes) open-one) (allBelow n same-one)
-          (all-i n same-one (λ p l. true-T (eq-eqb (S p) (taken us p) (ap (λ (R : Cut). R p) q))))
+      subst⁻¹
+      (λ (C : Cut). T (keptBy n (W .processes) (W .closed) (taken us) C) ↔ Kept (W .processes) (openIn W) us S)
+      (at-listOf-all n S (old-silent S c))
+      (kept-test n (W .processes) (W .closed) us S (old-silent S c)
+      (λ p l. taken-silent (W .processes) valid us later p (omega (arith, P .room))))
 
   -- ---- what is to be laid down, as cuts
   data CutSlot : Type 0 where

@@ -34,6 +34,16 @@ dropped-unkept k l ts S c = (there, back)
     back : Dropped k ts S → Kept k allOpen ts S → ⊥
     back d t = let w = kept-all k l ts S .0 t in omega (arith, d (w .0) (w .1), w .2)
 
+-- ---- one more event: an old cut that is kept was kept
+pub kept-before : (k : ℕ) (opened : ℕ → Bool) (e : Event) (ts : List Event) → Follows ts e
+    → (S : Cut) → Consistent ts S → Kept k opened (e ∷ ts) S → Kept k opened ts S
+kept-before k opened e ts f S c (inl w) =
+    inl (w .0, w .1, w .2, omega (arith, w .3, c .within (w .0), taken-up e ts (w .0)))
+kept-before k opened e ts f S c (inr s) =
+    let p : ℕ = f .occupied .0 in
+    let b : involved e p ≡ true = T-true (involved e p) (f .occupied .1) in
+    absurd (omega (arith, ap (λ (R : Cut). R p) s, c .within p, taken-next e ts p b))
+
 -- ---- one more event, of open processes
 module _ (k : ℕ) (opened : ℕ → Bool) (e : Event) (ts : List Event) (f : Follows ts e) (o : (p : ℕ) → involved e p ≡ true → (p < k) × T (opened p)) where
   member : ℕ
@@ -56,11 +66,6 @@ module _ (k : ℕ) (opened : ℕ → Bool) (e : Event) (ts : List Event) (f : Fo
     omega (arith, apply-next e S member takes, taken-next e ts member takes, ready-same e S (taken ts) r (f .ready) member takes),
   )
 
-  -- an old cut that is kept was kept
-  pub kept-before : (S : Cut) → Consistent ts S → Kept k opened (e ∷ ts) S → Kept k opened ts S
-  kept-before S c (inl w) = inl (w .0, w .1, w .2, omega (arith, w .3, c .within (w .0), taken-up e ts (w .0)))
-  kept-before S c (inr s) = absurd (omega (arith, ap (λ (R : Cut). R member) s, c .within member, taken-next e ts member takes))
-
   -- ---- Theorem
   pub kept-step : Causal ts → (S : Cut)
       → KeptCut k opened (e ∷ ts) S ↔ ((KeptCut k opened ts S × Kept k opened (e ∷ ts) S) ⊎ ((S′ : Cut) × KeptCut k opened ts S′ × Ready e S′ × (S ≡ apply e S′)))
@@ -68,7 +73,7 @@ module _ (k : ℕ) (opened : ℕ → Bool) (e : Event) (ts : List Event) (f : Fo
     where
       there : KeptCut k opened (e ∷ ts) S → (KeptCut k opened ts S × Kept k opened (e ∷ ts) S) ⊎ ((S′ : Cut) × KeptCut k opened ts S′ × Ready e S′ × (S ≡ apply e S′))
       there t = ⊎-elim
-          (λ s. inl (record { consistent = s; kept = kept-before S s (t .kept) }, t .kept))
+          (λ s. inl (record { consistent = s; kept = kept-before k opened e ts f S s (t .kept) }, t .kept))
           (λ a. inr (a .from, record { consistent = a .consistent; kept = origin-kept (a .from) (a .enabled) }, a .enabled, a .leads))
           (step e ts c f S .0 (t .consistent))
 
@@ -76,10 +81,12 @@ module _ (k : ℕ) (opened : ℕ → Bool) (e : Event) (ts : List Event) (f : Fo
       back (inl w) = record { consistent = consistent-old e ts S (w .0 .consistent); kept = w .1 }
       back (inr w) = rw (w .3) (record { consistent = consistent-new e ts (w .0) (f .ready) (w .1 .consistent) (w .2); kept = new-kept (w .0) (w .2) })
 
--- ---- a cut once dropped stays dropped, whatever is taken later
-pub dropped-stays : (k : ℕ) (opened : ℕ → Bool) (us ts : List Event) → Causal (us ++ ts) → ((e : Event) → In e us → (p : ℕ) → involved e p ≡ true → (p < k) × T (opened p))
-    → (S : Cut) → Consistent ts S → (Kept k opened ts S → ⊥) → Kept k opened (us ++ ts) S → ⊥
-dropped-stays k opened [] ts c o S s u t = u t
-dropped-stays k opened (e ∷ us) ts c o S s u t =
-    dropped-stays k opened us ts (c .1) (λ g m. o g (List·Memᴰ·tail m)) S s u
-    (kept-before k opened e (us ++ ts) (c .0) (o e (List·Memᴰ·head refl)) S (consistent-later us ts S s) t)
+-- ---- a cut once dropped stays dropped, whatever is taken and closed later
+pub dropped-stays : (k : ℕ) (opened still : ℕ → Bool) (us ts : List Event) → Causal (us ++ ts)
+    → ((p : ℕ) → T (still p) → T (opened p))
+    → (S : Cut) → Consistent ts S → (Kept k opened ts S → ⊥) → Kept k still (us ++ ts) S → ⊥
+dropped-stays k opened still [] ts c o S s u (inl w) = u (inl (w .0, w .1, o (w .0) (w .2), w .3))
+dropped-stays k opened still [] ts c o S s u (inr q) = u (inr q)
+dropped-stays k opened still (e ∷ us) ts c o S s u t =
+    dropped-stays k opened still us ts (c .1) o S s u
+    (kept-before k still e (us ++ ts) (c .0) S (consistent-later us ts S s) t)
