@@ -1,7 +1,8 @@
 -- Take from its lengths on: what turns it back, and what is known where nothing does.
 use Prim.Native.Nat.{ℕ, _*_, _≤_, _<_}
 use native.Mathlib.Omega.{arith}
-use mathlib.Core.Path.{_≡_, _∙_}
+use native.Mathlib.Nat.{min-eq-right}
+use mathlib.Core.Path.{_≡_, ap, _∙_}
 use mathlib.Core.Bool.{not, cond, _||_}
 use mathlib.Core.List.{List}
 use lib.Dec.{eqb, lit<}
@@ -11,7 +12,7 @@ use Rattle.frontiers.specs.Bytes.{frontierLength}
 use Rattle.records.specs.Record.{recordLength, processCount, lineTotal, pendingCount, keptCount}
 use Rattle.refusals.specs.Refusals.{badRecordLength, badWindowLength, roomOf, badState}
 use Rattle.answers.specs.Answer.{replyWord, turnedBack}
-use Rattle.call_take.specs.Take.{Taken, takeWithin, takeCall}
+use Rattle.call_take.specs.Take.{Taken, takeWithin, allowedOf, takeCall}
 use Rattle.refusals.specs.RefusalLaws.{right-length, state-within, room-within, room-few}
 use Rattle.answers.specs.Turns.{chosen-by, passed, end, turn}
 use Rattle.clocks.specs.stored.BoundedLaws.{or-false-e}
@@ -38,11 +39,11 @@ module _ (w : ℕ) (s window scratch : List ℕ) where
   abbrev fault : ℕ
   fault = takeFault w s (length window) (length scratch)
 
-  take-by : takeCall w s window scratch ≡ cond (eqb fault 0) (takeWithin w (roomOf w (length window)) s window) (turned s window scratch fault)
-  unfolding takeCall takeFault turned
+  take-by : takeCall w s window scratch ≡ cond (eqb fault 0) (takeWithin w (allowedOf w 1024 window) s window) (turned s window scratch fault)
+  unfolding takeCapped takeFault turned
   take-by =
       chosen-by (turn (badRecordLength w (length s) || (badWindowLength w (length window) || not (eqb (length scratch) (length window)))) 6 (turn (badState w (roomOf w (length window)) s) 34 end))
-      (turned s window scratch) (takeWithin w (roomOf w (length window)) s window) (lit< tt, (lit< tt, tt))
+      (turned s window scratch) (takeWithin w (allowedOf w 1024 window) s window) (lit< tt, (lit< tt, tt))
 
   pub take-turned : (n : ℕ) → n ≡ fault → (n ≡ 0 → ⊥)
       → (n ≡ replyWord (takeCall w s window scratch .answer)) × (s ≡ takeCall w s window scratch .bytes)
@@ -51,9 +52,6 @@ module _ (w : ℕ) (s window scratch : List ℕ) where
   take-turned n e h =
       let whole : takeCall w s window scratch ≡ turned s window scratch n = take-by ∙ rw (← e, ne-eqb n 0 h) in
       (rw whole (omega arith), rw whole, rw whole, rw whole)
-
-  pub take-goes : fault ≡ 0 → takeCall w s window scratch ≡ takeWithin w (roomOf w (length window)) s window
-  take-goes h = take-by ∙ rw (eq-eqb fault 0 h)
 
   pub take-fit : fault ≡ 0 → Fit w s (length window) (length scratch)
   unfolding takeFault
@@ -76,3 +74,9 @@ module _ (w : ℕ) (s window scratch : List ℕ) where
         room-inside = room-within w (roomOf w n) n (omega arith);
         scratch = eqb-true (length scratch) n (not-false (eqb (length scratch) n) (last .1));
       }
+
+  -- a window of a right length has no room beyond the cap
+  pub take-goes : fault ≡ 0 → takeCall w s window scratch ≡ takeWithin w (roomOf w (length window)) s window
+  take-goes h =
+      take-by
+      ∙ rw (eq-eqb fault 0 h) (ap (λ (n : ℕ). takeWithin w n s window) (min-eq-right (take-fit h .few-room)))

@@ -1,6 +1,6 @@
 -- Take (01, The calls): the pending events are tried, and the one that this decides on is taken, or leaves with a false
 -- clock.
-use Prim.Native.Nat.{ℕ}
+use Prim.Native.Nat.{ℕ, min}
 use mathlib.Core.Bool.{Bool, not, cond, _||_}
 use mathlib.Core.List.{List}
 use lib.Dec.{eqb}
@@ -47,9 +47,18 @@ takeWithin w allowed s window =
 abbrev pub badLengths : ℕ → ℕ → ℕ → ℕ → Bool
 badLengths w s window scratch = badRecordLength w s || (badWindowLength w window || not (eqb scratch window))
 
-unfoldable pub takeCall : ℕ → List ℕ → List ℕ → List ℕ → Taken
-takeCall w s window scratch =
+-- How many frontiers a take may use: no more than the cap, and no more than the lent window has room for.
+abbrev pub allowedOf : ℕ → ℕ → List ℕ → ℕ
+allowedOf w cap window = min cap (roomOf w (length window))
+
+-- Take under a cap.
+unfoldable pub takeCapped : ℕ → ℕ → List ℕ → List ℕ → List ℕ → Taken
+takeCapped w cap s window scratch =
     let turned : ℕ → Taken = λ n. record { answer = turnedBack n 0; bytes = s; window = window; scratch = scratch } in
     cond (badLengths w (length s) (length window) (length scratch)) (turned lengthNumber)
     (cond (badState w (roomOf w (length window)) s) (turned stateNumber)
-    (takeWithin w (roomOf w (length window)) s window))
+    (takeWithin w (allowedOf w cap window) s window))
+
+-- The call of 01 has the cap 1,024: no window has room for more.
+abbrev pub takeCall : ℕ → List ℕ → List ℕ → List ℕ → Taken
+takeCall w s window scratch = takeCapped w 1024 s window scratch

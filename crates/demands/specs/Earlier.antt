@@ -13,32 +13,33 @@ use Rattle.records.specs.Record.{keptCount, lastClocks, pendingEvents}
 use Rattle.refusals.specs.Refusals.{roomOf, badState}
 use Rattle.trial.specs.Trial.{Decision, tried}
 use Rattle.call_open.specs.Open.{openCall}
-use Rattle.call_take.specs.Take.{Taken, decided, badLengths, takeCall}
-use Rattle.demands.specs.Run.{Call, offers, takes, finds, Watch, afterTake, after, opened}
+use Rattle.call_take.specs.Take.{Taken, decided, badLengths, allowedOf, takeCapped}
+use Rattle.demands.specs.Run.{Call, offers, takes, finds, closes, Watch, afterTake, after, opened}
 
 -- The clock is the largest of the last clocks, in the record, of the processes that take part, plus 1 there.
 unfoldable pub joinedIn : ℕ → List ℕ → Event → Bool
 joinedIn w s e = joinedBy 8 e (rows (lastClocks w s))
 
 -- Take's trial of the pending events by this rule.
-unfoldable pub earlierTrial : ℕ → List ℕ → List ℕ → Decision
-earlierTrial w s window =
-    tried w s (joinedIn w s) (roomOf w (length window)) (frontiers w window (keptCount s)) 0 false (pendingEvents w s)
+unfoldable pub earlierTrial : ℕ → ℕ → List ℕ → List ℕ → Decision
+earlierTrial w cap s window =
+    tried w s (joinedIn w s) (allowedOf w cap window) (frontiers w window (keptCount s)) 0 false (pendingEvents w s)
 
 -- Take by it: turned back as it is now, and else as the trial decides.
-unfoldable pub earlierTake : ℕ → List ℕ → List ℕ → List ℕ → Taken
-earlierTake w s window scratch =
+unfoldable pub earlierTake : ℕ → ℕ → List ℕ → List ℕ → List ℕ → Taken
+earlierTake w cap s window scratch =
     cond (badLengths w (length s) (length window) (length scratch) || badState w (roomOf w (length window)) s)
-    (takeCall w s window scratch)
-    (decided w s window (frontiers w window (keptCount s)) (earlierTrial w s window))
+    (takeCapped w cap s window scratch)
+    (decided w s window (frontiers w window (keptCount s)) (earlierTrial w cap s window))
 
 -- Calls, and a list of them, by it.
 unfoldable pub earlierAfter : ℕ → Call → Watch → Watch
-earlierAfter w (takes zeros scratch) W =
+earlierAfter w (takes cap zeros scratch) W =
     let lent = W .window ++ replicate zeros 0 in
-    afterTake w (earlierTake w (W .bytes) lent scratch) (earlierTrial w (W .bytes) lent) W
+    afterTake w (earlierTake w cap (W .bytes) lent scratch) (earlierTrial w cap (W .bytes) lent) W
 earlierAfter w (offers mask clock labels) W = after w (offers mask clock labels) W
 earlierAfter w (finds line) W = after w (finds line) W
+earlierAfter w (closes p) W = after w (closes p) W
 
 unfoldable pub earlierRun : ℕ → List Call → Watch → Watch
 earlierRun w [] W = W

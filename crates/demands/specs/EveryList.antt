@@ -1,9 +1,10 @@
 -- The watch at the end of a list of calls after an accepted open, and the form of what is said of every such list.
 use Prim.Native.Nat.{ℕ, _<_}
 use mathlib.Core.Path.{_≡_}
-use mathlib.Core.Bool.{Bool, false}
+use mathlib.Core.Bool.{Bool, true, false}
 use mathlib.Core.List.{List, _∷_, List·Memᴰ, _++_}
 use lib.ListN.{length, replicate}
+use Rattle.codec.specs.Bit.{bit}
 use Rattle.clocks.specs.Counts.{at}
 use Rattle.call_open.specs.Open.{openCall}
 use Rattle.answers.specs.Answer.{state, Answer, nothingReady}
@@ -13,9 +14,10 @@ use Rattle.clocks.specs.declared.Event.{Event}
 use Rattle.rules.specs.Formula.{Formula}
 use Rattle.rules.specs.Text.{textOf}
 use Rattle.rules.specs.Reader.{readRule, formed}
-use Rattle.clocks.specs.Event.{Cut}
+use Rattle.clocks.specs.Event.{Cut, involved}
+use Rattle.demands.specs.World.{Open}
 use Rattle.refusals.specs.Refusals.{badWindowLength}
-use Rattle.call_take.specs.Take.{takeCall, Taken}
+use Rattle.call_take.specs.Take.{takeCapped, Taken}
 
 -- Open accepted the text, the number of processes and the start labels (01: answers as for a taken event).
 abbrev pub Accepts : ℕ → List ℕ → ℕ → List ℕ → List ℕ → List ℕ → Type 0
@@ -43,6 +45,14 @@ EndsQuiet W = (prior : List Answer) × (W .answers ≡ nothingReady ∷ prior)
 abbrev pub SameAccepted : Watch → Watch → Type 0
 SameAccepted Y Z = (e : Event) → occurrences e (Y .accepted) ≡ occurrences e (Z .accepted)
 
+-- Each process is closed in both or in neither (02 [5]).
+abbrev pub SameClosed : Watch → Watch → Type 0
+SameClosed Y Z = (p : ℕ) → bit (Y .ledger .closed) p ≡ bit (Z .ledger .closed) p
+
+-- Every process that takes part in the event is open.
+abbrev pub NamesOpen : Watch → Event → Type 0
+NamesOpen Z e = (p : ℕ) → involved e p ≡ true → Open (Z .ledger .closed) p
+
 -- For every list of calls after an accepted open, with the formula f that the reader reads: P of the width of a count,
 -- the number of processes, f, the start labels and the watch at the list's end.
 abbrev pub AfterEveryList : (ℕ → ℕ → Formula → Cut → Watch → Type 0) → Type 0
@@ -63,5 +73,6 @@ abbrev pub RightLengths : ℕ → Watch → ℕ → List ℕ → Type 0
 RightLengths w Z more scratch =
     (badWindowLength w (length (lentWindow Z more)) ≡ false) × (length scratch ≡ length (lentWindow Z more))
 
-abbrev pub nextTake : ℕ → Watch → ℕ → List ℕ → Taken
-nextTake w Z more scratch = takeCall w (Z .bytes) (lentWindow Z more) scratch
+-- ... under a cap
+abbrev pub nextTake : ℕ → Watch → ℕ → ℕ → List ℕ → Taken
+nextTake w Z cap more scratch = takeCapped w cap (Z .bytes) (lentWindow Z more) scratch

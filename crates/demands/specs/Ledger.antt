@@ -1,4 +1,5 @@
--- What became of the accepted events: taken, pending, or gone with a false clock (01, The calls: the balance).
+-- What became of the accepted events: taken, pending, or gone with a false clock (01, The calls: the balance); and
+-- which processes were closed (02 [5]).
 use Prim.Native.Nat.{ℕ, _+_}
 use mathlib.Core.Path.{_≡_}
 use mathlib.Core.Bool.{true}
@@ -15,11 +16,13 @@ unfoldable pub occurrences : Event → List Event → ℕ
 occurrences e [] = 0
 occurrences e (f ∷ fs) = one (sameEvent e f) + occurrences e fs
 
--- The events taken, newest first; those pending; those that left with a false clock (35).
+-- The events taken, newest first; those pending; those that left with a false clock (35); the mask of the closed
+-- processes.
 pub record Ledger : Type 0 where
   pub history : List Event
   pub pending : List Event
   pub falsified : List Event
+  pub closed : ℕ
 
 -- How often an event stands in the ledger.
 abbrev pub accounted : Event → Ledger → ℕ

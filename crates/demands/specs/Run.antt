@@ -11,30 +11,32 @@ use Rattle.frontiers.specs.Bytes.{frontiers}
 use Rattle.clocks.specs.Counts.{at}
 use Rattle.call_find.specs.Find.{findCall}
 use Rattle.trial.specs.Trial.{Decision, undecided, false-clock, chosen, trial}
-use Rattle.call_take.specs.Take.{Taken, takeCall}
+use Rattle.call_take.specs.Take.{Taken, allowedOf, takeCapped}
 use Rattle.records.specs.Record.{keptCount, pendingAt, pendingEvents}
-use Rattle.refusals.specs.Refusals.{roomOf}
+use Rattle.call_close.specs.Close.{closing, closeCall}
 use Rattle.call_open.specs.Open.{Opened}
-use Rattle.answers.specs.Answer.{Answer, turnedBack, state, nothingReady, held, again, found, absent}
+use Rattle.answers.specs.Answer.{Answer, turnedBack, state, nothingReady, held, again, found, absent, processClosed}
 use Rattle.call_offer.specs.Offer.{placeAmong, offeredEvent, offerCall}
 use Rattle.demands.specs.Ledger.{Ledger}
 use Rattle.demands.specs.Status.{insertAt, removeAt}
 use Rattle.clocks.specs.Event.{zeros}
 
--- A call: an offer of an event by its mask, clock and labels; a take, lent the window with so many zeros appended,
--- and a scratch of any length and content; a find of a line.
+-- A call: an offer of an event by its mask, clock and labels; a take under a cap (watch_take has 1,024), lent the
+-- window with so many zeros appended, and a scratch of any length and content; a find of a line; a close of a process.
 pub data Call : Type 0 where
   offers : ℕ → List ℕ → List ℕ → Call
-  takes : ℕ → List ℕ → Call
+  takes : ℕ → ℕ → List ℕ → Call
   finds : ℕ → Call
+  closes : ℕ → Call
 
 -- The arguments are such as the machine passes: a mask of 64 bits, eight counts of w bytes, eight label bytes.
 abbrev pub Passed : ℕ → Call → Type 0
 Passed w (offers mask clock labels) =
     (mask < 2 ^ 64) × (length clock ≡ 8) × ((p : ℕ) → at clock p < 256 ^ w)
     × (length labels ≡ 8) × ((p : ℕ) → at labels p < 256)
-Passed w (takes zeros scratch) = Unit {0}
+Passed w (takes cap zeros scratch) = Unit {0}
 Passed w (finds line) = Unit {0}
+Passed w (closes p) = Unit {0}
 
 -- A watch between two calls: record and window, the ledger of the events that its calls accepted, those events, and the
 -- answers so far, open's own among them, newest first.
@@ -49,8 +51,8 @@ pub record Watch : Type 0 where
 
 -- The trial of the pending events that a take makes (call_take Take: takeWithin), and the number of the event at
 -- which it stopped.
-unfoldable pub trialOf : ℕ → List ℕ → List ℕ → Decision
-trialOf w s window = trial w s (roomOf w (length window)) (frontiers w window (keptCount s))
+unfoldable pub trialOf : ℕ → ℕ → List ℕ → List ℕ → Decision
+trialOf w cap s window = trial w s (allowedOf w cap window) (frontiers w window (keptCount s))
 
 unfoldable pub stoppedAt : Decision → ℕ
 stoppedAt (undecided seen) = 0
@@ -60,16 +62,27 @@ stoppedAt (chosen i) = i
 -- The ledger after a take's answer: by a state pending event i was taken, by 35 it left with a false clock.
 unfoldable pub takenLedger : ℕ → List ℕ → ℕ → Ledger → Answer → Ledger
 takenLedger w s i L (state c t k) =
-    record { history = pendingAt w s i ∷ L .history; pending = removeAt i (L .pending); falsified = L .falsified }
+    record {
+      history = pendingAt w s i ∷ L .history;
+      pending = removeAt i (L .pending);
+      falsified = L .falsified;
+      closed = L .closed;
+    }
 takenLedger w s i L (turnedBack n j) =
     cond (eqb n 35)
-    (record { history = L .history; pending = removeAt i (L .pending); falsified = pendingAt w s i ∷ L .falsified })
+    (record {
+      history = L .history;
+      pending = removeAt i (L .pending);
+      falsified = pendingAt w s i ∷ L .falsified;
+      closed = L .closed;
+    })
     L
 takenLedger w s i L nothingReady = L
 takenLedger w s i L (held n) = L
 takenLedger w s i L again = L
 takenLedger w s i L (found j) = L
 takenLedger w s i L absent = L
+takenLedger w s i L (processClosed n) = L
 
 -- The ledger and the accepted events after an offer's answer: "again" is none that accepts.
 unfoldable pub offeredLedger : ℕ → List ℕ → Event → Ledger → Answer → Ledger
@@ -77,6 +90,7 @@ offeredLedger w s e L (held n) = record {
   history = L .history;
   pending = insertAt (placeAmong e (pendingEvents w s)) e (L .pending);
   falsified = L .falsified;
+  closed = L .closed;
 }
 offeredLedger w s e L again = L
 offeredLedger w s e L (turnedBack n i) = L
@@ -84,6 +98,7 @@ offeredLedger w s e L (state c t k) = L
 offeredLedger w s e L nothingReady = L
 offeredLedger w s e L (found i) = L
 offeredLedger w s e L absent = L
+offeredLedger w s e L (processClosed n) = L
 
 unfoldable pub acceptedBy : Event → List Event → Answer → List Event
 acceptedBy e es (held n) = e ∷ es
@@ -93,6 +108,23 @@ acceptedBy e es (state c t k) = es
 acceptedBy e es nothingReady = es
 acceptedBy e es (found i) = es
 acceptedBy e es absent = es
+acceptedBy e es (processClosed n) = es
+
+-- The ledger after a close's answer: accepted, process p is closed.
+unfoldable pub closedLedger : ℕ → Ledger → Answer → Ledger
+closedLedger p L (processClosed n) = record {
+  history = L .history;
+  pending = L .pending;
+  falsified = L .falsified;
+  closed = closing (L .closed) p;
+}
+closedLedger p L (turnedBack n i) = L
+closedLedger p L (state c t k) = L
+closedLedger p L nothingReady = L
+closedLedger p L (held n) = L
+closedLedger p L again = L
+closedLedger p L (found i) = L
+closedLedger p L absent = L
 
 -- The watch after a take, by what it answered and left and by its trial.
 abbrev pub afterTake : ℕ → Taken → Decision → Watch → Watch
@@ -115,9 +147,9 @@ after w (offers mask clock labels) W =
       accepted = acceptedBy e (W .accepted) (r .answer);
       answers = r .answer ∷ W .answers;
     }
-after w (takes zeros scratch) W =
+after w (takes cap zeros scratch) W =
     let lent = W .window ++ replicate zeros 0 in
-    afterTake w (takeCall w (W .bytes) lent scratch) (trialOf w (W .bytes) lent) W
+    afterTake w (takeCapped w cap (W .bytes) lent scratch) (trialOf w cap (W .bytes) lent) W
 after w (finds line) W =
     record {
       bytes = W .bytes;
@@ -125,6 +157,15 @@ after w (finds line) W =
       ledger = W .ledger;
       accepted = W .accepted;
       answers = findCall w line (W .bytes) (W .window) ∷ W .answers;
+    }
+after w (closes p) W =
+    let r = closeCall w p (W .bytes) (W .window) in
+    record {
+      bytes = r .bytes;
+      window = r .window;
+      ledger = closedLedger p (W .ledger) (r .answer);
+      accepted = W .accepted;
+      answers = r .answer ∷ W .answers;
     }
 
 -- The calls of a list, one after the other.
@@ -137,7 +178,7 @@ abbrev pub opened : Opened → Watch
 opened o = record {
   bytes = o .bytes;
   window = o .window;
-  ledger = record { history = []; pending = []; falsified = [] };
+  ledger = record { history = []; pending = []; falsified = []; closed = 0 };
   accepted = [];
   answers = o .answer ∷ [];
 }

@@ -11,11 +11,12 @@ use Rattle.clocks.specs.Event.{Cut}
 use Rattle.clocks.specs.Counts.{listOf}
 use Rattle.records.specs.Record.{eventLength, eventBytes}
 
--- What a record says: the number of processes, the table, the frontiers kept, the taken counts, each process's last
--- clock, the pending events in their order.
+-- What a record says: the number of processes, the table, the closed processes, the frontiers kept, the taken counts,
+-- each process's last clock, the pending events in their order.
 pub record Status : Type 0 where
   pub processes : ℕ
   pub table : List Line
+  pub closed : ℕ
   pub kept : ℕ
   pub counts : Cut
   pub clocks : ℕ → Cut
@@ -34,7 +35,7 @@ pendingBytes w (e ∷ es) = eventBytes w e ++ pendingBytes w es
 -- The record's bytes; unused bytes are 0 (01, The window: the record).
 unfoldable pub recordBytes : ℕ → Status → List ℕ
 recordBytes w t =
-    t .processes ∷ length (t .table) ∷ length (t .pending) ∷ 0 ∷ bytesOf 4 (t .kept)
+    t .processes ∷ length (t .table) ∷ length (t .pending) ∷ t .closed ∷ bytesOf 4 (t .kept)
     ++ countBytes w (listOf 8 (t .counts))
     ++ clockBytes w (listOf 8 (λ p. listOf 8 (t .clocks p)))
     ++ (tableBytes (t .table) ++ replicate (192 - 3 * length (t .table)) 0)

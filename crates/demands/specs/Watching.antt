@@ -1,6 +1,6 @@
 -- The invariant of a watch that was written by calls only: its bytes are those of a history with these pending events,
 -- and its window holds the history's kept cuts.
-use Prim.Native.Nat.{ℕ, _*_, _≤_, _<_, _+_}
+use Prim.Native.Nat.{ℕ, _*_, _≤_, _<_, _+_, _^_}
 use mathlib.Core.Path.{_≡_}
 use mathlib.Core.Bool.{true}
 use mathlib.Core.List.{List, List·Memᴰ, _++_}
@@ -18,7 +18,7 @@ use Rattle.clocks.specs.Refusal.{Faultless}
 use Rattle.clocks.specs.Valid.{History, WellFormed}
 use Rattle.demands.specs.Ledger.{Ledger, Ordered, Clear}
 use Rattle.demands.specs.Status.{recordBytes}
-use Rattle.demands.specs.World.{worldOf, statusOf, Valid}
+use Rattle.demands.specs.World.{worldOf, statusOf, Valid, Open}
 use Rattle.demands.specs.bytes.Sized.{Storable}
 
 -- What an accepted open guarantees of the number of processes, the table and the start labels.
@@ -57,10 +57,13 @@ pub record Watching (w k : ℕ) (table : List Line) (start : Cut) (L : Ledger) (
   pub window-is : window ≡ windowBytes w (length window) kept
   pub room : length kept * frontierLength w ≤ length window
   pub few : length kept ≤ 1024
-  pub represents : Represents (worldOf k table start) (L .history) kept
+  pub represents : Represents (worldOf k (L .closed) table start) (L .history) kept
   pub right : Kept-right k Valid L
   pub ordered : Ordered (L .pending)
   pub clear : Clear (L .pending)
   pub faultless : (e : Event) → List·Memᴰ e (L .history) ⊎ List·Memᴰ e (L .pending) → Faultless k e
   pub storable : (e : Event) → List·Memᴰ e (L .history) ⊎ List·Memᴰ e (L .pending) → Storable w e
   pub many : length (L .pending) ≤ 32
+  -- only processes that there are were closed, and no pending event names one of them
+  pub closed-below : L .closed < 2 ^ k
+  pub names-open : (e : Event) → List·Memᴰ e (L .pending) → (p : ℕ) → involved e p ≡ true → Open (L .closed) p

@@ -7,6 +7,7 @@ pub mod WatchingLaws
 pub mod PendingOrder
 pub mod OpenLaws
 pub mod OfferLaws
+pub mod CloseLaws
 pub mod TakeLaws
 pub mod TakeLedger
 pub mod TakeLowers

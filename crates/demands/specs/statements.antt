@@ -7,3 +7,4 @@ pub mod Find
 pub mod Again
 pub mod Messages
 pub mod Earlier
+pub mod Close

@@ -1,5 +1,5 @@
 -- Members of mapped and filtered lists.
-use Prim.Native.Nat.{ℕ, zero, suc, _<_}
+use Prim.Native.Nat.{ℕ, zero, suc, _≤_, _<_}
 use native.Mathlib.Omega.{arith}
 use mathlib.Core.Path.{_≡_, refl, sym, ap, subst, _∙_}
 use mathlib.Core.Bool.{Bool, true, false, cond}
@@ -31,6 +31,17 @@ module _ {A : Type 0} where
       go true e (inr k) r = List·Memᴰ·tail (r k)
       go false e (inl s) r = absurd (subst T (ap t s ∙ e) h)
       go false e (inr k) r = r k
+
+  -- no more pass than there are
+  pub filtered-fewer : (t : A → Bool) (xs : List A) → length (filtered t xs) ≤ length xs
+  unfolding filtered
+  filtered-fewer t [] = omega arith
+  filtered-fewer t (x ∷ xs) = go (t x) (filtered-fewer t xs)
+    where
+      go : (b : Bool) → length (filtered t xs) ≤ length xs
+          → length (cond b (x ∷ filtered t xs) (filtered t xs)) ≤ length (x ∷ xs)
+      go true l = omega arith
+      go false l = omega arith
 
 -- a filter of mapped elements maps the filtered ones
 pub filtered-map : {A B : Type 0} (f : A → B) (t : B → Bool) (u : A → Bool) (xs : List A) → ((x : A) → List·Memᴰ x xs → t (f x) ≡ u x) → filtered t (map f xs) ≡ map f (filtered u xs)

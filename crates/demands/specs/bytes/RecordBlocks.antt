@@ -25,8 +25,8 @@ use Rattle.demands.specs.bytes.StoredLaws.{length-counts, length-eventBy
 use Rattle.demands.specs.bytes.Sized.{Storable}
 
 -- The first eight bytes.
-abbrev pub headBytes : ℕ → ℕ → ℕ → ℕ → List ℕ
-headBytes k lines waiting kept = k ∷ lines ∷ waiting ∷ 0 ∷ bytesOf 4 kept
+abbrev pub headBytes : ℕ → ℕ → ℕ → ℕ → ℕ → List ℕ
+headBytes k lines waiting closed kept = k ∷ lines ∷ waiting ∷ closed ∷ bytesOf 4 kept
 
 -- The eight last clocks, as they are stored.
 abbrev pub clockRows : (ℕ → Cut) → List (List ℕ)
@@ -41,7 +41,7 @@ pendingBlock w es = pendingBytes w es ++ zeros ((32 - length es) * eventLength w
 -- What stands before the pending events, where there are so many of them.
 abbrev pub frontBytes : ℕ → Status → ℕ → List ℕ
 frontBytes w t waiting =
-    headBytes (t .processes) (length (t .table)) waiting (t .kept) ++ countBytes w (listOf 8 (t .counts)) ++ clockBytes w (clockRows (t .clocks)) ++ tableBlock (t .table)
+    headBytes (t .processes) (length (t .table)) waiting (t .closed) (t .kept) ++ countBytes w (listOf 8 (t .counts)) ++ clockBytes w (clockRows (t .clocks)) ++ tableBlock (t .table)
 
 pub recordBytes-blocks : (w : ℕ) (t : Status) → recordBytes w t ≡ frontBytes w t (length (t .pending)) ++ pendingBlock w (t .pending)
 unfolding recordBytes
@@ -49,7 +49,7 @@ recordBytes-blocks w t = refl
 
 -- What stands before one of the blocks, and what stands behind it.
 abbrev pub headOf : Status → List ℕ
-headOf t = headBytes (t .processes) (length (t .table)) (length (t .pending)) (t .kept)
+headOf t = headBytes (t .processes) (length (t .table)) (length (t .pending)) (t .closed) (t .kept)
 
 abbrev pub beforeClocks : ℕ → Status → List ℕ
 beforeClocks w t = headOf t ++ countBytes w (listOf 8 (t .counts))
@@ -71,7 +71,7 @@ first-apart : (h c k b p : List ℕ) → h ++ c ++ k ++ b ++ p ≡ h ++ (c ++ (k
 first-apart h c k b p = simp append-assoc
 
 module _ (w : ℕ) (t : Status) where
-  pub kept-split : recordBytes w t ≡ (t .processes ∷ length (t .table) ∷ length (t .pending) ∷ 0 ∷ []) ++ (bytesOf 4 (t .kept) ++ afterHead w t)
+  pub kept-split : recordBytes w t ≡ (t .processes ∷ length (t .table) ∷ length (t .pending) ∷ t .closed ∷ []) ++ (bytesOf 4 (t .kept) ++ afterHead w t)
   unfolding recordBytes
   kept-split = first-apart (headOf t) _ _ _ _
 
@@ -95,11 +95,11 @@ module _ (w : ℕ) (t : Status) where
 
 -- ---- Lengths
 
-pub length-headBytes : (k lines waiting kept : ℕ) → length (headBytes k lines waiting kept) ≡ 8
-length-headBytes k lines waiting kept = rw (length-bytesOf 4 kept)
+pub length-headBytes : (k lines waiting closed kept : ℕ) → length (headBytes k lines waiting closed kept) ≡ 8
+length-headBytes k lines waiting closed kept = rw (length-bytesOf 4 kept)
 
 pub length-headOf : (t : Status) → length (headOf t) ≡ 8
-length-headOf t = length-headBytes (t .processes) (length (t .table)) (length (t .pending)) (t .kept)
+length-headOf t = length-headBytes (t .processes) (length (t .table)) (length (t .pending)) (t .closed) (t .kept)
 
 -- A member of the list of a function's values is one of them.
 pub member-listOf : {A : Type 0} (n : ℕ) (f : ℕ → A) (x : A) → List·Memᴰ x (listOf n f) → (p : ℕ) × (p < n) × (x ≡ f p)
@@ -149,8 +149,8 @@ length-pendingBlock w es few h =
 
 pub length-frontBytes : (w : ℕ) (t : Status) (waiting : ℕ) → length (t .table) ≤ 64 → length (frontBytes w t waiting) ≡ 200 + 72 * w
 length-frontBytes w t waiting short =
-    length-four (headBytes (t .processes) (length (t .table)) waiting (t .kept)) (countBytes w (listOf 8 (t .counts))) (clockBytes w (clockRows (t .clocks))) (tableBlock (t .table))
-    ∙ rw (length-headBytes (t .processes) (length (t .table)) waiting (t .kept), length-eight w (t .counts), length-clocks w (t .clocks), length-tableBlock (t .table) short)
+    length-four (headBytes (t .processes) (length (t .table)) waiting (t .closed) (t .kept)) (countBytes w (listOf 8 (t .counts))) (clockBytes w (clockRows (t .clocks))) (tableBlock (t .table))
+    ∙ rw (length-headBytes (t .processes) (length (t .table)) waiting (t .closed) (t .kept), length-eight w (t .counts), length-clocks w (t .clocks), length-tableBlock (t .table) short)
     (omega arith)
   where
     length-four : (h c k b : List ℕ) → length (h ++ c ++ k ++ b) ≡ length h + length c + length k + length b

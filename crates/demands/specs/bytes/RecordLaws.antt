@@ -14,7 +14,7 @@ use Rattle.clocks.specs.Counts.{listOf}
 use Rattle.clocks.specs.stored.CountsLaws.{length-listOf, listOf-same, getD-listOf}
 use Rattle.frontiers.specs.Bytes.{countBytes}
 use Rattle.demands.specs.bytes.PlaceLaws.{numbers-countBytes, zeros, Bytes-append, Bytes-zeros, Bytes-countBytes, Bytes-cons}
-use Rattle.records.specs.Record.{clocksPlace, tablePlace, recordLength, processCount, lineTotal, pendingCount, keptCount, takenCounts, lastClocks, tableLines, eventLength, eventBytes}
+use Rattle.records.specs.Record.{clocksPlace, tablePlace, recordLength, processCount, lineTotal, pendingCount, closedMask, keptCount, takenCounts, lastClocks, tableLines, eventLength, eventBytes}
 use Rattle.demands.specs.bytes.RecordBlocks.{clockRows, pendingBlock, recordBytes-blocks, headOf, beforeTable, afterCounts, afterHead, kept-split, counts-split, table-split, fit-listOf, length-pendingBlock, length-frontBytes, length-beforeTable, beforeClocks, afterClocks, tableBlock, frontBytes, clocks-split, length-headOf, even-clocks, length-beforeClocks}
 use Rattle.demands.specs.Status.{Status, recordBytes, clockBytes, pendingBytes}
 use Rattle.demands.specs.bytes.BlockLaws.{blocks, clockBytes-blocks, pendingBytes-blocks, Bytes-blocks, block-apart, length-before}
@@ -34,6 +34,10 @@ module _ (w : ℕ) (t : Status) where
   unfolding recordBytes
   pendingCount-recordBytes = refl
 
+  pub closedMask-recordBytes : closedMask (recordBytes w t) ≡ t .closed
+  unfolding recordBytes
+  closedMask-recordBytes = refl
+
   pub tableLines-recordBytes : tableLines w (recordBytes w t) ≡ t .table
   unfolding tableLines
   tableLines-recordBytes =
@@ -50,7 +54,7 @@ module _ (w : ℕ) (t : Status) (z : Sized w t) where
   pub keptCount-recordBytes : keptCount (recordBytes w t) ≡ t .kept
   unfolding number
   keptCount-recordBytes =
-      let first : List ℕ = t .processes ∷ length (t .table) ∷ length (t .pending) ∷ 0 ∷ [] in
+      let first : List ℕ = t .processes ∷ length (t .table) ∷ length (t .pending) ∷ t .closed ∷ [] in
       rw (kept-split w t, drop-at first (bytesOf 4 (t .kept) ++ afterHead w t) 4 refl, take-at (bytesOf 4 (t .kept)) (afterHead w t) 4 (length-bytesOf 4 (t .kept)))
       (valueOf-bytesOf 4 (t .kept) (z .kept-fits))
 
@@ -110,6 +114,6 @@ module _ (w : ℕ) (t : Status) (z : Sized w t) where
 
       Bytes-head : Bytes (headOf t)
       Bytes-head =
-          Bytes-cons (t .processes) (length (t .table) ∷ length (t .pending) ∷ 0 ∷ bytesOf 4 (t .kept)) (z .processes-fit)
-          (Bytes-cons (length (t .table)) (length (t .pending) ∷ 0 ∷ bytesOf 4 (t .kept)) lines-fit
-          (Bytes-cons (length (t .pending)) (0 ∷ bytesOf 4 (t .kept)) pending-fit (Bytes-cons 0 (bytesOf 4 (t .kept)) (lit< tt) (Bytes-bytesOf 4 (t .kept)))))
+          Bytes-cons (t .processes) (length (t .table) ∷ length (t .pending) ∷ t .closed ∷ bytesOf 4 (t .kept)) (z .processes-fit)
+          (Bytes-cons (length (t .table)) (length (t .pending) ∷ t .closed ∷ bytesOf 4 (t .kept)) lines-fit
+          (Bytes-cons (length (t .pending)) (t .closed ∷ bytesOf 4 (t .kept)) pending-fit (Bytes-cons (t .closed) (bytesOf 4 (t .kept)) (z .closed-fits) (Bytes-bytesOf 4 (t .kept)))))

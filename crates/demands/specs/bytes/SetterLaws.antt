@@ -25,39 +25,39 @@ use Rattle.pactl.specs.TableLaws.{length-tableBytes}
 use Rattle.pactl.specs.Table.{tableBytes}
 use Rattle.demands.specs.bytes.PlaceLaws.{sets-over, sets-inside, zeros, zeros-add, countBytes-zeros}
 use Rattle.demands.specs.bytes.BlockLaws.{clockBytes-blocks, blocks-set}
-use Rattle.records.specs.Record.{takenPlace, clocksPlace, clocksSet, counted, eventLength}
+use Rattle.records.specs.Record.{takenPlace, clocksPlace, closedSet, clocksSet, counted, eventLength}
 use Rattle.demands.specs.bytes.RecordBlocks.{clockRows, headOf, beforeClocks, afterClocks, afterCounts, afterHead, kept-split, counts-split, clocks-split, length-headOf, length-eight, even-clocks, length-clocks, length-beforeClocks, headBytes}
 use Rattle.demands.specs.Status.{Status, clockBytes, recordBytes, pendingBytes}
 use Rattle.demands.specs.bytes.StoredLaws.{length-counts}
 use Rattle.call_open.specs.Open.{firstRecord}
 use Rattle.demands.specs.bytes.RecordLaws.{takenCounts-recordBytes}
-use Rattle.demands.specs.bytes.Sized.{Sized, withTaken, firstStatus}
+use Rattle.demands.specs.bytes.Sized.{Sized, withClosed, withTaken, firstStatus}
 
 -- ---- Records with the same stored fields have the same bytes
 
-pub recordBytes-same : (w : ℕ) (t u : Status) → t .processes ≡ u .processes → t .table ≡ u .table → t .kept ≡ u .kept
+pub recordBytes-same : (w : ℕ) (t u : Status) → t .processes ≡ u .processes → t .table ≡ u .table → t .closed ≡ u .closed → t .kept ≡ u .kept
     → listOf 8 (t .counts) ≡ listOf 8 (u .counts) → clockRows (t .clocks) ≡ clockRows (u .clocks) → t .pending ≡ u .pending
     → recordBytes w t ≡ recordBytes w u
 unfolding recordBytes
-recordBytes-same w t u k l f c g p = rw (k, l, f, c, g, p)
+recordBytes-same w t u k l x f c g p = rw (k, l, x, f, c, g, p)
 
 -- ---- One field stored
 
 abbrev withKept : Status → ℕ → Status
-withKept t n = record { processes = t .processes; table = t .table; kept = n; counts = t .counts; clocks = t .clocks; pending = t .pending }
+withKept t n = record { processes = t .processes; table = t .table; closed = t .closed; kept = n; counts = t .counts; clocks = t .clocks; pending = t .pending }
 
 abbrev withCounts : Status → Cut → Status
-withCounts t f = record { processes = t .processes; table = t .table; kept = t .kept; counts = f; clocks = t .clocks; pending = t .pending }
+withCounts t f = record { processes = t .processes; table = t .table; closed = t .closed; kept = t .kept; counts = f; clocks = t .clocks; pending = t .pending }
 
 abbrev withClocks : Status → (ℕ → Cut) → Status
-withClocks t g = record { processes = t .processes; table = t .table; kept = t .kept; counts = t .counts; clocks = g; pending = t .pending }
+withClocks t g = record { processes = t .processes; table = t .table; closed = t .closed; kept = t .kept; counts = t .counts; clocks = g; pending = t .pending }
 
 module _ (w : ℕ) (t : Status) where
   put-kept : (n : ℕ) → put (recordBytes w t) 4 4 n ≡ recordBytes w (withKept t n)
   unfolding put
   put-kept n =
       rw (kept-split w t, kept-split w (withKept t n))
-      (sets-over (t .processes ∷ length (t .table) ∷ length (t .pending) ∷ 0 ∷ []) (bytesOf 4 (t .kept)) (afterHead w t) 4 refl (bytesOf 4 n) (length-bytesOf 4 n ∙ sym (length-bytesOf 4 (t .kept))))
+      (sets-over (t .processes ∷ length (t .table) ∷ length (t .pending) ∷ t .closed ∷ []) (bytesOf 4 (t .kept)) (afterHead w t) 4 refl (bytesOf 4 n) (length-bytesOf 4 n ∙ sym (length-bytesOf 4 (t .kept))))
 
   sets-counts : (f : Cut) → sets (recordBytes w t) takenPlace (countBytes w (listOf 8 f)) ≡ recordBytes w (withCounts t f)
   sets-counts f =
@@ -96,6 +96,16 @@ module _ (w : ℕ) (t : Status) where
       inside =
           rw (clockBytes-blocks w old, clockBytes-blocks w (clockRows g), ← new)
           (blocks-set (countBytes w) (8 * w) old (even-clocks w (t .clocks)) p c in-old (length-counts w c eight))
+
+-- ---- A process closed
+
+pub closedSet-recordBytes : (w : ℕ) (t : Status) (closed kept : ℕ)
+    → closedSet (recordBytes w t) closed kept ≡ recordBytes w (withClosed t closed kept)
+unfolding closedSet
+closedSet-recordBytes w t closed kept = rw (one, put-kept w (withClosed t closed (t .kept)) kept)
+  where
+    one : set (recordBytes w t) 3 closed ≡ recordBytes w (withClosed t closed (t .kept))
+    one = unfold recordBytes in refl
 
 -- ---- An event taken
 
@@ -153,7 +163,7 @@ pub counted-recordBytes : (w : ℕ) (t : Status) → Sized w t → (e : Event) (
 unfolding counted
 counted-recordBytes w t z e kept eight =
     rw (takenCounts-recordBytes w t z, applied-listOf e (t .counts), put-kept w t kept, sets-counts w (withKept t kept) (apply e (t .counts)), clocksSet-recordBytes w (withCounts (withKept t kept) (apply e (t .counts))) e eight 8 (lit≤ tt))
-    (recordBytes-same w (withClocks (withCounts (withKept t kept) (apply e (t .counts))) (clocksBelow t e 8)) (withTaken t e kept) refl refl refl refl
+    (recordBytes-same w (withClocks (withCounts (withKept t kept) (apply e (t .counts))) (clocksBelow t e 8)) (withTaken t e kept) refl refl refl refl refl
     (listOf-same 8 (λ p. listOf 8 (clocksBelow t e 8 p)) (λ p. listOf 8 (cond (involved e p) (count e) (t .clocks p))) (λ p l. ap (listOf 8) (clocksBelow-within t e 8 p l)))
     refl)
 
@@ -172,7 +182,7 @@ firstRecord-recordBytes w k ls =
     let sum : 72 * w ≡ 8 * w + 8 * (8 * w) = omega arith in
     let many : zeros (72 * w) ≡ zeros (8 * w) ++ zeros (8 * (8 * w)) = rw sum (sym (zeros-add (8 * w) (8 * (8 * w)))) in
     rw (length-tableBytes ls, many, countBytes-zeros w 8, clocks-zeros w 8)
-    (regroup (headBytes k (length ls) 0 1) (zeros (8 * w)) (zeros (8 * (8 * w))) (tableBytes ls) (zeros (192 - 3 * length ls)) (zeros (32 * eventLength w)))
+    (regroup (headBytes k (length ls) 0 0 1) (zeros (8 * w)) (zeros (8 * (8 * w))) (tableBytes ls) (zeros (192 - 3 * length ls)) (zeros (32 * eventLength w)))
   where
     regroup : (h a b l z p : List ℕ) → h ++ (a ++ b) ++ l ++ z ++ p ≡ h ++ a ++ b ++ (l ++ z) ++ p
     regroup h a b l z p = simp append-assoc

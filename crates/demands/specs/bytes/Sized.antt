@@ -24,6 +24,7 @@ pub record Sized (w : ℕ) (t : Status) : Type 0 where
   pub processes-fit : t .processes < 256
   pub short : length (t .table) ≤ 64
   pub line-bytes : (i : ℕ) → (getD (tableBytes (t .table)) i 0) < 256
+  pub closed-fits : t .closed < 256
   pub kept-fits : t .kept < 4294967296
   pub counts-fit : (p : ℕ) → t .counts p < 256 ^ w
   pub clocks-fit : (p q : ℕ) → t .clocks p q < 256 ^ w
@@ -32,13 +33,34 @@ pub record Sized (w : ℕ) (t : Status) : Type 0 where
 
 -- Other pending events.
 abbrev pub withPending : Status → List Event → Status
-withPending t es = record { processes = t .processes; table = t .table; kept = t .kept; counts = t .counts; clocks = t .clocks; pending = es }
+withPending t es = record {
+  processes = t .processes;
+  table = t .table;
+  closed = t .closed;
+  kept = t .kept;
+  counts = t .counts;
+  clocks = t .clocks;
+  pending = es;
+}
+
+-- Other closed processes, with the frontiers kept then.
+abbrev pub withClosed : Status → ℕ → ℕ → Status
+withClosed t closed kept = record {
+  processes = t .processes;
+  table = t .table;
+  closed = closed;
+  kept = kept;
+  counts = t .counts;
+  clocks = t .clocks;
+  pending = t .pending;
+}
 
 -- An event taken: the counts with it, its clock as the last one of its processes, the frontiers kept.
 abbrev pub withTaken : Status → Event → ℕ → Status
 withTaken t e kept = record {
   processes = t .processes;
   table = t .table;
+  closed = t .closed;
   kept = kept;
   counts = apply e (t .counts);
   clocks = λ p. cond (involved e p) (count e) (t .clocks p);
@@ -47,4 +69,4 @@ withTaken t e kept = record {
 
 -- A new watch.
 abbrev pub firstStatus : ℕ → List Line → Status
-firstStatus k table = record { processes = k; table = table; kept = 1; counts = λ p. 0; clocks = λ p q. 0; pending = [] }
+firstStatus k table = record { processes = k; table = table; closed = 0; kept = 1; counts = λ p. 0; clocks = λ p q. 0; pending = [] }

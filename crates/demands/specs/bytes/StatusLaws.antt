@@ -15,18 +15,19 @@ use Rattle.codec.specs.Little.{Bytes}
 use Rattle.codec.specs.LittleLaws.{pow-256-pos}
 use Rattle.pactl.specs.Table.{tableBytes}
 use Rattle.demands.specs.bytes.InsertLaws.{length-insertAt, member-insertAt, length-removeAt, member-removeAt}
-use Rattle.records.specs.Record.{processCount, keptCount, takenCounts, lastClocks, tableLines, pendingEvents}
+use Rattle.records.specs.Record.{processCount, closedMask, keptCount, takenCounts, lastClocks, tableLines, pendingEvents}
 use Rattle.demands.specs.bytes.RecordBlocks.{clockRows, AllStorable}
 use Rattle.demands.specs.bytes.PendingLaws.{pendingEvents-recordBytes}
 use Rattle.demands.specs.bytes.SetterLaws.{recordBytes-same}
 use Rattle.demands.specs.Status.{Status, recordBytes, insertAt, removeAt}
-use Rattle.demands.specs.bytes.RecordLaws.{processCount-recordBytes, tableLines-recordBytes, keptCount-recordBytes, takenCounts-recordBytes, lastClocks-recordBytes}
+use Rattle.demands.specs.bytes.RecordLaws.{processCount-recordBytes, closedMask-recordBytes, tableLines-recordBytes, keptCount-recordBytes, takenCounts-recordBytes, lastClocks-recordBytes}
 use Rattle.demands.specs.bytes.Sized.{Storable, Sized, withPending, withTaken, firstStatus}
 
 -- Two records with the same bytes have the same stored fields.
 pub record Alike (t u : Status) : Type 0 where
   pub processes-same : t .processes ≡ u .processes
   pub table-same : t .table ≡ u .table
+  pub closed-same : t .closed ≡ u .closed
   pub kept-same : t .kept ≡ u .kept
   pub counts-same : listOf 8 (t .counts) ≡ listOf 8 (u .counts)
   pub clocks-same : clockRows (t .clocks) ≡ clockRows (u .clocks)
@@ -34,12 +35,13 @@ pub record Alike (t u : Status) : Type 0 where
 
 pub recordBytes-alike : (w : ℕ) (t u : Status) → Alike t u → recordBytes w t ≡ recordBytes w u
 recordBytes-alike w t u a =
-    recordBytes-same w t u (a .processes-same) (a .table-same) (a .kept-same) (a .counts-same) (a .clocks-same) (a .pending-same)
+    recordBytes-same w t u (a .processes-same) (a .table-same) (a .closed-same) (a .kept-same) (a .counts-same) (a .clocks-same) (a .pending-same)
 
 pub recordBytes-injective : (w : ℕ) (t u : Status) → Sized w t → Sized w u → recordBytes w t ≡ recordBytes w u → Alike t u
 recordBytes-injective w t u y z e = record {
   processes-same = sym (processCount-recordBytes w t) ∙ ap processCount e ∙ processCount-recordBytes w u;
   table-same = sym (tableLines-recordBytes w t) ∙ ap (tableLines w) e ∙ tableLines-recordBytes w u;
+  closed-same = sym (closedMask-recordBytes w t) ∙ ap closedMask e ∙ closedMask-recordBytes w u;
   kept-same = sym (keptCount-recordBytes w t y) ∙ ap keptCount e ∙ keptCount-recordBytes w u z;
   counts-same = sym (takenCounts-recordBytes w t y) ∙ ap (takenCounts w) e ∙ takenCounts-recordBytes w u z;
   clocks-same = sym (lastClocks-recordBytes w t y) ∙ ap (lastClocks w) e ∙ lastClocks-recordBytes w u z;
@@ -60,6 +62,7 @@ module _ (w : ℕ) (t : Status) (z : Sized w t) where
     processes-fit = z .processes-fit;
     short = z .short;
     line-bytes = z .line-bytes;
+    closed-fits = z .closed-fits;
     kept-fits = z .kept-fits;
     counts-fit = z .counts-fit;
     clocks-fit = z .clocks-fit;
@@ -86,6 +89,7 @@ module _ (w : ℕ) (t : Status) (z : Sized w t) where
     processes-fit = z .processes-fit;
     short = z .short;
     line-bytes = z .line-bytes;
+    closed-fits = z .closed-fits;
     kept-fits = k;
     counts-fit = fit;
     clocks-fit = λ p q. go p q (involved e p);
@@ -103,6 +107,7 @@ sized-first w k ls few short h = record {
   processes-fit = few;
   short = short;
   line-bytes = h;
+  closed-fits = lit< tt;
   kept-fits = lit< tt;
   counts-fit = λ p. pow-256-pos w;
   clocks-fit = λ p q. pow-256-pos w;

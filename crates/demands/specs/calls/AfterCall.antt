@@ -1,7 +1,7 @@
 -- The invariant goes through every call.
 use Prim.Native.Nat.{ℕ, _+_, _*_, _≤_, _<_}
 use native.Mathlib.Omega.{arith}
-use native.Mathlib.Nat.{le-div-iff-mul-le, le-trans}
+use native.Mathlib.Nat.{le-div-iff-mul-le, le-trans, min-le-right}
 use mathlib.Core.Path.{_≡_, sym, ap, _∙_, subst, refl, ap₂}
 use mathlib.Core.List.{List, _++_, [], _∷_, List·Memᴰ, List·Memᴰ·head, List·Memᴰ·tail}
 use mathlib.Core.Bool.{Bool, true, false, not, _||_, _&&_}
@@ -25,12 +25,15 @@ use Rattle.demands.specs.Watching.{Rule, Watching}
 use Rattle.demands.specs.calls.WatchingLaws.{says-pending, lent-longer, never-34, says-frontiers, says-event, ready-in, valid-in, setting-in}
 use Rattle.call_offer.specs.Offer.{offeredEvent}
 use Rattle.demands.specs.Ledger.{Ledger}
-use Rattle.demands.specs.Run.{Passed, Watch, offeredLedger, after, offers, Call, run, takes, finds, takenLedger, stoppedAt, trialOf}
+use Rattle.demands.specs.Run.{Passed, Watch, offeredLedger, closedLedger, after, offers, Call, run, takes, finds, closes, takenLedger, stoppedAt, trialOf}
 use Rattle.call_offer.specs.OfferCases.{OfferCase, offer-case, turned, repeats, accepted}
 use Rattle.demands.specs.calls.OfferLaws.{accepted-watching}
+use Rattle.call_close.specs.CloseCases as closing
+use Rattle.call_close.specs.CloseCases.{CloseCase, close-case}
+use Rattle.demands.specs.calls.CloseLaws.{closed-are, closed-watching}
 use Rattle.trial.specs.Trial.{validAmong, Decision, tried, settingIn}
 use Rattle.call_take.specs.Take as take
-use Rattle.call_take.specs.Take.{decided, takeCall, Taken}
+use Rattle.call_take.specs.Take.{decided, allowedOf, takeCapped, Taken}
 use Rattle.records.specs.Record.{readyIn, keptCount, removed}
 use Rattle.refusals.specs.Refusals.{badRecordLength, badWindowLength, roomOf, badState}
 use Rattle.answers.specs.Answer.{turnedBack}
@@ -70,6 +73,8 @@ module _ (w k : ℕ) (table : List Line) (start : Cut) (R : Rule w k table start
     faultless = X .faultless;
     storable = X .storable;
     many = X .many;
+    closed-below = X .closed-below;
+    names-open = X .names-open;
   }
     where
       long : length (window ++ replicate zeros 0) ≡ length window + zeros
@@ -84,78 +89,92 @@ module _ (w k : ℕ) (table : List Line) (start : Cut) (R : Rule w k table start
       e = offeredEvent mask clock labels
 
       go : OfferCase w mask clock labels (W .bytes) → WatchRight w k table start (after w (offers mask clock labels) W)
-      go (turned n some small q) = rw q X
+      go (turned n some small other q) = rw q X
       go (repeats h7 h q) = rw q X
-      go (accepted h7 h8 h9 h31 h32 h33 q) =
+      go (accepted h7 h8 h9 h42 h31 h32 h33 q) =
           rw (q, says-pending w k table start R (W .ledger) (W .bytes) (W .window) X)
-          (rw (says-pending w k table start R (W .ledger) (W .bytes) (W .window) X) at (accepted-watching w k table start R (W .ledger) (W .bytes) (W .window) X mask clock labels p h7 h8 h9 h31 h32 h33))
+          (rw (says-pending w k table start R (W .ledger) (W .bytes) (W .window) X) at (accepted-watching w k table start R (W .ledger) (W .bytes) (W .window) X mask clock labels p h7 h8 h9 h42 h31 h32 h33))
+
+  -- ---- close
+  close-right : (W : Watch) → WatchRight w k table start W → (p : ℕ) → WatchRight w k table start (after w (closes p) W)
+  unfolding after closedLedger
+  close-right W X p = go (close-case w p (W .bytes) (W .window))
+    where
+      go : CloseCase w p (W .bytes) (W .window) → WatchRight w k table start (after w (closes p) W)
+      go (closing.turned n some small other q) = rw q X
+      go (closing.accepted h41 h42 q) =
+          rw (q, closed-are w k table start R (W .ledger) (W .bytes) (W .window) X p h41 h42)
+          (closed-watching w k table start R (W .ledger) (W .bytes) (W .window) X p h41 h42)
 
   -- ---- take, lent a window of whatever length
-  module _ (L : Ledger) (bytes lent : List ℕ) (X : Watching w k table start L bytes lent) (scratch : List ℕ) where
+  module _ (L : Ledger) (bytes lent : List ℕ) (X : Watching w k table start L bytes lent) (cap : ℕ) (scratch : List ℕ) where
     -- 6, of the three lent buffers
     unfoldable pub badLengths : Bool
     badLengths = take.badLengths w (length bytes) (length lent) (length scratch)
 
     -- the ledger after the take
     abbrev pub ledgerThen : Ledger
-    ledgerThen = takenLedger w bytes (stoppedAt (trialOf w bytes lent)) L (takeCall w bytes lent scratch .answer)
+    ledgerThen = takenLedger w bytes (stoppedAt (trialOf w cap bytes lent)) L (takeCapped w cap bytes lent scratch .answer)
 
-    pub take-6 : badLengths ≡ true → (takeCall w bytes lent scratch ≡ record { answer = turnedBack 6 0; bytes = bytes; window = lent; scratch = scratch }) × (ledgerThen ≡ L)
-    unfolding takeCall takenLedger badLengths
+    pub take-6 : badLengths ≡ true → (takeCapped w cap bytes lent scratch ≡ record { answer = turnedBack 6 0; bytes = bytes; window = lent; scratch = scratch }) × (ledgerThen ≡ L)
+    unfolding takeCapped takenLedger badLengths
     take-6 h = (rw h, rw h)
 
     -- else it goes through the pending events
     abbrev pub decision : Decision
-    decision = tried w bytes (validAmong (X .kept)) (roomOf w (length lent)) (X .kept) 0 false (L .pending)
+    decision = tried w bytes (validAmong (X .kept)) (allowedOf w cap lent) (X .kept) 0 false (L .pending)
 
     read : frontiers w lent (keptCount bytes) ≡ X .kept
     read = ap (λ (s : List ℕ). frontiers w s (keptCount bytes)) (X .window-is) ∙ says-frontiers w k table start R L bytes lent X (length lent)
 
-    pub take-else : badLengths ≡ false → (takeCall w bytes lent scratch ≡ decided w bytes lent (X .kept) decision) × (ledgerThen ≡ ledgerAfter w bytes L decision)
-    unfolding takeCall badLengths trialOf
+    pub take-else : badLengths ≡ false → (takeCapped w cap bytes lent scratch ≡ decided w bytes lent (X .kept) decision) × (ledgerThen ≡ ledgerAfter w bytes L decision)
+    unfolding takeCapped badLengths trialOf
     take-else h = (whole, ap₂ (λ (d : Decision) (x : Taken). takenLedger w bytes (stoppedAt d) L (x .answer)) same whole ∙ ledger-follows w bytes lent (X .kept) L decision)
       where
-        same : trialOf w bytes lent ≡ decision
+        same : trialOf w cap bytes lent ≡ decision
         same = rw (read, says-pending w k table start R L bytes lent X)
 
         n : badState w (roomOf w (length lent)) bytes ≡ false
         n = never-34 w k table start R L bytes lent X (roomOf w (length lent)) (room-iff w (length (X .kept)) (length lent) .1 (X .room))
 
-        whole : takeCall w bytes lent scratch ≡ decided w bytes lent (X .kept) decision
-        whole = rw (h, n) (within-trial w bytes lent ∙ ap₂ (decided w bytes lent) read same)
+        whole : takeCapped w cap bytes lent scratch ≡ decided w bytes lent (X .kept) decision
+        whole = rw (h, n) (within-trial w cap bytes lent ∙ ap₂ (decided w bytes lent) read same)
 
     -- what the trial comes to
-    pub trial : Outcome w bytes (validAmong (X .kept)) (roomOf w (length lent)) (X .kept) 0 false (L .pending) noEvent
-    trial = outcome w bytes (validAmong (X .kept)) (roomOf w (length lent)) (X .kept) noEvent 0 false (L .pending)
+    pub trial : Outcome w bytes (validAmong (X .kept)) (allowedOf w cap lent) (X .kept) 0 false (L .pending) noEvent
+    trial = outcome w bytes (validAmong (X .kept)) (allowedOf w cap lent) (X .kept) noEvent 0 false (L .pending)
 
     -- of a pending event, by the taken events
     module _ (j : ℕ) (l : j < length (L .pending)) where
       abbrev e : Event
       e = getD (L .pending) j noEvent
 
+      member : List·Memᴰ e (L .pending)
+      member = place-member (L .pending) j noEvent l
+
       formed : WellFormed k e
-      formed = X .right .formed e (place-member (L .pending) j noEvent l)
+      formed = X .right .formed e member
 
       pub is-ready : T (readyIn w bytes e) → Ready e (taken (L .history))
       is-ready = ready-in w k table start R L bytes lent X e formed .0
 
       pub is-valid : T (readyIn w bytes e) → T (validAmong (X .kept) e) → Valid (L .history) e
-      is-valid r = valid-in w k table start R L bytes lent X e formed (is-ready r) .0
+      is-valid r = valid-in w k table start R L bytes lent X e formed (X .names-open e member) (is-ready r) .0
 
       is-false : T (readyIn w bytes e) → validAmong (X .kept) e ≡ false → Valid (L .history) e → ⊥
-      is-false r h t = subst T h (valid-in w k table start R L bytes lent X e formed (is-ready r) .1 t)
+      is-false r h t = subst T h (valid-in w k table start R L bytes lent X e formed (X .names-open e member) (is-ready r) .1 t)
 
       abbrev gs : List Frontier
-      gs = stepped (settingOf (worldOf k table start) (L .history) e) (X .kept)
+      gs = stepped (settingOf (worldOf k (L .closed) table start) (L .history) e) (X .kept)
 
       -- it fits exactly if the stepped window does
-      fits-room : T (fits (settingIn w bytes e) (roomOf w (length lent)) (X .kept)) → length gs ≤ roomOf w (length lent)
+      fits-allowed : T (fits (settingIn w bytes e) (allowedOf w cap lent) (X .kept)) → length gs ≤ allowedOf w cap lent
       unfolding fits
-      fits-room t =
-          let s : Setting = settingOf (worldOf k table start) (L .history) e in
+      fits-allowed t =
+          let s : Setting = settingOf (worldOf k (L .closed) table start) (L .history) e in
           let q : settingIn w bytes e ≡ s = setting-in w k table start R L bytes lent X e in
-          let u : T (ltb 0 (keptAfter s (X .kept)) && leb (keptAfter s (X .kept)) (roomOf w (length lent))) = rw q at t in
-          rw (stepped-many s (X .kept)) (leb→le (keptAfter s (X .kept)) (roomOf w (length lent)) (and-r (ltb 0 (keptAfter s (X .kept))) (leb (keptAfter s (X .kept)) (roomOf w (length lent))) u))
+          let u : T (ltb 0 (keptAfter s (X .kept)) && leb (keptAfter s (X .kept)) (allowedOf w cap lent)) = rw q at t in
+          rw (stepped-many s (X .kept)) (leb→le (keptAfter s (X .kept)) (allowedOf w cap lent) (and-r (ltb 0 (keptAfter s (X .kept))) (leb (keptAfter s (X .kept)) (allowedOf w cap lent)) u))
 
     -- ---- the watch after it
     room-1024 : badLengths ≡ false → roomOf w (length lent) ≤ 1024
@@ -168,18 +187,19 @@ module _ (w k : ℕ) (table : List Line) (start : Cut) (R : Rule w k table start
     unfolding ledgerAfter decided
     take-right h = go trial
       where
-        go : Outcome w bytes (validAmong (X .kept)) (roomOf w (length lent)) (X .kept) 0 false (L .pending) noEvent
+        go : Outcome w bytes (validAmong (X .kept)) (allowedOf w cap lent) (X .kept) 0 false (L .pending) noEvent
             → Watching w k table start (ledgerAfter w bytes L decision) (decided w bytes lent (X .kept) decision .bytes) (decided w bytes lent (X .kept) decision .window)
         go (none-decides b q u o) = rw q X
         go (falsifies j l q r n x) =
             let i : 0 + j ≡ j = omega arith in
             rw (q, i, says-event w k table start R L bytes lent X j noEvent l)
-            (subst (Watching w k table start (record { history = L .history; pending = removeAt j (L .pending); falsified = getD (L .pending) j noEvent ∷ L .falsified }) (removed w bytes j)) (sym (X .window-is))
+            (subst (Watching w k table start (record { history = L .history; pending = removeAt j (L .pending); falsified = getD (L .pending) j noEvent ∷ L .falsified; closed = L .closed }) (removed w bytes j)) (sym (X .window-is))
             (falsified-watching w k table start R L bytes lent X j noEvent l (is-ready j l r) (is-false j l r n)
             (length lent) (omega arith)))
         go (chooses j l q r v f x) =
             let i : 0 + j ≡ j = omega arith in
-            let many : length (gs j l) ≤ roomOf w (length lent) = fits-room j l f in
+            let many : length (gs j l) ≤ roomOf w (length lent) =
+            le-trans (fits-allowed j l f) (min-le-right cap (roomOf w (length lent))) in
             let fit = room-iff w (length (gs j l)) (length lent) .0 many in
             rw (
               q,
@@ -197,7 +217,8 @@ module _ (w k : ℕ) (table : List Line) (start : Cut) (R : Rule w k table start
   unfolding after ledgerAfter
   after-right W X (offers mask clock labels) p = offer-right W X mask clock labels p
   after-right W X (finds line) p = X
-  after-right W X (takes zeros scratch) p = go (badLengths L bytes lent X′ scratch) refl
+  after-right W X (closes p) q = close-right W X p
+  after-right W X (takes cap zeros scratch) p = go (badLengths L bytes lent X′ cap scratch) refl
     where
       L : Ledger
       L = W .ledger
@@ -211,9 +232,9 @@ module _ (w k : ℕ) (table : List Line) (start : Cut) (R : Rule w k table start
       X′ : Watching w k table start L bytes lent
       X′ = lengthened L bytes (W .window) X zeros
 
-      go : (b : Bool) → badLengths L bytes lent X′ scratch ≡ b → WatchRight w k table start (after w (takes zeros scratch) W)
-      go true h = let t = take-6 L bytes lent X′ scratch h in rw (t .1, t .0) X′
-      go false h = let t = take-else L bytes lent X′ scratch h in rw (t .1, t .0) (take-right L bytes lent X′ scratch h)
+      go : (b : Bool) → badLengths L bytes lent X′ cap scratch ≡ b → WatchRight w k table start (after w (takes cap zeros scratch) W)
+      go true h = let t = take-6 L bytes lent X′ cap scratch h in rw (t .1, t .0) X′
+      go false h = let t = take-else L bytes lent X′ cap scratch h in rw (t .1, t .0) (take-right L bytes lent X′ cap scratch h)
 
   pub run-right : (W : Watch) → WatchRight w k table start W → (cs : List Call) → ((c : Call) → List·Memᴰ c cs → Passed w c) → WatchRight w k table start (run w cs W)
   unfolding run

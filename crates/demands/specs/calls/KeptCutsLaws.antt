@@ -1,50 +1,70 @@
 -- The kept cuts in order are one list, and it is what a window that represents a history holds.
 use Prim.Native.Nat.{ℕ, _<_}
-use mathlib.Core.Path.{_≡_, ap, sym, _∙_}
+use mathlib.Core.Path.{_≡_, refl, ap, sym, _∙_}
+use mathlib.Core.Bool.{Bool, true, false, not}
 use mathlib.Core.List.{List}
-use mathlib.Core.Logic.{inl, inr}
+use mathlib.Core.Logic.{inl, inr, _↔_}
 use lib.Dec.{T}
+use lib.ListN.{length, length-map}
 use Rattle.frontiers.specs.declared.Frontier.{Frontier}
 use Rattle.pactl.specs.declared.Line.{Line}
 use Rattle.clocks.specs.declared.Event.{Event}
+use Rattle.codec.specs.Bit.{bit}
 use Rattle.codec.specs.BitLaws.{bit-zero}
 use Rattle.window_laws.specs.Represents.{Represents, openIn, frontierOf}
 use Rattle.window_laws.specs.Unique.{sorted-unique}
 use Rattle.clocks.specs.Event.{Cut}
-use Rattle.clocks.specs.History.{taken}
+use Rattle.clocks.specs.History.{taken, Consistent}
 use Rattle.clocks.specs.Kept.{Kept}
 use Rattle.clocks.specs.Counts.{listOf}
-use Rattle.demands.specs.World.{worldOf, KeptCuts, KeptNumber}
-use lib.ListN.{length, length-map}
+use Rattle.demands.specs.World.{worldOf, Stays, KeptCuts, KeptNumber}
 
-pub cuts-unique : (k : ℕ) (ts : List Event) (cuts others : List Cut) → KeptCuts k ts cuts → KeptCuts k ts others
-    → cuts ≡ others
-cuts-unique k ts cuts others K O =
-    sorted-unique (listOf 8) cuts others (K .ascending) (O .ascending) (λ S m. O .exactly S .1 (K .exactly S .0 m)) (λ S m. K .exactly S .1 (O .exactly S .0 m))
+-- the bit of an open process
+pub open-bit : (b : Bool) → T (not b) → b ≡ false
+open-bit true t = absurd t
+open-bit false t = refl
 
-pub number-unique : (k : ℕ) (ts : List Event) (n m : ℕ) → KeptNumber k ts n → KeptNumber k ts m → n ≡ m
-number-unique k ts n m a b = sym (a .2) ∙ ap length (cuts-unique k ts (a .0) (b .0) (a .1) (b .1)) ∙ b .2
+module _ (k closed : ℕ) (ts : List Event) where
+  pub cuts-unique : (cuts others : List Cut) → KeptCuts k closed ts cuts → KeptCuts k closed ts others → cuts ≡ others
+  cuts-unique cuts others K O =
+      sorted-unique (listOf 8) cuts others (K .ascending) (O .ascending)
+      (λ S m. O .exactly S .1 (K .exactly S .0 m)) (λ S m. K .exactly S .1 (O .exactly S .0 m))
 
-module _ (k : ℕ) (table : List Line) (start : Cut) (ts : List Event) where
-  none-closed : (p : ℕ) → T (openIn (worldOf k table start) p)
-  none-closed p = rw (bit-zero p) tt
+  pub number-unique : (n m : ℕ) → KeptNumber k closed ts n → KeptNumber k closed ts m → n ≡ m
+  number-unique n m a b = sym (a .2) ∙ ap length (cuts-unique (a .0) (b .0) (a .1) (b .1)) ∙ b .2
 
-  -- with some process, the largest cut has all taken events of one
-  complete : 0 < k → (C : Cut) → Kept k (openIn (worldOf k table start)) ts C → (p : ℕ) × (p < k) × (C p ≡ taken ts p)
-  complete l C (inl c) = (c .0, c .1, c .3)
-  complete l C (inr q) = (0, l, ap (λ (D : Cut). D 0) q)
+  -- ---- what stays, as the window's laws have it
+  pub stays-kept : (S : Cut) → Stays k closed ts S ↔ Kept k (λ p. not (bit closed p)) ts S
+  stays-kept S = (there, back)
+    where
+      there : Stays k closed ts S → Kept k (λ p. not (bit closed p)) ts S
+      there (inl c) = inl (c .0, c .1, rw (c .2) tt, c .3)
+      there (inr q) = inr q
 
-  pub represented-cuts : 0 < k → (fs : List Frontier) (R : Represents (worldOf k table start) ts fs)
-      → KeptCuts k ts (R .cuts)
-  represented-cuts l fs R = record {
-    ascending = R .sorted;
-    exactly = λ C. (
-      (λ m. let c = R .kept C m in (c .consistent, complete l C (c .kept))),
-      λ c. R .complete C (record { consistent = c .0; kept = inl (c .1 .0, c .1 .1, none-closed (c .1 .0), c .1 .2) }),
-    );
-  }
+      back : Kept k (λ p. not (bit closed p)) ts S → Stays k closed ts S
+      back (inl c) = inl (c .0, c .1, open-bit (bit closed (c .0)) (c .2), c .3)
+      back (inr q) = inr q
 
-  pub represented-number : 0 < k → (fs : List Frontier) → Represents (worldOf k table start) ts fs
-      → KeptNumber k ts (length fs)
-  represented-number l fs R =
-      (R .cuts, represented-cuts l fs R, sym (ap length (R .are) ∙ length-map (R .cuts) (frontierOf (worldOf k table start) ts)))
+  module _ (table : List Line) (start : Cut) (fs : List Frontier) (R : Represents (worldOf k closed table start) ts fs)
+    where
+      pub represented-cuts : KeptCuts k closed ts (R .cuts)
+      represented-cuts = record {
+        ascending = R .sorted;
+        exactly = λ C. (
+          (λ m. let c = R .kept C m in (c .consistent, stays-kept C .1 (c .kept))),
+          λ c. R .complete C (record { consistent = c .0; kept = stays-kept C .0 (c .1) }),
+        );
+      }
+
+      pub represented-number : KeptNumber k closed ts (length fs)
+      represented-number =
+          (R .cuts, represented-cuts, sym (ap length (R .are) ∙ length-map (R .cuts) (frontierOf (worldOf k closed table start) ts)))
+
+-- With no process closed a cut is kept exactly if some process has all its taken events in it (01, The window).
+pub none-closed : (k : ℕ) → 0 < k → (ts : List Event) (S : Cut)
+    → Stays k 0 ts S ↔ ((p : ℕ) × (p < k) × (S p ≡ taken ts p))
+none-closed k l ts S = (there, λ c. inl (c .0, c .1, bit-zero (c .0), c .2))
+  where
+    there : Stays k 0 ts S → (p : ℕ) × (p < k) × (S p ≡ taken ts p)
+    there (inl c) = (c .0, c .1, c .3)
+    there (inr q) = (0, l, ap (λ (R : Cut). R 0) q)

@@ -26,19 +26,19 @@ use Rattle.clocks.specs.stored.KeyLaws.{lowest-lt, lowest-involved}
 use Rattle.clocks.specs.stored.BoundedLaws.{any-i, any-of-i}
 use Rattle.clocks.specs.stored.TestedLaws.{involved-below}
 use Rattle.clocks.specs.Valid.{WellFormed}
-use Rattle.records.specs.Record.{processCount, pendingCount, takenCounts, pendingEvents, inserted}
-use Rattle.refusals.specs.Refusals.{alreadyTaken, conflicting, conflicts}
+use Rattle.records.specs.Record.{processCount, pendingCount, closedMask, takenCounts, pendingEvents, inserted}
+use Rattle.refusals.specs.Refusals.{namesClosed, alreadyTaken, conflicting, conflicts}
 use Rattle.call_offer.specs.Offer.{placeAmong, offeredEvent}
 use Rattle.demands.specs.Watching.{Rule, Watching, Eight}
 use Rattle.demands.specs.Ledger.{Ledger, NoClash}
 use Rattle.demands.specs.Run.{Passed, offers}
 use Rattle.demands.specs.Status.{insertAt}
 use Rattle.demands.specs.calls.PendingOrder.{place-within, insert-ordered, clear-insert}
-use Rattle.demands.specs.calls.WatchingLaws.{says-processes, says-many, says-pending, says-taken}
+use Rattle.demands.specs.calls.WatchingLaws.{says-processes, says-many, says-closed, says-pending, says-taken}
 use Rattle.demands.specs.bytes.InsertLaws.{length-insertAt, member-insertAt}
 use Rattle.demands.specs.bytes.PendingLaws.{inserted-recordBytes}
 use Rattle.demands.specs.calls.StoredFits.{sized}
-use Rattle.demands.specs.World.{statusOf}
+use Rattle.demands.specs.World.{statusOf, Open}
 use Rattle.demands.specs.bytes.Sized.{Storable}
 
 -- ---- the lowest process of a well formed event
@@ -77,6 +77,12 @@ module _ (w k : ℕ) (table : List Line) (start : Cut) (R : Rule w k table start
       let q : involved e p && leb (count e p) (taken (L .history) p) ≡ false = any-false-e 8 (λ x. involved e x && leb (count e x) (taken (L .history) x)) h p l in
       leb-false (count e p) (taken (L .history) p) (rw b at q)
 
+  offered-open : namesClosed (L .closed) e ≡ false → (p : ℕ) → p < 8 → involved e p ≡ true → Open (L .closed) p
+  unfolding namesClosed
+  offered-open h p l b =
+      let q : involved e p && bit (L .closed) p ≡ false = any-false-e 8 (λ x. involved e x && bit (L .closed) x) h p l in
+      rw b at q
+
   -- an event with a pending one's key has its count at a common process
   offered-key : Faultless k e → conflicting e (L .pending) ≡ false → (f : Event) → List·Memᴰ f (L .pending) → keyOf f ≡ keyOf e → ⊥
   unfolding keyOf conflicting conflicts count
@@ -101,6 +107,7 @@ module _ (w k : ℕ) (table : List Line) (start : Cut) (R : Rule w k table start
 
   -- ---- the watch with it
   module _ (h7 : badMask (processCount bytes) mask ≡ false) (h8 : badClock (processCount bytes) mask clock ≡ false) (h9 : badLabels mask labels ≡ false)
+      (h42 : namesClosed (closedMask bytes) e ≡ false)
       (h31 : alreadyTaken e (at (takenCounts w bytes)) ≡ false) (h32 : conflicting e (pendingEvents w bytes) ≡ false) (h33 : leb 32 (pendingCount bytes) ≡ false) where
     g : Faultless k e
     g = let p = says-processes w k table start R L bytes window X in offered-faultless (rw p at h7) (rw p at h8) h9
@@ -109,7 +116,7 @@ module _ (w k : ℕ) (table : List Line) (start : Cut) (R : Rule w k table start
     i = placeAmong e (L .pending)
 
     abbrev with-event : Ledger
-    with-event = record { history = L .history; pending = insertAt i e (L .pending); falsified = L .falsified }
+    with-event = record { history = L .history; pending = insertAt i e (L .pending); falsified = L .falsified; closed = L .closed }
 
     free : length (L .pending) < 32
     free = leb-false 32 (length (L .pending)) (rw (says-many w k table start R L bytes window X) at h33)
@@ -122,6 +129,11 @@ module _ (w k : ℕ) (table : List Line) (start : Cut) (R : Rule w k table start
 
     untaken-e : (p : ℕ) → involved e p ≡ true → taken (L .history) p < count e p
     untaken-e p b = offered-untaken (rw (says-taken w k table start R L bytes window X) at h31) p (omega (arith, R .eight-processes, involved-below k e (g .formed) p b)) b
+
+    open-e : (p : ℕ) → involved e p ≡ true → Open (L .closed) p
+    open-e p b =
+        offered-open (rw (says-closed w k table start R L bytes window X) at h42) p
+        (omega (arith, R .eight-processes, involved-below k e (g .formed) p b)) b
 
     -- of each pending event, the new one or an old one
     pub accepted-watching : Watching w k table start with-event (inserted w bytes (placeAmong e (pendingEvents w bytes)) e) window
@@ -145,4 +157,6 @@ module _ (w k : ℕ) (table : List Line) (start : Cut) (R : Rule w k table start
       faultless = λ f. ⊎-elim (λ m. X .faultless f (inl m)) (λ m. ⊎-elim (λ q. rw q g) (λ n. X .faultless f (inr n)) (member-insertAt i e (L .pending) f .0 m));
       storable = λ f. ⊎-elim (λ m. X .storable f (inl m)) (λ m. ⊎-elim (λ q. rw q offered-storable) (λ n. X .storable f (inr n)) (member-insertAt i e (L .pending) f .0 m));
       many = omega (arith, free, length-insertAt i e (L .pending));
+      closed-below = X .closed-below;
+      names-open = λ f m. ⊎-elim (λ q. rw q open-e) (X .names-open f) (member-insertAt i e (L .pending) f .0 m);
     }

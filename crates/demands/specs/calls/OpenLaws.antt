@@ -8,6 +8,7 @@ use mathlib.Core.List.{List, [], _∷_, List·Memᴰ·not-nil}
 use mathlib.Core.Logic.{⊎-elim}
 use lib.Dec.{leb, ltb, eqb, eqb→eq}
 use lib.ListN.{length, getD}
+use lib.Pow.{pow-pos}
 use borrow.Author.Tests.{ltb-true, leb-true, eqb-true, ltb-false, eqb-false}
 use Rattle.pactl.specs.declared.Line.{Line}
 use Rattle.rules.specs.Line.{linesAt, lineCount}
@@ -118,16 +119,16 @@ module _ (w : ℕ) (text : List ℕ) (k : ℕ) (labels window : List ℕ) (some-
   W = opened (openTable w table k labels (length window))
 
   -- its window holds the one cut of zeros
-  pub opened-start : Represents (worldOf k table (at labels)) [] (startFrontier 8 labels table ∷ [])
+  pub opened-start : Represents (worldOf k 0 table (at labels)) [] (startFrontier 8 labels table ∷ [])
   opened-start =
-      let P : Proper (worldOf k table (at labels)) Valid [] = record { some-process = processes .0; room = processes .1; rule = valid-rule k; by-rule = tt; good = opened-rule .good } in
-      subst (λ (ls : List ℕ). Represents (worldOf k table (at labels)) [] (startFrontier 8 ls table ∷ [])) (listOf-at 8 labels eight) (start-represents (worldOf k table (at labels)) Valid P)
+      let P : Proper (worldOf k 0 table (at labels)) Valid [] = record { some-process = processes .0; room = processes .1; rule = valid-rule k; by-rule = tt; good = opened-rule .good } in
+      subst (λ (ls : List ℕ). Represents (worldOf k 0 table (at labels)) [] (startFrontier 8 ls table ∷ [])) (listOf-at 8 labels eight) (start-represents (worldOf k 0 table (at labels)) Valid P)
 
   pub opened-right : WatchRight w k table (at labels) W
   unfolding openTable badWindowLength taken lastClock clockOf event
   opened-right = record {
     kept = startFrontier 8 labels table ∷ [];
-    bytes-are = firstRecord-recordBytes w k table ∙ ap₂ (λ (c : Cut) (d : ℕ → Cut). recordBytes w (record { processes = k; table = table; kept = 1; counts = c; clocks = d; pending = [] })) no-counts no-clocks;
+    bytes-are = firstRecord-recordBytes w k table ∙ ap₂ (λ (c : Cut) (d : ℕ → Cut). recordBytes w (record { processes = k; table = table; closed = 0; kept = 1; counts = c; clocks = d; pending = [] })) no-counts no-clocks;
     window-is = ap (λ (t : ℕ). windowBytes w t (startFrontier 8 labels table ∷ [])) (sym long);
     room = omega (arith, long, one-frontier);
     few = omega arith;
@@ -144,6 +145,8 @@ module _ (w : ℕ) (text : List ℕ) (k : ℕ) (labels window : List ℕ) (some-
     faultless = λ e. ⊎-elim (λ m. absurd (List·Memᴰ·not-nil m)) (λ m. absurd (List·Memᴰ·not-nil m));
     storable = λ e. ⊎-elim (λ m. absurd (List·Memᴰ·not-nil m)) (λ m. absurd (List·Memᴰ·not-nil m));
     many = omega arith;
+    closed-below = pow-pos k;
+    names-open = λ e m. absurd (List·Memᴰ·not-nil m);
   }
     where
       one-frontier : 1 * frontierLength w ≤ length window
@@ -156,4 +159,4 @@ module _ (w : ℕ) (text : List ℕ) (k : ℕ) (labels window : List ℕ) (some-
       no-clocks = fun-ext (λ p. fun-ext (λ q. refl))
 
       long : length (windowBytes w (length window) (startFrontier 8 labels table ∷ [])) ≡ length window
-      long = length-windowBytes w (length window) (startFrontier 8 labels table ∷ []) (all-shaped w [] tt (λ e m. absurd (List·Memᴰ·not-nil m)) k table (at labels) (opened-rule .short) bytes (startFrontier 8 labels table ∷ []) opened-start) one-frontier
+      long = length-windowBytes w (length window) (startFrontier 8 labels table ∷ []) (all-shaped w [] tt (λ e m. absurd (List·Memᴰ·not-nil m)) k 0 table (at labels) (opened-rule .short) bytes (startFrontier 8 labels table ∷ []) opened-start) one-frontier

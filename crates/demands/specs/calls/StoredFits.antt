@@ -63,24 +63,24 @@ module _ (w : ℕ) (ts : List Event) (c : Causal ts) (s : (e : Event) → In e t
       go (yes j) = rw (at-listOf 8 f p j) (h p)
       go (no j) = rw (at-beyond (listOf 8 f) p (omega (arith, length-listOf 8 f))) l
 
-  pub frontier-shaped : (k : ℕ) (table : List Line) (start : Cut) → length table ≤ 64 → ((p : ℕ) → start p < 256)
-      → (S : Cut) → Consistent ts S → Shaped w (frontierOf (worldOf k table start) ts S)
+  pub frontier-shaped : (k closed : ℕ) (table : List Line) (start : Cut) → length table ≤ 64 → ((p : ℕ) → start p < 256)
+      → (S : Cut) → Consistent ts S → Shaped w (frontierOf (worldOf k closed table start) ts S)
   unfolding frontierOf labelOf maskOf
-  frontier-shaped k table start short labels S e = record {
+  frontier-shaped k closed table start short labels S e = record {
     eight-counts = length-listOf 8 S;
     counts-fit = λ p. list-fits S (256 ^ w) p (pow-256-pos w) (λ q. omega (arith, e .within q, taken-fits q));
     eight-labels = length-listOf 8 (λ p. labelOf start ts p (S p));
     labels-fit = λ i. list-fits (λ p. labelOf start ts p (S p)) 256 i (omega arith) (λ q. view-fits (start q) (λ f. getD (f .labels) q 0) 256 q (S q) (labels q) (λ f t. t .labels-fit q));
     eight-masks = length-listOf 8 (λ p. maskOf ts p (S p));
     masks-fit = λ i. list-fits (λ p. maskOf ts p (S p)) 256 i (omega arith) (λ q. view-fits 0 (λ f. f .mask) 256 q (S q) (omega arith) (λ f t. t .mask-fits));
-    values-fit = omega (arith, wordOf-lt (length table) (λ j. lineTruth (modelOf (worldOf k table start) ts) table j S), pow-mono short);
+    values-fit = omega (arith, wordOf-lt (length table) (λ j. lineTruth (modelOf (worldOf k closed table start) ts) table j S), pow-mono short);
   }
 
-  pub all-shaped : (k : ℕ) (table : List Line) (start : Cut) → length table ≤ 64 → ((p : ℕ) → start p < 256)
-      → (fs : List Frontier) → Represents (worldOf k table start) ts fs → AllShaped w fs
-  all-shaped k table start short labels fs R f m =
-      let u = mapped-e (frontierOf (worldOf k table start) ts) (R .cuts) f (rw (R .are) at m) in
-      rw (u .2) (frontier-shaped k table start short labels (u .0) (R .kept (u .0) (u .1) .consistent))
+  pub all-shaped : (k closed : ℕ) (table : List Line) (start : Cut) → length table ≤ 64 → ((p : ℕ) → start p < 256)
+      → (fs : List Frontier) → Represents (worldOf k closed table start) ts fs → AllShaped w fs
+  all-shaped k closed table start short labels fs R f m =
+      let u = mapped-e (frontierOf (worldOf k closed table start) ts) (R .cuts) f (rw (R .are) at m) in
+      rw (u .2) (frontier-shaped k closed table start short labels (u .0) (R .kept (u .0) (u .1) .consistent))
 
 -- ---- what follows from it
 module _ (w k : ℕ) (table : List Line) (start : Cut) (R : Rule w k table start) (L : Ledger) (bytes window : List ℕ) (X : Watching w k table start L bytes window) where
@@ -88,7 +88,7 @@ module _ (w k : ℕ) (table : List Line) (start : Cut) (R : Rule w k table start
   ts = L .history
 
   abbrev world : World
-  world = worldOf k table start
+  world = worldOf k (L .closed) table start
 
   pub by-history : History k Valid ts
   by-history = X .right .by-rule
@@ -101,7 +101,7 @@ module _ (w k : ℕ) (table : List Line) (start : Cut) (R : Rule w k table start
 
   pub kept-shaped : AllShaped w (X .kept)
   kept-shaped =
-      all-shaped w ts causal-history (λ e m. X .storable e (inl m)) k table start (R .short) (R .labels-fit) (X .kept) (X .represents)
+      all-shaped w ts causal-history (λ e m. X .storable e (inl m)) k (L .closed) table start (R .short) (R .labels-fit) (X .kept) (X .represents)
 
   pub sized : Sized w (statusOf k table (length (X .kept)) L)
   unfolding lastClock
@@ -109,6 +109,7 @@ module _ (w k : ℕ) (table : List Line) (start : Cut) (R : Rule w k table start
     processes-fit = omega (arith, R .eight-processes);
     short = R .short;
     line-bytes = R .line-bytes;
+    closed-fits = omega (arith, X .closed-below, pow-mono (R .eight-processes));
     kept-fits = omega (arith, X .few);
     counts-fit = taken-fits w ts causal-history (λ e m. X .storable e (inl m));
     clocks-fit = λ p q. clock-fits w ts causal-history (λ e m. X .storable e (inl m)) p (taken ts p) q;

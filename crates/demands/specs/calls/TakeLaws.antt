@@ -5,13 +5,11 @@ use mathlib.Core.Path.{_≡_, refl, sym, ap, _∙_, fun-ext}
 use mathlib.Core.List.{List, [], _∷_, List·Memᴰ, List·Memᴰ·cases-cons}
 use mathlib.Core.Logic.{inl, inr, ⊎-elim, _⊎_, _≢_}
 use mathlib.Core.Bool.{true, false, cond}
-use lib.Dec.{T}
 use lib.ListN.{length, getD}
 use Rattle.pactl.specs.declared.Line.{Line}
 use Rattle.clocks.specs.declared.Event.{Event}
-use Rattle.codec.specs.BitLaws.{bit-zero}
 use Rattle.frontiers.specs.WindowLaws.{length-windowBytes, replaced-windowBytes}
-use Rattle.window_laws.specs.Represents.{World, openIn, Proper, Represents, settingOf}
+use Rattle.window_laws.specs.Represents.{World, Proper, Represents, settingOf}
 use Rattle.frontiers.specs.ListLaws.{place-member}
 use Rattle.frontiers.specs.Bytes.{windowBytes, replaced, frontierLength}
 use Rattle.clocks.specs.History.{taken, clockOf, lastClock, In, Causal}
@@ -54,14 +52,10 @@ module _ (w k : ℕ) (table : List Line) (start : Cut) (R : Rule w k table start
   ts = L .history
 
   abbrev world : World
-  world = worldOf k table start
+  world = worldOf k (L .closed) table start
 
   P : Proper world Valid ts
   P = proper w k table start R L bytes window X
-
-  -- no process is closed
-  none-closed : (p : ℕ) → T (openIn world p)
-  none-closed p = rw (bit-zero p) tt
 
   -- ---- an event taken
   module _ (i : ℕ) (d : Event) (l : i < length (L .pending)) where
@@ -74,7 +68,7 @@ module _ (w k : ℕ) (table : List Line) (start : Cut) (R : Rule w k table start
     -- ... or gone with a false clock
     module _ (r : Ready e (taken ts)) (n : Valid ts e → ⊥) where
       abbrev without : Ledger
-      without = record { history = ts; pending = removeAt i (L .pending); falsified = e ∷ L .falsified }
+      without = record { history = ts; pending = removeAt i (L .pending); falsified = e ∷ L .falsified; closed = L .closed }
 
       pub falsified-watching : (total : ℕ) → length window ≤ total → Watching w k table start without (removed w bytes i) (windowBytes w total (X .kept))
       falsified-watching total g = record {
@@ -97,6 +91,8 @@ module _ (w k : ℕ) (table : List Line) (start : Cut) (R : Rule w k table start
         faultless = λ f. ⊎-elim (λ q. X .faultless f (inl q)) (λ q. X .faultless f (inr (remove-e i (L .pending) f q)));
         storable = λ f. ⊎-elim (λ q. X .storable f (inl q)) (λ q. X .storable f (inr (remove-e i (L .pending) f q)));
         many = omega (arith, X .many, length-removeAt i (L .pending) l);
+        closed-below = X .closed-below;
+        names-open = λ f q. X .names-open f (remove-e i (L .pending) f q);
       }
         where
           long : length (windowBytes w total (X .kept)) ≡ total
@@ -105,7 +101,7 @@ module _ (w k : ℕ) (table : List Line) (start : Cut) (R : Rule w k table start
     -- ---- taken
     module _ (r : Ready e (taken ts)) (j : Valid ts e) where
       abbrev with-event : Ledger
-      with-event = record { history = e ∷ ts; pending = removeAt i (L .pending); falsified = L .falsified }
+      with-event = record { history = e ∷ ts; pending = removeAt i (L .pending); falsified = L .falsified; closed = L .closed }
 
       tk : Takeable k Valid ts e
       tk = record { formed = X .right .formed e m; ready = r; true-clock = j }
@@ -120,7 +116,7 @@ module _ (w k : ℕ) (table : List Line) (start : Cut) (R : Rule w k table start
       gs = stepped (settingOf world ts e) (X .kept)
 
       pub stepped-right : Represents world (e ∷ ts) gs
-      stepped-right = step-represents world Valid ts e P tk (λ p b. none-closed p) (X .kept) (X .represents)
+      stepped-right = step-represents world Valid ts e P tk (λ p b. rw (X .names-open e m p b) tt) (X .kept) (X .represents)
 
       pub stepped-some : 0 < length gs
       stepped-some = some-frontier world Valid (e ∷ ts) (record { some-process = P .some-process; room = P .room; rule = P .rule; by-rule = later; good = P .good }) gs stepped-right
@@ -129,7 +125,7 @@ module _ (w k : ℕ) (table : List Line) (start : Cut) (R : Rule w k table start
       storable-later f q = ⊎-elim (λ s. rw s (X .storable e (inr m))) (λ n. X .storable f (inl n)) (List·Memᴰ·cases-cons q)
 
       shaped : AllShaped w gs
-      shaped = all-shaped w (e ∷ ts) causal storable-later k table start (R .short) (R .labels-fit) gs stepped-right
+      shaped = all-shaped w (e ∷ ts) causal storable-later k (L .closed) table start (R .short) (R .labels-fit) gs stepped-right
 
       -- the bytes behind the old frontiers were 0, so those behind the new ones are
       pub taken-window : length gs * frontierLength w ≤ length window → replaced w window (length (X .kept)) gs ≡ windowBytes w (length window) gs
@@ -170,6 +166,8 @@ module _ (w k : ℕ) (table : List Line) (start : Cut) (R : Rule w k table start
         faultless = λ f. ⊎-elim (λ q. ⊎-elim (λ s. rw s (X .faultless e (inr m))) (λ n. X .faultless f (inl n)) (List·Memᴰ·cases-cons q)) (λ q. X .faultless f (inr (remove-e i (L .pending) f q)));
         storable = λ f. ⊎-elim (storable-later f) (λ q. X .storable f (inr (remove-e i (L .pending) f q)));
         many = omega (arith, X .many, length-removeAt i (L .pending) l);
+        closed-below = X .closed-below;
+        names-open = λ f q. X .names-open f (remove-e i (L .pending) f q);
       }
         where
           long : length (windowBytes w total gs) ≡ total
@@ -188,6 +186,7 @@ module _ (w k : ℕ) (table : List Line) (start : Cut) (R : Rule w k table start
                 processes-fit = z .processes-fit;
                 short = z .short;
                 line-bytes = z .line-bytes;
+                closed-fits = z .closed-fits;
                 kept-fits = z .kept-fits;
                 counts-fit = z .counts-fit;
                 clocks-fit = z .clocks-fit;
@@ -200,4 +199,4 @@ module _ (w k : ℕ) (table : List Line) (start : Cut) (R : Rule w k table start
               ap (λ (s : List ℕ). counted w (removed w s i) e (length gs)) (X .bytes-are)
               ∙ ap (λ (s : List ℕ). counted w s e (length gs)) (removed-recordBytes w old (sized w k table start R L bytes window X) i l)
               ∙ counted-recordBytes w smaller smaller-sized e (length gs) (X .storable e (inr m) .eight-counts)
-              ∙ ap (λ (c : ℕ → Cut). recordBytes w (record { processes = k; table = table; kept = length gs; counts = taken (e ∷ ts); clocks = c; pending = removeAt i (L .pending) })) (fun-ext (λ p. sym (last-next e ts p)))
+              ∙ ap (λ (c : ℕ → Cut). recordBytes w (record { processes = k; table = table; closed = L .closed; kept = length gs; counts = taken (e ∷ ts); clocks = c; pending = removeAt i (L .pending) })) (fun-ext (λ p. sym (last-next e ts p)))

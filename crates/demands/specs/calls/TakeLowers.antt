@@ -14,8 +14,7 @@ use Rattle.records.specs.Record.{pendingCount}
 use Rattle.demands.specs.bytes.RecordLaws.{pendingCount-recordBytes}
 use Rattle.demands.specs.Status.{removeAt}
 use Rattle.trial.specs.Trial.{validAmong, Decision, undecided}
-use Rattle.call_take.specs.Take.{takeCall, Taken, decided}
-use Rattle.refusals.specs.Refusals.{roomOf}
+use Rattle.call_take.specs.Take.{allowedOf, takeCapped, Taken, decided}
 use Rattle.answers.specs.Answer.{turnedBack, nothingReady}
 use Rattle.trial.specs.TrialLaws.{Outcome, none-decides, falsifies, chooses}
 use Rattle.demands.specs.Ledger.{Ledger}
@@ -24,9 +23,9 @@ use Rattle.demands.specs.calls.AfterCall.{noEvent, badLengths, decision,
 use Rattle.demands.specs.calls.TakeLedger.{ledgerAfter}
 
 module _ (w k : ℕ) (table : List Line) (start : Cut) (R : Rule w k table start) (L : Ledger) (bytes lent : List ℕ) (X : Watching w k table start L bytes lent)
-    (scratch : List ℕ) where
+    (cap : ℕ) (scratch : List ℕ) where
   abbrev took : Taken
-  took = takeCall w bytes lent scratch
+  took = takeCapped w cap bytes lent scratch
 
   -- the record's number of pending events is the ledger's
   many : (M : Ledger) (s window : List ℕ) → Watching w k table start M s window → pendingCount s ≡ length (M .pending)
@@ -35,23 +34,23 @@ module _ (w k : ℕ) (table : List Line) (start : Cut) (R : Rule w k table start
   -- ---- Theorem
   pub take-lowers : took .answer ≢ nothingReady → took .answer ≢ turnedBack 6 0 → took .answer ≢ turnedBack 36 0 → pendingCount (took .bytes) + 1 ≡ pendingCount bytes
   unfolding decided ledgerAfter
-  take-lowers n0 n6 n36 = lengths (badLengths w k table start R L bytes lent X scratch) refl
+  take-lowers n0 n6 n36 = lengths (badLengths w k table start R L bytes lent X cap scratch) refl
     where
       D : Decision
-      D = decision w k table start R L bytes lent X scratch
+      D = decision w k table start R L bytes lent X cap scratch
 
-      lengths : (b : Bool) → badLengths w k table start R L bytes lent X scratch ≡ b → pendingCount (took .bytes) + 1 ≡ pendingCount bytes
-      lengths true h = absurd (n6 (ap (λ (x : Taken). x .answer) (take-6 w k table start R L bytes lent X scratch h .0)))
-      lengths false h = go (trial w k table start R L bytes lent X scratch)
+      lengths : (b : Bool) → badLengths w k table start R L bytes lent X cap scratch ≡ b → pendingCount (took .bytes) + 1 ≡ pendingCount bytes
+      lengths true h = absurd (n6 (ap (λ (x : Taken). x .answer) (take-6 w k table start R L bytes lent X cap scratch h .0)))
+      lengths false h = go (trial w k table start R L bytes lent X cap scratch)
         where
           t : took ≡ decided w bytes lent (X .kept) D
-          t = take-else w k table start R L bytes lent X scratch h .0
+          t = take-else w k table start R L bytes lent X cap scratch h .0
 
           answered : (d : Decision) → D ≡ d → took .answer ≡ decided w bytes lent (X .kept) d .answer
           answered d q = ap (λ (x : Taken). x .answer) (t ∙ ap (decided w bytes lent (X .kept)) q)
 
           after : pendingCount (took .bytes) ≡ length (ledgerAfter w bytes L D .pending)
-          after = ap (λ (x : Taken). pendingCount (x .bytes)) t ∙ many (ledgerAfter w bytes L D) _ _ (take-right w k table start R L bytes lent X scratch h)
+          after = ap (λ (x : Taken). pendingCount (x .bytes)) t ∙ many (ledgerAfter w bytes L D) _ _ (take-right w k table start R L bytes lent X cap scratch h)
 
           -- event j is no longer there
           without : (j : ℕ) → j < length (L .pending) → ledgerAfter w bytes L D .pending ≡ removeAt (0 + j) (L .pending) → pendingCount (took .bytes) + 1 ≡ pendingCount bytes
@@ -60,7 +59,7 @@ module _ (w k : ℕ) (table : List Line) (start : Cut) (R : Rule w k table start
               let v = length-removeAt (0 + j) (L .pending) (omega arith) in
               omega (arith, after, u, v, many L bytes lent X)
 
-          go : Outcome w bytes (validAmong (X .kept)) (roomOf w (length lent)) (X .kept) 0 false (L .pending) noEvent
+          go : Outcome w bytes (validAmong (X .kept)) (allowedOf w cap lent) (X .kept) 0 false (L .pending) noEvent
               → pendingCount (took .bytes) + 1 ≡ pendingCount bytes
           go (none-decides false q u o) = absurd (n0 (answered (undecided false) q))
           go (none-decides true q u o) = absurd (n36 (answered (undecided true) q))

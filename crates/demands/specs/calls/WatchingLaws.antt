@@ -3,7 +3,7 @@
 use Prim.Native.Nat.{ℕ, _≤_, _<_, _+_, _-_, _*_}
 use native.Mathlib.Omega.{arith}
 use mathlib.Core.Path.{_≡_, ap, _∙_}
-use mathlib.Core.Bool.{false}
+use mathlib.Core.Bool.{true, false}
 use mathlib.Core.List.{List, [], _++_, append-assoc}
 use mathlib.Core.Logic.{_↔_}
 use lib.ListN.{length, getD, replicate, replicate-append-replicate}
@@ -12,11 +12,10 @@ use borrow.Author.Tests.{le-ltb, ne-eqb}
 use Rattle.pactl.specs.declared.Line.{Line}
 use Rattle.clocks.specs.declared.Event.{Event}
 use Rattle.window_laws.specs.Verdict.{some-frontier}
-use Rattle.codec.specs.BitLaws.{bit-zero}
-use Rattle.window_laws.specs.Represents.{World, openIn, Proper, settingOf}
+use Rattle.window_laws.specs.Represents.{World, Proper, settingOf}
 use Rattle.window_laws.specs.KnownCuts.{known-among}
 use Rattle.clocks.specs.History.{taken, lastClock}
-use Rattle.clocks.specs.Event.{Cut, Ready, apply}
+use Rattle.clocks.specs.Event.{Cut, Ready, apply, involved}
 use Rattle.clocks.specs.validity.ClockRule.{taken-silent}
 use Rattle.clocks.specs.Counts.{at, listOf, rows}
 use Rattle.clocks.specs.stored.CountsLaws.{getD-listOf, at-listOf, at-listOf-all}
@@ -27,15 +26,15 @@ use Rattle.clocks.specs.stored.TestedLaws.{ready-test}
 use Rattle.frontiers.specs.WindowLaws.{frontiers-windowBytes}
 use Rattle.frontiers.specs.Bytes.{frontierLength, frontiers, framed, windowBytes}
 use Rattle.demands.specs.Watching.{Rule, Watching}
-use Rattle.records.specs.Record.{recordLength, processCount, lineTotal, pendingCount, keptCount, takenCounts, lastClocks, tableLines, pendingAt, pendingEvents, readyIn}
+use Rattle.records.specs.Record.{recordLength, processCount, lineTotal, pendingCount, closedMask, keptCount, takenCounts, lastClocks, tableLines, pendingAt, pendingEvents, readyIn}
 use Rattle.refusals.specs.Refusals.{badProcesses, badState}
 use Rattle.demands.specs.Ledger.{Ledger}
 use Rattle.demands.specs.Status.{Status}
 use Rattle.trial.specs.Trial.{validAmong, settingIn}
 use Rattle.demands.specs.bytes.PendingLaws.{pendingAt-recordBytes, pendingEvents-recordBytes}
-use Rattle.demands.specs.bytes.RecordLaws.{processCount-recordBytes, lineTotal-recordBytes, pendingCount-recordBytes, tableLines-recordBytes, length-recordBytes, keptCount-recordBytes, takenCounts-recordBytes, lastClocks-recordBytes}
+use Rattle.demands.specs.bytes.RecordLaws.{processCount-recordBytes, lineTotal-recordBytes, pendingCount-recordBytes, closedMask-recordBytes, tableLines-recordBytes, length-recordBytes, keptCount-recordBytes, takenCounts-recordBytes, lastClocks-recordBytes}
 use Rattle.demands.specs.calls.StoredFits.{proper, sized, kept-shaped}
-use Rattle.demands.specs.World.{worldOf, statusOf, Valid}
+use Rattle.demands.specs.World.{worldOf, statusOf, Valid, Open}
 use Rattle.demands.specs.bytes.Sized.{Sized}
 
 module _ (w k : ℕ) (table : List Line) (start : Cut) (R : Rule w k table start) (L : Ledger) (bytes window : List ℕ) (X : Watching w k table start L bytes window) where
@@ -43,7 +42,7 @@ module _ (w k : ℕ) (table : List Line) (start : Cut) (R : Rule w k table start
   ts = L .history
 
   abbrev world : World
-  world = worldOf k table start
+  world = worldOf k (L .closed) table start
 
   abbrev status : Status
   status = statusOf k table (length (X .kept)) L
@@ -69,6 +68,9 @@ module _ (w k : ℕ) (table : List Line) (start : Cut) (R : Rule w k table start
 
   pub says-many : pendingCount bytes ≡ length (L .pending)
   says-many = ap pendingCount (X .bytes-are) ∙ pendingCount-recordBytes w status
+
+  pub says-closed : closedMask bytes ≡ L .closed
+  says-closed = ap closedMask (X .bytes-are) ∙ closedMask-recordBytes w status
 
   pub says-kept : keptCount bytes ≡ length (X .kept)
   says-kept = ap keptCount (X .bytes-are) ∙ keptCount-recordBytes w status z
@@ -127,12 +129,11 @@ module _ (w k : ℕ) (table : List Line) (start : Cut) (R : Rule w k table start
   unfolding readyIn
   ready-in e f = rw says-taken (ready-test 8 e (formed-eight e f) (taken ts))
 
-  none-closed : (p : ℕ) → T (openIn world p)
-  none-closed p = rw (bit-zero p) tt
-
-  pub valid-in : (e : Event) → WellFormed k e → Ready e (taken ts) → T (validAmong (X .kept) e) ↔ Valid ts e
+  -- of an event that names open processes, as every pending one does
+  pub valid-in : (e : Event) → WellFormed k e → ((p : ℕ) → involved e p ≡ true → Open (L .closed) p)
+      → Ready e (taken ts) → T (validAmong (X .kept) e) ↔ Valid ts e
   unfolding validAmong
-  valid-in e f r = known-among world Valid ts P (X .kept) (X .represents) e f r (λ p b. none-closed p)
+  valid-in e f o r = known-among world Valid ts P (X .kept) (X .represents) e f r (λ p b. rw (o p b) tt)
 
   -- ... and so is the test by the join of last clocks, which took its place before
   pub joined-in : (e : Event) → WellFormed k e → T (joinedBy 8 e (rows (lastClocks w bytes))) ↔ Joined 8 ts e
@@ -142,7 +143,7 @@ module _ (w k : ℕ) (table : List Line) (start : Cut) (R : Rule w k table start
 
   pub setting-in : (e : Event) → settingIn w bytes e ≡ settingOf world ts e
   unfolding settingIn taken apply
-  setting-in e = rw (says-processes, says-table, says-taken)
+  setting-in e = rw (says-processes, says-closed, says-table, says-taken)
 
   -- ---- the window, also one lent longer
   pub lent-longer : (more : ℕ) → window ++ replicate more 0 ≡ windowBytes w (length window + more) (X .kept)

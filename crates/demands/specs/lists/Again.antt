@@ -8,6 +8,7 @@ use mathlib.Core.Logic.{inl, inr, _↔_}
 use lib.Dec.{leb, eqb, T}
 use lib.Pow.{pow-mono}
 use borrow.Author.Tests.{eq-eqb, le-leb, lt-leb}
+use Rattle.codec.specs.Bit.{bit}
 use Rattle.clocks.specs.declared.Event.{Event}
 use Rattle.clocks.specs.Event.{Cut, count, involved}
 use Rattle.clocks.specs.History.{In, taken}
@@ -22,7 +23,7 @@ use Rattle.clocks.specs.stored.TestedLaws.{involved-below}
 use Rattle.rules.specs.Line.{linesAt}
 use Rattle.rules.specs.Formula.{Formula}
 use Rattle.records.specs.Record.{pendingCount, pendingEvents, inserted}
-use Rattle.refusals.specs.Refusals.{badRecordLength, alreadyTaken, conflicts, conflicting}
+use Rattle.refusals.specs.Refusals.{badRecordLength, namesClosed, alreadyTaken, conflicts, conflicting}
 use Rattle.repeats.specs.Repeats.{repeated}
 use Rattle.repeats.specs.RepeatLaws.{repeated-exactly}
 use Rattle.answers.specs.Answer.{turnedBack, held, again}
@@ -30,9 +31,10 @@ use Rattle.call_offer.specs.Offer.{Offered, placeAmong, offeredEvent, offerCall
 use Rattle.call_offer.specs.OfferCases.{OfferCase, offer-case, turned, repeats, accepted}
 use Rattle.demands.specs.Ledger.{Ledger}
 use Rattle.demands.specs.Run.{Passed, offers, Watch}
+use Rattle.demands.specs.EveryList.{NamesOpen}
 use Rattle.demands.specs.calls.PendingOrder.{clear-apart}
 use Rattle.demands.specs.calls.StoredFits.{causal-history}
-use Rattle.demands.specs.calls.WatchingLaws.{bytes-long, says-processes, says-pending, says-taken, never-34}
+use Rattle.demands.specs.calls.WatchingLaws.{bytes-long, says-processes, says-closed, says-pending, says-taken, never-34}
 use Rattle.demands.specs.lists.SoundRun.{Sound, every-list}
 use Rattle.demands.specs.lists.WithoutAgains.{offer-idle}
 use Rattle.demands.specs.statements.Again.{Contradicts, AgainExact, AgainIsExact}
@@ -61,14 +63,15 @@ module _ (w k : ℕ) (f : Formula) (start : Cut) (Z : Watch) (S : Sound w k f st
     -- What offer comes to by the ledger.
     unfoldable judged : Offered
     judged =
-        cond (alreadyTaken e (taken (L .history))) (back 31)
+        cond (namesClosed (L .closed) e) (back 42)
+        (cond (alreadyTaken e (taken (L .history))) (back 31)
         (cond (repeated e (L .pending)) (record { answer = again; bytes = Z .bytes })
         (cond (conflicting e (L .pending)) (back 32)
         (cond (leb 32 (pendingCount (Z .bytes))) (back 33)
         (record {
           answer = held (pendingCount (Z .bytes) + 1);
           bytes = inserted w (Z .bytes) (placeAmong e (L .pending)) e;
-        }))))
+        })))))
 
     offer-judged : offerCall w mask clock labels (Z .bytes) ≡ judged
     unfolding offerCall judged badRecordLength back
@@ -91,12 +94,35 @@ module _ (w k : ℕ) (f : Formula) (start : Cut) (Z : Watch) (S : Sound w k f st
           h7,
           h8,
           h9,
+          says-closed w k table start R L (Z .bytes) (Z .window) X,
           says-taken w k table start R L (Z .bytes) (Z .window) X,
           says,
         )
 
-    -- ---- ... whose counts are not taken yet
-    module _ (new : (p : ℕ) → involved e p ≡ true → taken (L .history) p < count e p) where
+    -- ---- ... that names a closed process
+    pub is-closed : (p : ℕ) → involved e p ≡ true → bit (L .closed) p ≡ true
+        → offerCall w mask clock labels (Z .bytes) .answer ≡ turnedBack 42 0
+    unfolding judged back namesClosed
+    is-closed p b h = rw offer-judged (rw known)
+      where
+        below : p < 8
+        below = omega (arith, S .rule .eight-processes, involved-below k e (fine .formed) p b)
+
+        known : namesClosed (L .closed) e ≡ true
+        known = T-true (namesClosed (L .closed) e)
+            (any-i 8 (λ q. involved e q && bit (L .closed) q) p below (rw (b, h) tt))
+
+    -- ---- ... that names open processes alone
+    unclosed : NamesOpen Z e → namesClosed (L .closed) e ≡ false
+    unfolding namesClosed
+    unclosed opens = any-false-i 8 (λ p. involved e p && bit (L .closed) p) (λ p l. at-process p (involved e p) refl)
+      where
+        at-process : (p : ℕ) (b : Bool) → involved e p ≡ b → (involved e p && bit (L .closed) p) ≡ false
+        at-process p true h = rw (h, opens p h)
+        at-process p false h = rw h
+
+    -- ---- ... and whose counts are not taken yet
+    module _ (opens : NamesOpen Z e) (new : (p : ℕ) → involved e p ≡ true → taken (L .history) p < count e p) where
       untaken : alreadyTaken e (taken (L .history)) ≡ false
       unfolding alreadyTaken
       untaken = any-false-i 8 (λ p. involved e p && leb (count e p) (taken (L .history) p))
@@ -111,12 +137,12 @@ module _ (w k : ℕ) (f : Formula) (start : Cut) (Z : Watch) (S : Sound w k f st
       unfolding judged
       is-again m =
           let r : repeated e (L .pending) ≡ true = T-true (repeated e (L .pending)) (repeated-here .1 m) in
-          rw offer-judged (rw (untaken, r))
+          rw offer-judged (rw (unclosed opens, untaken, r))
 
       is-other : (g : Event) → List·Memᴰ g (L .pending) → Contradicts e g
           → offerCall w mask clock labels (Z .bytes) .answer ≡ turnedBack 32 0
       unfolding judged back conflicting conflicts
-      is-other g m q = rw offer-judged (rw (untaken, alone (repeated e (L .pending)) refl, conflict))
+      is-other g m q = rw offer-judged (rw (unclosed opens, untaken, alone (repeated e (L .pending)) refl, conflict))
         where
           alone : (b : Bool) → repeated e (L .pending) ≡ b → repeated e (L .pending) ≡ false
           alone false h = h
@@ -136,9 +162,9 @@ module _ (w k : ℕ) (f : Formula) (start : Cut) (Z : Watch) (S : Sound w k f st
               (rw (q .involves, q .involves-other, eq-eqb (count e p) (count g p) (q .same-count)) tt)))
 
     -- ---- ... which is taken
-    is-taken : In e (L .history) → offerCall w mask clock labels (Z .bytes) .answer ≡ turnedBack 31 0
+    is-taken : NamesOpen Z e → In e (L .history) → offerCall w mask clock labels (Z .bytes) .answer ≡ turnedBack 31 0
     unfolding judged back alreadyTaken
-    is-taken m = rw offer-judged (rw known)
+    is-taken opens m = rw offer-judged (rw (unclosed opens, known))
       where
         p : ℕ
         p = fine .formed .occupied .0
@@ -163,10 +189,10 @@ module _ (w k : ℕ) (f : Formula) (start : Cut) (Z : Watch) (S : Sound w k f st
   then-pending h = go (offer-case w mask clock labels (Z .bytes))
     where
       go : OfferCase w mask clock labels (Z .bytes) → (mask < 256) × List·Memᴰ e (L .pending)
-      go (turned n some small q) =
+      go (turned n some small other q) =
           let x : turnedBack n 0 ≡ again = sym (ap (λ (o : Offered). o .answer) q) ∙ h in
           let z : _≡_ {A = ℕ} 0 1 = cc in absurd (omega arith)
-      go (accepted h7 h8 h9 h31 h32 h33 q) =
+      go (accepted h7 h8 h9 h42 h31 h32 h33 q) =
           let x : held (pendingCount (Z .bytes) + 1) ≡ again = sym (ap (λ (o : Offered). o .answer) q) ∙ h in
           let z : _≡_ {A = ℕ} 0 1 = cc in absurd (omega arith)
       go (repeats h7 r q) =
@@ -182,13 +208,13 @@ exact-of w k f start Z S =
       again-exactly = λ mask clock labels p. (
         then-pending w k f start Z S mask clock labels p,
         λ x. is-again w k f start Z S mask clock labels p (x .0) (X .faultless _ (inr (x .1)))
-            (X .right .untaken _ (x .1)) (x .1),
+            (X .names-open _ (x .1)) (X .right .untaken _ (x .1)) (x .1),
       );
       again-idle = λ mask clock labels h. offer-idle w mask clock labels Z (rw h);
-      taken-again = λ mask clock labels p m. is-taken w k f start Z S mask clock labels (p .0) (p .1)
-          (X .faultless _ (inl m)) m;
-      other-event = λ mask clock labels p fine new g m q. is-other w k f start Z S mask clock labels (p .0)
-          (p .1) fine new g m q;
+      taken-again = λ mask clock labels p m opens. is-taken w k f start Z S mask clock labels (p .0) (p .1)
+          (X .faultless _ (inl m)) opens m;
+      other-event = λ mask clock labels p fine opens new g m q. is-other w k f start Z S mask clock labels (p .0)
+          (p .1) fine opens new g m q;
     }
 
 pub again-exact : AgainIsExact

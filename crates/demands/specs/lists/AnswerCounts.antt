@@ -6,7 +6,6 @@ use mathlib.Core.Path.{_≡_, refl}
 use mathlib.Core.Bool.{Bool, true, false, cond, _||_}
 use mathlib.Core.List.{List, [], _∷_, _++_}
 use lib.Dec.{leb}
-use borrow.Author.Tests.{ne-eqb}
 use lib.ListN.{length, replicate}
 use Rattle.frontiers.specs.declared.Frontier.{Frontier}
 use Rattle.frontiers.specs.Bytes.{frontiers}
@@ -20,8 +19,11 @@ use Rattle.answers.specs.Answer.{Answer, turnedBack, again, found, absent, stat
 use Rattle.trial.specs.Trial.{Decision, undecided, false-clock, chosen}
 use Rattle.call_take.specs.Take.{decided}
 use Rattle.call_find.specs.Find.{findFrom, findCall}
+use Rattle.call_close.specs.Close.{closeProcess}
+use Rattle.call_close.specs.CloseCases as closing
+use Rattle.call_close.specs.CloseCases.{CloseCase, close-case}
 use Rattle.demands.specs.Ledger.{Ledger}
-use Rattle.demands.specs.Run.{Watch, Call, offers, takes, finds, offeredLedger, acceptedBy, after}
+use Rattle.demands.specs.Run.{Watch, Call, offers, takes, finds, closes, offeredLedger, acceptedBy, closedLedger, after}
 use Rattle.demands.specs.Watching.{Rule, Watching}
 use Rattle.demands.specs.statements.Balance.{number, isHeld, isState, isFalseClock}
 use Rattle.call_offer.specs.OfferCases.{OfferCase, offer-case, turned, repeats, accepted}
@@ -52,9 +54,9 @@ offer-said w W Y mask clock labels = go (offer-case w mask clock labels (W .byte
   where
     go : OfferCase w mask clock labels (W .bytes)
         → Said (after w (offers mask clock labels) W .ledger) (after w (offers mask clock labels) W .accepted) (after w (offers mask clock labels) W .answers)
-    go (turned n some small q) = rw q (plain (W .ledger) (W .accepted) (W .answers) Y (turnedBack n 0) refl refl (ne-eqb n 35 (omega arith)))
+    go (turned n some small other q) = rw q (plain (W .ledger) (W .accepted) (W .answers) Y (turnedBack n 0) refl refl other)
     go (repeats h7 h q) = rw q (plain (W .ledger) (W .accepted) (W .answers) Y again refl refl refl)
-    go (accepted h7 h8 h9 h31 h32 h33 q) =
+    go (accepted h7 h8 h9 h42 h31 h32 h33 q) =
         rw q (record { accepted-said = omega (arith, Y .accepted-said); taken-said = omega (arith, Y .taken-said); falsified-said = omega (arith, Y .falsified-said) })
 
 -- ---- find
@@ -83,6 +85,22 @@ find-said w line s window L es answers Y =
     go false false true = plain L es answers Y (turnedBack 11 0) refl refl refl
     go false false false = find-from-said line 0 (frontiers w window (keptCount s)) L es answers Y
 
+-- ---- close
+close-said : (w : ℕ) (W : Watch) → Said (W .ledger) (W .accepted) (W .answers) → (p : ℕ)
+    → Said (after w (closes p) W .ledger) (after w (closes p) W .accepted) (after w (closes p) W .answers)
+unfolding after closedLedger closeProcess number
+close-said w W Y p = go (close-case w p (W .bytes) (W .window))
+  where
+    go : CloseCase w p (W .bytes) (W .window)
+        → Said (after w (closes p) W .ledger) (after w (closes p) W .accepted) (after w (closes p) W .answers)
+    go (closing.turned n some small other q) =
+        rw q (plain (W .ledger) (W .accepted) (W .answers) Y (turnedBack n 0) refl refl other)
+    go (closing.accepted h41 h42 q) = rw q (record {
+      accepted-said = omega (arith, Y .accepted-said);
+      taken-said = omega (arith, Y .taken-said);
+      falsified-said = omega (arith, Y .falsified-said);
+    })
+
 -- ---- take
 decided-said : (w : ℕ) (s window : List ℕ) (fs : List Frontier) (L : Ledger) (es : List Event) (answers : List Answer)
     → Said L es answers → (d : Decision)
@@ -95,10 +113,10 @@ decided-said w s window fs L es answers Y (chosen i) = record { accepted-said = 
 
 module _ (w k : ℕ) (table : List Line) (start : Cut) (R : Rule w k table start) where
   take-said : (W : Watch) → WatchRight w k table start W → Said (W .ledger) (W .accepted) (W .answers)
-      → (more : ℕ) (scratch : List ℕ)
-      → Said (after w (takes more scratch) W .ledger) (after w (takes more scratch) W .accepted) (after w (takes more scratch) W .answers)
+      → (cap more : ℕ) (scratch : List ℕ)
+      → Said (after w (takes cap more scratch) W .ledger) (after w (takes cap more scratch) W .accepted) (after w (takes cap more scratch) W .answers)
   unfolding after
-  take-said W X Y more scratch = go (badLengths w k table start R L bytes lent X′ scratch) refl
+  take-said W X Y cap more scratch = go (badLengths w k table start R L bytes lent X′ cap scratch) refl
     where
       L : Ledger
       L = W .ledger
@@ -112,21 +130,22 @@ module _ (w k : ℕ) (table : List Line) (start : Cut) (R : Rule w k table start
       X′ : Watching w k table start L bytes lent
       X′ = lengthened w k table start R L bytes (W .window) X more
 
-      go : (b : Bool) → badLengths w k table start R L bytes lent X′ scratch ≡ b
-          → Said (after w (takes more scratch) W .ledger) (after w (takes more scratch) W .accepted) (after w (takes more scratch) W .answers)
-      go true h = let t = take-6 w k table start R L bytes lent X′ scratch h in rw (t .1, t .0) (plain L (W .accepted) (W .answers) Y (turnedBack 6 0) refl refl refl)
-      go false h = let t = take-else w k table start R L bytes lent X′ scratch h in
-          rw (t .1, t .0) (decided-said w bytes lent (X′ .kept) L (W .accepted) (W .answers) Y (decision w k table start R L bytes lent X′ scratch))
+      go : (b : Bool) → badLengths w k table start R L bytes lent X′ cap scratch ≡ b
+          → Said (after w (takes cap more scratch) W .ledger) (after w (takes cap more scratch) W .accepted) (after w (takes cap more scratch) W .answers)
+      go true h = let t = take-6 w k table start R L bytes lent X′ cap scratch h in rw (t .1, t .0) (plain L (W .accepted) (W .answers) Y (turnedBack 6 0) refl refl refl)
+      go false h = let t = take-else w k table start R L bytes lent X′ cap scratch h in
+          rw (t .1, t .0) (decided-said w bytes lent (X′ .kept) L (W .accepted) (W .answers) Y (decision w k table start R L bytes lent X′ cap scratch))
 
   pub after-said : (W : Watch) → WatchRight w k table start W → Said (W .ledger) (W .accepted) (W .answers) → (c : Call)
       → Said (after w c W .ledger) (after w c W .accepted) (after w c W .answers)
   after-said W X Y (offers mask clock labels) = offer-said w W Y mask clock labels
-  after-said W X Y (takes more scratch) = take-said W X Y more scratch
+  after-said W X Y (takes cap more scratch) = take-said W X Y cap more scratch
+  after-said W X Y (closes p) = close-said w W Y p
   after-said W X Y (finds line) =
       unfold after in find-said w line (W .bytes) (W .window) (W .ledger) (W .accepted) (W .answers) Y
 
 -- ---- open
 pub open-said : (lines : ℕ) (counts : List ℕ) (fs : List Frontier)
-    → Said (record { history = []; pending = []; falsified = [] }) [] (stateOf lines counts fs ∷ [])
+    → Said (record { history = []; pending = []; falsified = []; closed = 0 }) [] (stateOf lines counts fs ∷ [])
 unfolding stateOf number
 open-said lines counts fs = record { accepted-said = refl; taken-said = refl; falsified-said = refl }

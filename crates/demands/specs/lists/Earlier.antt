@@ -22,9 +22,9 @@ use Rattle.answers.specs.Answer.{Answer, turnedBack}
 use Rattle.trial.specs.Trial.{Decision, false-clock, validAmong}
 use Rattle.trial.specs.TrialLaws.{same-trial}
 use Rattle.call_open.specs.Open.{openCall}
-use Rattle.call_take.specs.Take.{Taken, decided, badLengths, takeWithin, takeCall}
+use Rattle.call_take.specs.Take.{Taken, decided, badLengths, takeWithin, allowedOf, takeCapped}
 use Rattle.demands.specs.Ledger.{Ledger}
-use Rattle.demands.specs.Run.{Call, offers, takes, finds, Watch, afterTake, after, run, opened, trialOf, takenLedger}
+use Rattle.demands.specs.Run.{Call, offers, takes, finds, closes, Watch, afterTake, after, run, opened, trialOf, takenLedger}
 use Rattle.demands.specs.Earlier.{joinedIn, earlierTrial, earlierTake, earlierAfter, earlierRun}
 use Rattle.demands.specs.Watching.{Rule, Watching}
 use Rattle.demands.specs.World.{Valid}
@@ -37,7 +37,7 @@ use Rattle.demands.specs.lists.SoundRun.{sound-run}
 
 -- ---- One take
 module _ (w k : ℕ) (table : List Line) (start : Cut) (R : Rule w k table start) (L : Ledger) (bytes lent : List ℕ)
-    (X : Watching w k table start L bytes lent) where
+    (X : Watching w k table start L bytes lent) (cap : ℕ) where
   causal : Causal (L .history)
   causal = history-causal k Valid (valid-rule k) (L .history) (X .right .by-rule)
 
@@ -53,16 +53,17 @@ module _ (w k : ℕ) (table : List Line) (start : Cut) (R : Rule w k table start
       → T (validAmong fs e)
   unfolding joinedIn
   passes e m r j =
-      let formed = X .right .formed e (subst (List·Memᴰ e) (says-pending w k table start R L bytes lent X) m) in
+      let pending = subst (List·Memᴰ e) (says-pending w k table start R L bytes lent X) m in
+      let formed = X .right .formed e pending in
       let ready = ready-in w k table start R L bytes lent X e formed .0 r in
       let known = joined-known 8 (L .history) e causal (joined-in w k table start R L bytes lent X e formed .0 j) in
-      rw read (valid-in w k table start R L bytes lent X e formed ready .1 known)
+      rw read (valid-in w k table start R L bytes lent X e formed (X .names-open e pending) ready .1 known)
 
-  same-decision : ((j : ℕ) → earlierTrial w bytes lent ≡ false-clock j → ⊥)
-      → earlierTrial w bytes lent ≡ trialOf w bytes lent
+  same-decision : ((j : ℕ) → earlierTrial w cap bytes lent ≡ false-clock j → ⊥)
+      → earlierTrial w cap bytes lent ≡ trialOf w cap bytes lent
   unfolding earlierTrial trialOf
   same-decision none =
-      same-trial w bytes (joinedIn w bytes) (validAmong fs) (roomOf w (length lent)) fs 0 false
+      same-trial w bytes (joinedIn w bytes) (validAmong fs) (allowedOf w cap lent) fs 0 false
       (pendingEvents w bytes) passes none
 
   never-bad : badState w (roomOf w (length lent)) bytes ≡ false
@@ -71,29 +72,29 @@ module _ (w k : ℕ) (table : List Line) (start : Cut) (R : Rule w k table start
       (room-iff w (length (X .kept)) (length lent) .1 (X .room))
 
   -- what it answers and leaves, and the ledger after it, are the same
-  same-take : (scratch : List ℕ) → (earlierTake w bytes lent scratch .answer ≡ turnedBack 35 0 → ⊥) → (W : Watch)
-      → afterTake w (earlierTake w bytes lent scratch) (earlierTrial w bytes lent) W
-      ≡ afterTake w (takeCall w bytes lent scratch) (trialOf w bytes lent) W
+  same-take : (scratch : List ℕ) → (earlierTake w cap bytes lent scratch .answer ≡ turnedBack 35 0 → ⊥) → (W : Watch)
+      → afterTake w (earlierTake w cap bytes lent scratch) (earlierTrial w cap bytes lent) W
+      ≡ afterTake w (takeCapped w cap bytes lent scratch) (trialOf w cap bytes lent) W
   unfolding takenLedger decided
   same-take scratch n W = go (badLengths w (length bytes) (length lent) (length scratch)) refl
     where
       go : (b : Bool) → badLengths w (length bytes) (length lent) (length scratch) ≡ b
-          → afterTake w (earlierTake w bytes lent scratch) (earlierTrial w bytes lent) W
-          ≡ afterTake w (takeCall w bytes lent scratch) (trialOf w bytes lent) W
+          → afterTake w (earlierTake w cap bytes lent scratch) (earlierTrial w cap bytes lent) W
+          ≡ afterTake w (takeCapped w cap bytes lent scratch) (trialOf w cap bytes lent) W
       go true h =
-          let one : earlierTake w bytes lent scratch
+          let one : earlierTake w cap bytes lent scratch
           ≡ record { answer = turnedBack 6 0; bytes = bytes; window = lent; scratch = scratch } =
-          unfold earlierTake in (unfold takeCall in (rw h)) in
-          let two : takeCall w bytes lent scratch
-          ≡ record { answer = turnedBack 6 0; bytes = bytes; window = lent; scratch = scratch } = unfold takeCall in
+          unfold earlierTake in (unfold takeCapped in (rw h)) in
+          let two : takeCapped w cap bytes lent scratch
+          ≡ record { answer = turnedBack 6 0; bytes = bytes; window = lent; scratch = scratch } = unfold takeCapped in
           (rw h) in
           rw (one, two) refl
       go false h =
-          let one : earlierTake w bytes lent scratch ≡ decided w bytes lent fs (earlierTrial w bytes lent) =
+          let one : earlierTake w cap bytes lent scratch ≡ decided w bytes lent fs (earlierTrial w cap bytes lent) =
           unfold earlierTake in (rw (h, never-bad)) in
-          let two : takeCall w bytes lent scratch ≡ decided w bytes lent fs (trialOf w bytes lent) = unfold takeCall in
+          let two : takeCapped w cap bytes lent scratch ≡ decided w bytes lent fs (trialOf w cap bytes lent) = unfold takeCapped in
           (unfold takeWithin in (unfold trialOf in (rw (h, never-bad)))) in
-          let same : earlierTrial w bytes lent ≡ trialOf w bytes lent =
+          let same : earlierTrial w cap bytes lent ≡ trialOf w cap bytes lent =
           same-decision (λ j q. n (ap (λ (r : Taken). r .answer) (one ∙ ap (decided w bytes lent fs) q))) in
           ap₂ (λ (r : Taken) (d : Decision). afterTake w r d W) (one ∙ ap (decided w bytes lent fs) same ∙ sym two) same
 
@@ -102,9 +103,10 @@ module _ (w k : ℕ) (table : List Line) (start : Cut) (R : Rule w k table start
 -- a call's answer is the newest, and those before it stay
 earlier-more : (w : ℕ) (c : Call) (W : Watch) → (a : Answer) × (earlierAfter w c W .answers ≡ a ∷ W .answers)
 unfolding earlierAfter after
-earlier-more w (takes zeros scratch) W = (_, refl)
+earlier-more w (takes cap zeros scratch) W = (_, refl)
 earlier-more w (offers mask clock labels) W = (_, refl)
 earlier-more w (finds line) W = (_, refl)
+earlier-more w (closes p) W = (_, refl)
 
 answers-stay : (w : ℕ) (cs : List Call) (W : Watch) (a : Answer) → List·Memᴰ a (W .answers)
     → List·Memᴰ a (earlierRun w cs W .answers)
@@ -118,9 +120,10 @@ module _ (w k : ℕ) (table : List Line) (start : Cut) (R : Rule w k table start
   unfolding earlierAfter after
   same-after (offers mask clock labels) W X n = refl
   same-after (finds line) W X n = refl
-  same-after (takes zeros scratch) W X n =
+  same-after (closes p) W X n = refl
+  same-after (takes cap zeros scratch) W X n =
       same-take w k table start R (W .ledger) (W .bytes) (W .window ++ replicate zeros 0)
-      (lengthened w k table start R (W .ledger) (W .bytes) (W .window) X zeros) scratch
+      (lengthened w k table start R (W .ledger) (W .bytes) (W .window) X zeros) cap scratch
       (λ q. n (List·Memᴰ·head (sym q))) W
 
   same-run : (cs : List Call) (W : Watch) → WatchRight w k table start W → AllPassed w cs

@@ -33,11 +33,11 @@ use Rattle.window.specs.Start.{startFrontier}
 use Rattle.frontiers.specs.Bytes.{frontierLength, countBytes, frontierBytes, frontierFrom, frontierAt, frontiers, framed, windowBytes, replaced}
 use Rattle.answers.specs.Answer.{Answer, turnedBack, state, held, again, stateOf}
 use Rattle.records.specs.Record.{keptCount, takenCounts, lastClocks, tableLines, pendingAt, pendingEvents, eventBytes, inserted, removed, clocksSet, counted, readyIn}
-use Rattle.refusals.specs.Refusals.{badRecordLength, badWindowLength, roomOf, badProcesses, badState, alreadyTaken, conflicts, conflicting}
+use Rattle.refusals.specs.Refusals.{badRecordLength, badWindowLength, roomOf, badProcesses, badState, namesClosed, alreadyTaken, conflicts, conflicting}
 use Rattle.call_open.specs.Open.{firstRecord, openTable, openRead, openCall}
 use Rattle.call_offer.specs.Offer.{placeAmong, offerCall}
 use Rattle.trial.specs.Trial.{validAmong, settingIn, tried}
-use Rattle.call_take.specs.Take.{decided, takeWithin, takeCall}
+use Rattle.call_take.specs.Take.{decided, takeWithin, takeCapped}
 use Rattle.demands.specs.Status.{insertAt, removeAt}
 use Rattle.demands.specs.Run.{Call, offers, takes, Watch, trialOf, stoppedAt, takenLedger, offeredLedger, after, run}
 use Rattle.demands.specs.EveryList.{atEnd}
@@ -58,7 +58,7 @@ keptCuts W = map (λ f. f .counts) (frontiers 2 (W .window) (keptCount (W .bytes
 
 -- An event is offered, and then there is a take.
 abbrev pub comes : Event → List Call
-comes e = offers (e .mask) (e .clock) (e .labels) ∷ takes 0 (replicate 200 0) ∷ []
+comes e = offers (e .mask) (e .clock) (e .labels) ∷ takes 1024 0 (replicate 200 0) ∷ []
 
 -- Proposition 0 held at both processes at once, in some order of the events or in all of them.
 abbrev pub someOrder : List ℕ
@@ -82,7 +82,7 @@ abbrev pub sent-a1 : Call
 sent-a1 = offers 1 (eight 1 0 0) (eight 1 0 0)
 
 abbrev pub a1-twice : List Call
-a1-twice = sent-a1 ∷ sent-a1 ∷ takes 0 (replicate 200 0) ∷ sent-a1 ∷ []
+a1-twice = sent-a1 ∷ sent-a1 ∷ takes 1024 0 (replicate 200 0) ∷ sent-a1 ∷ []
 
 -- An event of both; two that process 0 may have next, one of which knows of a message that process 1 left; and one that
 -- may come behind that, but has forgotten it.
@@ -181,7 +181,7 @@ frontiersAt21 =
     ∷ []
 
 pub starred : StarredExamples
-unfolding repeated sameEvent badStart restAt aWordAt eWordAt wordAt andThen expect expectDigit closeAt atomAt innerWith unaryWith binaryWith bodyWith formAt readRule lineCount constantWeight unaryWeight binaryWeight trueLines constantLines linesBefore linesAfter linesBetween linesAfterBoth linesAt startFrontier firstRecord openTable openRead openCall trailingZeros bit bytesOf valueOf number put involved count apply minus listOf allBelow anyBelow anyOf ready less lowered validAmong lowest keyOf keyBefore badMask badClock badLabels stays enabledAt advanced filtered slotCounts mergeInto merge slots sought withoutLast consider gathered judgedBy lay stepped keptAfter fits frontierLength countBytes frontierBytes frontierFrom frontierAt frontiers framed windowBytes replaced before same standing bisect gallop seek tableBytes goodLine goodFrom lineAt linesFrom propositionJudged notJudged andJudged eyJudged esJudged asJudged judgeLine judgeFrom takenCounts lastClocks tableLines pendingAt pendingEvents eventBytes inserted removed clocksSet counted badRecordLength badWindowLength roomOf badProcesses badState alreadyTaken conflicts conflicting placeAmong offerCall settingIn readyIn tried stateOf decided takeWithin takeCall after run trialOf stoppedAt takenLedger offeredLedger insertAt removeAt headed vectors sourceKeeps consistent redundant redundantWithin served taken clockOf event isNumber
+unfolding repeated sameEvent badStart restAt aWordAt eWordAt wordAt andThen expect expectDigit closeAt atomAt innerWith unaryWith binaryWith bodyWith formAt readRule lineCount constantWeight unaryWeight binaryWeight trueLines constantLines linesBefore linesAfter linesBetween linesAfterBoth linesAt startFrontier firstRecord openTable openRead openCall trailingZeros bit bytesOf valueOf number put involved count apply minus listOf allBelow anyBelow anyOf ready less lowered validAmong lowest keyOf keyBefore badMask badClock badLabels stays enabledAt advanced filtered slotCounts mergeInto merge slots sought withoutLast consider gathered judgedBy lay stepped keptAfter fits frontierLength countBytes frontierBytes frontierFrom frontierAt frontiers framed windowBytes replaced before same standing bisect gallop seek tableBytes goodLine goodFrom lineAt linesFrom propositionJudged notJudged andJudged eyJudged esJudged asJudged judgeLine judgeFrom takenCounts lastClocks tableLines pendingAt pendingEvents eventBytes inserted removed clocksSet counted badRecordLength badWindowLength roomOf badProcesses badState namesClosed alreadyTaken conflicts conflicting placeAmong offerCall settingIn readyIn tried stateOf decided takeWithin takeCapped after run trialOf stoppedAt takenLedger offeredLedger insertAt removeAt headed vectors sourceKeeps consistent redundant redundantWithin served taken clockOf event isNumber
 starred =
     let ab : watch 2 someOrder (a1 ++ a2 ++ b1) .window ≡ windowBytes 2 200 frontiersAt21 = refl in
     let ba : watch 2 someOrder (b1 ++ a1 ++ a2) .window ≡ windowBytes 2 200 frontiersAt21 = refl in

@@ -140,7 +140,7 @@ module _ (w k : ℕ) (f : Formula) (start : Cut) (Z : Watch) (S : Sound w k f st
   ts = Z .ledger .history
 
   abbrev frontier : Cut → Frontier
-  frontier = frontierOf (worldOf k table start) ts
+  frontier = frontierOf (worldOf k 0 table start) ts
 
   long : badRecordLength w (length (Z .bytes)) ≡ false
   unfolding badRecordLength
@@ -164,7 +164,7 @@ module _ (w k : ℕ) (f : Formula) (start : Cut) (Z : Watch) (S : Sound w k f st
 
   says : (line : ℕ) → line < length table → (C : Cut) → bit (frontier C .values) line ≡ lineOf k f start Z line C
   unfolding frontierOf
-  says line l C = bit-wordOf (length table) (λ j. lineTruth (modelOf (worldOf k table start) ts) table j C) line l
+  says line l C = bit-wordOf (length table) (λ j. lineTruth (modelOf (worldOf k 0 table start) ts) table j C) line l
 
   abbrev cuts : List Cut
   cuts = S .right .represents .cuts
@@ -189,6 +189,7 @@ module _ (w k : ℕ) (f : Formula) (start : Cut) (Z : Watch) (S : Sound w k f st
 
   looks : badWindowLength w (length (Z .window)) ≡ false → (line : ℕ) → line < length table
       → answer line ≡ findFrom line 0 (map frontier cuts)
+  unfolding frontierOf
   looks h line l =
       searched h line
       ∙ rw (lines, lt-leb (length table) line l) (ap (findFrom line 0) (read ∙ S .right .represents .are))
@@ -206,9 +207,10 @@ module _ (w k : ℕ) (f : Formula) (start : Cut) (Z : Watch) (S : Sound w k f st
       go false b = absurd (looks-somewhere h line (leb-false (length table) line b) n q)
 
   find-of : FindExact w k f start Z
+  unfolding frontierOf
   find-of = record {
     cuts = cuts;
-    cuts-are = represented-cuts k table start ts (S .rule .some-process) (S .right .kept) (S .right .represents);
+    cuts-are = represented-cuts k (Z .ledger .closed) ts table start (S .right .kept) (S .right .represents);
     in-window = read ∙ S .right .represents .are;
     wrong-length = λ line. ((λ q. is-wrong line q (badWindowLength w (length (Z .window))) refl), λ h. six h line);
     no-line = λ h line. ((λ q. too-far h line q (leb (length table) line) refl), eleven h line);

@@ -12,13 +12,16 @@ use Rattle.clocks.specs.SameEvent.{sameEvent}
 use Rattle.demands.specs.bytes.InsertLaws.{length-insertAt, length-removeAt, insertAt-removeAt}
 use Rattle.demands.specs.Watching.{Rule, Watching}
 use Rattle.records.specs.Record.{pendingAt, pendingEvents}
-use Rattle.refusals.specs.Refusals.{roomOf}
+use Rattle.call_take.specs.Take.{allowedOf}
 use Rattle.trial.specs.Trial.{validAmong}
 use Rattle.trial.specs.TrialLaws.{Outcome, none-decides, falsifies, chooses}
 use Rattle.demands.specs.calls.WatchingLaws.{says-event}
 use Rattle.call_offer.specs.Offer.{placeAmong, offeredEvent}
+use Rattle.call_close.specs.Close.{closeProcess}
+use Rattle.call_close.specs.CloseCases as closing
+use Rattle.call_close.specs.CloseCases.{CloseCase, close-case}
 use Rattle.demands.specs.Ledger.{occurrences, Ledger}
-use Rattle.demands.specs.Run.{Call, Watch, offeredLedger, acceptedBy, after, offers, takes, finds}
+use Rattle.demands.specs.Run.{Call, Watch, offeredLedger, acceptedBy, closedLedger, after, offers, takes, finds, closes}
 use Rattle.demands.specs.Status.{insertAt, removeAt}
 use Rattle.call_offer.specs.OfferCases.{OfferCase, offer-case, turned, repeats, accepted}
 use Rattle.demands.specs.calls.AfterCall.{WatchRight, noEvent, lengthened, badLengths, take-6, decision, take-else, trial, ledgerThen}
@@ -50,17 +53,17 @@ module _ (w k : ℕ) (table : List Line) (start : Cut) (R : Rule w k table start
   after-offer W X B mask clock labels = go (offer-case w mask clock labels (W .bytes))
     where
       go : OfferCase w mask clock labels (W .bytes) → WatchBalanced (after w (offers mask clock labels) W)
-      go (turned n some small q) = rw q B
+      go (turned n some small other q) = rw q B
       go (repeats h7 h q) = rw q B
-      go (accepted h7 h8 h9 h31 h32 h33 q) = rw q
+      go (accepted h7 h8 h9 h42 h31 h32 h33 q) = rw q
           (record {
             each = λ e. omega (arith, B .each e, occurs-insert e (placeAmong (offeredEvent mask clock labels) (pendingEvents w (W .bytes))) (offeredEvent mask clock labels) (W .ledger .pending));
             total = omega (arith, B .total, length-insertAt (placeAmong (offeredEvent mask clock labels) (pendingEvents w (W .bytes))) (offeredEvent mask clock labels) (W .ledger .pending));
           })
 
-  after-take : (W : Watch) → WatchRight w k table start W → WatchBalanced W → (more : ℕ) (scratch : List ℕ) → WatchBalanced (after w (takes more scratch) W)
+  after-take : (W : Watch) → WatchRight w k table start W → WatchBalanced W → (cap more : ℕ) (scratch : List ℕ) → WatchBalanced (after w (takes cap more scratch) W)
   unfolding after ledgerAfter occurrences
-  after-take W X B more scratch = go (badLengths w k table start R L bytes lent X′ scratch) refl
+  after-take W X B cap more scratch = go (badLengths w k table start R L bytes lent X′ cap scratch) refl
     where
       L : Ledger
       L = W .ledger
@@ -77,8 +80,8 @@ module _ (w k : ℕ) (table : List Line) (start : Cut) (R : Rule w k table start
       event-is : (j : ℕ) → j < length (L .pending) → pendingAt w bytes j ≡ getD (L .pending) j noEvent
       event-is j l = says-event w k table start R L bytes lent X′ j noEvent l
 
-      decide : Outcome w bytes (validAmong (X′ .kept)) (roomOf w (length lent)) (X′ .kept) 0 false (L .pending) noEvent
-          → ledgerThen w k table start R L bytes lent X′ scratch ≡ ledgerAfter w bytes L (decision w k table start R L bytes lent X′ scratch) → WatchBalanced (after w (takes more scratch) W)
+      decide : Outcome w bytes (validAmong (X′ .kept)) (allowedOf w cap lent) (X′ .kept) 0 false (L .pending) noEvent
+          → ledgerThen w k table start R L bytes lent X′ cap scratch ≡ ledgerAfter w bytes L (decision w k table start R L bytes lent X′ cap scratch) → WatchBalanced (after w (takes cap more scratch) W)
       decide (none-decides b q u o) t = rw (t, q) B
       decide (falsifies j l q r n x) t =
           let i : 0 + j ≡ j = omega arith in
@@ -95,11 +98,20 @@ module _ (w k : ℕ) (table : List Line) (start : Cut) (R : Rule w k table start
             total = omega (arith, B .total, length-removeAt j (L .pending) l);
           })
 
-      go : (b : Bool) → badLengths w k table start R L bytes lent X′ scratch ≡ b → WatchBalanced (after w (takes more scratch) W)
-      go true h = rw (take-6 w k table start R L bytes lent X′ scratch h .1) B
-      go false h = decide (trial w k table start R L bytes lent X′ scratch) (take-else w k table start R L bytes lent X′ scratch h .1)
+      go : (b : Bool) → badLengths w k table start R L bytes lent X′ cap scratch ≡ b → WatchBalanced (after w (takes cap more scratch) W)
+      go true h = rw (take-6 w k table start R L bytes lent X′ cap scratch h .1) B
+      go false h = decide (trial w k table start R L bytes lent X′ cap scratch) (take-else w k table start R L bytes lent X′ cap scratch h .1)
+
+  after-close : (W : Watch) → WatchBalanced W → (p : ℕ) → WatchBalanced (after w (closes p) W)
+  unfolding after closedLedger closeProcess
+  after-close W B p = go (close-case w p (W .bytes) (W .window))
+    where
+      go : CloseCase w p (W .bytes) (W .window) → WatchBalanced (after w (closes p) W)
+      go (closing.turned n some small other q) = rw q B
+      go (closing.accepted h41 h42 q) = rw q (record { each = B .each; total = B .total })
 
   pub after-balanced : (W : Watch) → WatchRight w k table start W → WatchBalanced W → (c : Call) → WatchBalanced (after w c W)
   after-balanced W X B (offers mask clock labels) = after-offer W X B mask clock labels
-  after-balanced W X B (takes more scratch) = after-take W X B more scratch
+  after-balanced W X B (takes cap more scratch) = after-take W X B cap more scratch
+  after-balanced W X B (closes p) = after-close W B p
   after-balanced W X B (finds line) = unfold after in record { each = B .each; total = B .total }

@@ -18,7 +18,7 @@ use Rattle.rules.specs.Line.{linesAt}
 use Rattle.demands.specs.Run.{Watch}
 use Rattle.demands.specs.Watching.{Watching}
 use Rattle.demands.specs.World.{Valid}
-use Rattle.demands.specs.EveryList.{lentWindow}
+use Rattle.demands.specs.EveryList.{lentWindow, NamesOpen}
 use Rattle.trial.specs.Trial.{validAmong}
 use Rattle.demands.specs.statements.Messages.{keptLent, MessagesExact, MessagesAreExact}
 use Rattle.demands.specs.calls.AfterCall.{lengthened}
@@ -28,10 +28,10 @@ use Rattle.demands.specs.lists.SoundRun.{Sound, every-list}
 
 -- the kept frontiers of a window lent longer are those of the history's kept cuts
 clock-exact-of : (w k : ℕ) (f : Formula) (start : Cut) (Z : Watch) → Sound w k f start Z → (more : ℕ) (e : Event)
-    → WellFormed k e → Ready e (taken (Z .ledger .history))
+    → WellFormed k e → NamesOpen Z e → Ready e (taken (Z .ledger .history))
     → T (validAmong (keptLent w Z more) e) ↔ Consistent (Z .ledger .history) (lowered e)
-clock-exact-of w k f start Z S more e formed r =
-    rw read (valid-in w k (linesAt 0 f) start (S .rule) (Z .ledger) (Z .bytes) (lentWindow Z more) X e formed r)
+clock-exact-of w k f start Z S more e formed o r =
+    rw read (valid-in w k (linesAt 0 f) start (S .rule) (Z .ledger) (Z .bytes) (lentWindow Z more) X e formed o r)
   where
     X : Watching w k (linesAt 0 f) start (Z .ledger) (Z .bytes) (lentWindow Z more)
     X = lengthened w k (linesAt 0 f) start (S .rule) (Z .ledger) (Z .bytes) (Z .window) (S .right) more

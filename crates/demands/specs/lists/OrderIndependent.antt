@@ -8,8 +8,9 @@ use mathlib.Core.List.{List}
 use lib.ListN.{length, take}
 use Rattle.pactl.specs.declared.Line.{Line}
 use Rattle.clocks.specs.declared.Event.{Event}
+use Rattle.codec.specs.BitLaws.{bits-equal}
 use Rattle.window_laws.specs.StoredCuts.{listOf-injective}
-use Rattle.window_laws.specs.Represents.{World, modelOf}
+use Rattle.window_laws.specs.Represents.{World, modelOf, Represents, Proper}
 use Rattle.frontiers.specs.Bytes.{frontiers, frontierLength, framed, windowBytes}
 use Rattle.window_laws.specs.Unique.{window-unique}
 use Rattle.rules.specs.Line.{linesAt}
@@ -38,7 +39,7 @@ use Rattle.demands.specs.lists.SoundRun.{Sound, sound-run}
 use Rattle.demands.specs.calls.StoredFits.{proper, causal-history, kept-shaped}
 use Rattle.demands.specs.World.{worldOf, statusOf, Valid}
 use Rattle.demands.specs.Verdict.{TrueVerdict}
-use Rattle.demands.specs.EveryList.{atEnd, EndsQuiet, SameAccepted}
+use Rattle.demands.specs.EveryList.{atEnd, EndsQuiet, SameAccepted, SameClosed}
 use lib.Seq.{take-append-seam}
 use Rattle.frontiers.specs.WindowLaws.{length-framed}
 use Rattle.demands.specs.statements.OrderIndependent.{Alike, OrderIndependent}
@@ -48,12 +49,12 @@ use Rattle.demands.specs.calls.ValidRule.{valid-rule}
 
 -- ---- Proof
 -- the texts of two formulas are the same only if the formulas are: what open reads is one
-module _ (w k : ℕ) (f : Formula) (start : Cut) (Y Z : Watch) (S : Sound w k f start Y) (T′ : Sound w k f start Z) (a : EndsQuiet Y) (b : EndsQuiet Z) (c : SameAccepted Y Z) where
+module _ (w k : ℕ) (f : Formula) (start : Cut) (Y Z : Watch) (S : Sound w k f start Y) (T′ : Sound w k f start Z) (a : EndsQuiet Y) (b : EndsQuiet Z) (c : SameAccepted Y Z) (s : SameClosed Y Z) where
   abbrev table : List Line
   table = linesAt 0 f
 
   abbrev world : World
-  world = worldOf k table start
+  world = worldOf k (Z .ledger .closed) table start
 
   y : Settled (Y .ledger)
   y = S .reporting .quiet (a .0) (a .1)
@@ -77,16 +78,23 @@ module _ (w k : ℕ) (f : Formula) (start : Cut) (Y Z : Watch) (S : Sound w k f 
   causal-z : Causal (Z .ledger .history)
   causal-z = causal-history w k table start (T′ .rule) (Z .ledger) (Z .bytes) (Z .window) (T′ .right)
 
+  closed-alike : Y .ledger .closed ≡ Z .ledger .closed
+  closed-alike = bits-equal (Y .ledger .closed) (Z .ledger .closed) s
+
   kept-alike : S .right .kept ≡ T′ .right .kept
   kept-alike = window-unique world Valid (Y .ledger .history) (Z .ledger .history)
-      (proper w k table start (S .rule) (Y .ledger) (Y .bytes) (Y .window) (S .right)) (proper w k table start (T′ .rule) (Z .ledger) (Z .bytes) (Z .window) (T′ .right))
-      same (S .right .kept) (T′ .right .kept) (S .right .represents) (T′ .right .represents)
+      (subst (λ (c : ℕ). Proper (worldOf k c table start) Valid (Y .ledger .history)) closed-alike
+      (proper w k table start (S .rule) (Y .ledger) (Y .bytes) (Y .window) (S .right)))
+      (proper w k table start (T′ .rule) (Z .ledger) (Z .bytes) (Z .window) (T′ .right))
+      same (S .right .kept) (T′ .right .kept)
+      (subst (λ (c : ℕ). Represents (worldOf k c table start) (Y .ledger .history) (S .right .kept)) closed-alike
+      (S .right .represents)) (T′ .right .represents)
 
   status-alike : statusOf k table (length (S .right .kept)) (Y .ledger) ≡ statusOf k table (length (T′ .right .kept)) (Z .ledger)
   status-alike =
       let t : taken (Y .ledger .history) ≡ taken (Z .ledger .history) = same-taken (Y .ledger .history) (Z .ledger .history) causal-y causal-z same in
       let l : lastClock (Y .ledger .history) ≡ lastClock (Z .ledger .history) = fun-ext (same-last (Y .ledger .history) (Z .ledger .history) causal-y causal-z same) in
-      rw (kept-alike, t, l, pending-alike)
+      rw (closed-alike, kept-alike, t, l, pending-alike)
 
   bytes-alike : Y .bytes ≡ Z .bytes
   bytes-alike = S .right .bytes-are ∙ ap (recordBytes w) status-alike ∙ sym (T′ .right .bytes-are)
@@ -142,7 +150,7 @@ module _ (w k : ℕ) (f : Formula) (start : Cut) (Y Z : Watch) (S : Sound w k f 
 
 -- ---- Theorem
 pub order-independent : OrderIndependent
-order-independent w pos text k labels eight s window a cs p s′ window′ a′ cs′ p′ q q′ same =
+order-independent w pos text k labels eight s window a cs p s′ window′ a′ cs′ p′ q q′ same shut =
     let x = sound-run w pos text k labels eight s window a cs p in
     let y = sound-run w pos text k labels eight s′ window′ a′ cs′ p′ in
     let r : formed (x .1) (x .0) ≡ formed (y .1) (y .0) = sym (x .2) ∙ y .2 in
@@ -152,5 +160,5 @@ order-independent w pos text k labels eight s window a cs p s′ window′ a′ 
       x .2,
       reader-accepts text k (x .1) (x .0) .0 (x .2) .0,
       alike w k (x .0) (at labels) (atEnd w text k labels s window cs) (atEnd w text k labels s′ window′ cs′) (x .3)
-          (subst (λ (g : Formula). Sound w k g (at labels) (atEnd w text k labels s′ window′ cs′)) (sym e) (y .3)) q q′ same,
+          (subst (λ (g : Formula). Sound w k g (at labels) (atEnd w text k labels s′ window′ cs′)) (sym e) (y .3)) q q′ same shut,
     )

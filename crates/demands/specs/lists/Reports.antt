@@ -24,17 +24,20 @@ use Rattle.clocks.specs.Counts.{listOf}
 use Rattle.clocks.specs.Valid.{History}
 use Rattle.demands.specs.Watching.{Rule, Watching}
 use Rattle.records.specs.Record.{pendingCount, pendingAt, pendingEvents, lineTotal, keptCount}
-use Rattle.answers.specs.Answer.{Answer, turnedBack, state, nothingReady, held, again, found, absent, stateOf}
+use Rattle.answers.specs.Answer.{Answer, turnedBack, state, nothingReady, held, again, found, absent, processClosed, stateOf}
 use Rattle.call_offer.specs.Offer.{offeredEvent, placeAmong}
 use Rattle.demands.specs.Ledger.{Ledger, Settled}
-use Rattle.demands.specs.Run.{Watch, offeredLedger, after, offers, Call, takes, finds}
+use Rattle.demands.specs.Run.{Watch, offeredLedger, closedLedger, after, offers, Call, takes, finds, closes}
 use Rattle.call_offer.specs.OfferCases.{OfferCase, offer-case, turned, repeats, accepted}
+use Rattle.call_close.specs.Close.{closeProcess}
+use Rattle.call_close.specs.CloseCases as closing
+use Rattle.call_close.specs.CloseCases.{CloseCase, close-case}
 use Rattle.demands.specs.lists.Verdicts.{verdict-later, state-true}
 use Rattle.refusals.specs.Refusals.{roomOf, badRecordLength, badWindowLength, badState}
 use Rattle.trial.specs.TrialLaws.{Outcome, none-decides, falsifies, chooses}
 use Rattle.demands.specs.calls.AfterCall.{WatchRight, noEvent, lengthened, decision, badLengths, take-6, take-else, trial, is-ready, is-valid}
 use Rattle.trial.specs.Trial.{validAmong, Decision}
-use Rattle.call_take.specs.Take.{decided}
+use Rattle.call_take.specs.Take.{allowedOf, decided}
 use Rattle.demands.specs.calls.WatchingLaws.{ready-in, says-lines, says-event, says-taken, setting-in}
 use Rattle.demands.specs.Status.{insertAt, removeAt}
 use Rattle.demands.specs.calls.TakeLaws.{stepped-right}
@@ -74,10 +77,10 @@ module _ (w k : ℕ) (f : Formula) (start : Cut) (R : Rule w k (linesAt 0 f) sta
   offer-reporting W Y mask clock labels = go (offer-case w mask clock labels (W .bytes))
     where
       go : OfferCase w mask clock labels (W .bytes) → Reporting (after w (offers mask clock labels) W .ledger) (after w (offers mask clock labels) W .answers)
-      go (turned n some small q) = rw q (turned-plain (W .ledger) (W .ledger) (W .answers) Y refl n 0)
+      go (turned n some small other q) = rw q (turned-plain (W .ledger) (W .ledger) (W .answers) Y refl n 0)
       go (repeats h7 h q) = rw q (plain-answer (W .ledger) (W .ledger) (W .answers) Y refl again (λ x. let z : _≡_ {A = ℕ} 0 1 = cc in omega arith) (λ c t m x. let z : _≡_ {A = ℕ} 0 1 = cc in omega arith))
-      go (accepted h7 h8 h9 h31 h32 h33 q) = rw q
-          (plain-answer (W .ledger) (record { history = W .ledger .history; pending = insertAt (placeAmong (offeredEvent mask clock labels) (pendingEvents w (W .bytes))) (offeredEvent mask clock labels) (W .ledger .pending); falsified = W .ledger .falsified })
+      go (accepted h7 h8 h9 h42 h31 h32 h33 q) = rw q
+          (plain-answer (W .ledger) (record { history = W .ledger .history; pending = insertAt (placeAmong (offeredEvent mask clock labels) (pendingEvents w (W .bytes))) (offeredEvent mask clock labels) (W .ledger .pending); falsified = W .ledger .falsified; closed = W .ledger .closed })
           (W .answers) Y refl (held (pendingCount (W .bytes) + 1))
           (λ x. let z : _≡_ {A = ℕ} 0 1 = cc in omega arith) (λ c t m x. let z : _≡_ {A = ℕ} 0 1 = cc in omega arith))
 
@@ -100,8 +103,21 @@ module _ (w k : ℕ) (f : Formula) (start : Cut) (R : Rule w k (linesAt 0 f) sta
       go false false true = turned-plain L L as′ Y refl 11 0
       go false false false = find-plain line 0 (frontiers w window (keptCount s)) L as′ Y
 
+  -- ---- close
+  close-reporting : (W : Watch) → Reporting (W .ledger) (W .answers) → (p : ℕ)
+      → Reporting (after w (closes p) W .ledger) (after w (closes p) W .answers)
+  unfolding after closedLedger closeProcess
+  close-reporting W Y p = go (close-case w p (W .bytes) (W .window))
+    where
+      go : CloseCase w p (W .bytes) (W .window)
+          → Reporting (after w (closes p) W .ledger) (after w (closes p) W .answers)
+      go (closing.turned n some small other q) = rw q (turned-plain (W .ledger) (W .ledger) (W .answers) Y refl n 0)
+      go (closing.accepted h41 h42 q) = rw q
+          (plain-answer (W .ledger) _ (W .answers) Y refl (processClosed _)
+          (λ x. let z : _≡_ {A = ℕ} 0 1 = cc in omega arith) (λ c t m x. let z : _≡_ {A = ℕ} 0 1 = cc in omega arith))
+
   -- ---- take
-  module _ (W : Watch) (X : WatchRight w k table start W) (Y : Reporting (W .ledger) (W .answers)) (more : ℕ) (scratch : List ℕ) where
+  module _ (W : Watch) (X : WatchRight w k table start W) (Y : Reporting (W .ledger) (W .answers)) (cap more : ℕ) (scratch : List ℕ) where
     abbrev L : Ledger
     L = W .ledger
 
@@ -118,28 +134,28 @@ module _ (w k : ℕ) (f : Formula) (start : Cut) (R : Rule w k (linesAt 0 f) sta
     After d = Reporting (ledgerAfter w bytes L d) (decided w bytes lent (X′ .kept) d .answer ∷ W .answers)
 
     taken-reporting : (j : ℕ) (l : j < length (L .pending)) → Ready (getD (L .pending) j noEvent) (taken (L .history)) → Valid (L .history) (getD (L .pending) j noEvent)
-        → Reporting (record { history = getD (L .pending) j noEvent ∷ L .history; pending = removeAt j (L .pending); falsified = L .falsified })
-        (stateOf (length table) (listOf 8 (apply (getD (L .pending) j noEvent) (taken (L .history)))) (stepped (settingOf (worldOf k table start) (L .history) (getD (L .pending) j noEvent)) (X′ .kept)) ∷ W .answers)
+        → Reporting (record { history = getD (L .pending) j noEvent ∷ L .history; pending = removeAt j (L .pending); falsified = L .falsified; closed = L .closed })
+        (stateOf (length table) (listOf 8 (apply (getD (L .pending) j noEvent) (taken (L .history)))) (stepped (settingOf (worldOf k (L .closed) table start) (L .history) (getD (L .pending) j noEvent)) (X′ .kept)) ∷ W .answers)
     unfolding stateOf taken apply
     taken-reporting j l r v =
         let e : Event = getD (L .pending) j noEvent in
-        let gs : List Frontier = stepped (settingOf (worldOf k table start) (L .history) e) (X′ .kept) in
+        let gs : List Frontier = stepped (settingOf (worldOf k (L .closed) table start) (L .history) e) (X′ .kept) in
         let h : History k Valid (e ∷ L .history) = (record { formed = X .right .formed e (place-member (L .pending) j noEvent l); ready = r; true-clock = v }, X .right .by-rule) in
         record {
           truthful = λ c t kept i. ⊎-elim (λ x. here e gs c t kept h (stepped-right w k table start R L bytes lent X′ j noEvent l r v) x) (λ m. verdict-later k f start e (L .history) h c t (Y .truthful c t kept m)) (List·Memᴰ·cases-cons i);
           quiet = λ prior x. let z : _≡_ {A = ℕ} 0 1 = cc in absurd (omega arith);
         }
       where
-        here : (e : Event) (gs : List Frontier) (c : List ℕ) (t : Bool) (kept : ℕ) → History k Valid (e ∷ L .history) → Represents (worldOf k table start) (e ∷ L .history) gs
+        here : (e : Event) (gs : List Frontier) (c : List ℕ) (t : Bool) (kept : ℕ) → History k Valid (e ∷ L .history) → Represents (worldOf k (L .closed) table start) (e ∷ L .history) gs
             → state c t kept ≡ state (listOf 8 (apply e (taken (L .history)))) (bit (getD (map (λ g. g .values) gs) (length gs - 1) 0) (length table - 1)) (length gs)
             → TrueVerdict k f start (e ∷ L .history) c t
         here e gs c t kept h r x =
             let a : c ≡ listOf 8 (taken (e ∷ L .history)) = cc in
             let b : t ≡ bit (getD (map (λ g. g .values) gs) (length gs - 1) 0) (length table - 1) = cc in
-            rw b (state-true k f start w R (e ∷ L .history) h gs r c a)
+            rw b (state-true k f start w (L .closed) R (e ∷ L .history) h gs r c a)
 
-    decided-reporting : Outcome w bytes (validAmong (X′ .kept)) (roomOf w (length lent)) (X′ .kept) 0 false
-        (L .pending) noEvent → After (decision w k table start R L bytes lent X′ scratch)
+    decided-reporting : Outcome w bytes (validAmong (X′ .kept)) (allowedOf w cap lent) (X′ .kept) 0 false
+        (L .pending) noEvent → After (decision w k table start R L bytes lent X′ cap scratch)
     unfolding ledgerAfter decided
     decided-reporting (none-decides false q u o) = rw q
         (record {
@@ -147,31 +163,32 @@ module _ (w k : ℕ) (f : Formula) (start : Cut) (R : Rule w k (linesAt 0 f) sta
           quiet = λ prior x e m r. o .1 (inr (e, m, ready-in w k table start R L bytes lent X′ e (X .right .formed e m) .1 r));
         })
     decided-reporting (none-decides true q u o) = rw q (turned-plain L L (W .answers) Y refl 36 0)
-    decided-reporting (falsifies j l q r n x) = rw q (turned-plain L (record { history = L .history; pending = removeAt (0 + j) (L .pending); falsified = pendingAt w bytes (0 + j) ∷ L .falsified }) (W .answers) Y refl 35 0)
+    decided-reporting (falsifies j l q r n x) = rw q (turned-plain L (record { history = L .history; pending = removeAt (0 + j) (L .pending); falsified = pendingAt w bytes (0 + j) ∷ L .falsified; closed = L .closed }) (W .answers) Y refl 35 0)
     decided-reporting (chooses j l q r v g x) =
         let i : 0 + j ≡ j = omega arith in
         rw (q, i, says-event w k table start R L bytes lent X′ j noEvent l, setting-in w k table start R L bytes lent X′ (getD (L .pending) j noEvent), says-lines w k table start R L bytes lent X′, says-taken w k table start R L bytes lent X′)
-        (taken-reporting j l (is-ready w k table start R L bytes lent X′ scratch j l r)
-        (is-valid w k table start R L bytes lent X′ scratch j l r v))
+        (taken-reporting j l (is-ready w k table start R L bytes lent X′ cap scratch j l r)
+        (is-valid w k table start R L bytes lent X′ cap scratch j l r v))
 
   -- ---- Theorem
   pub after-reporting : (W : Watch) → WatchRight w k table start W → Reporting (W .ledger) (W .answers) → (c : Call) → Reporting (after w c W .ledger) (after w c W .answers)
   unfolding after ledgerAfter
   after-reporting W X Y (offers mask clock labels) = offer-reporting W Y mask clock labels
   after-reporting W X Y (finds line) = find-reporting line (W .bytes) (W .window) (W .ledger) (W .answers) Y
-  after-reporting W X Y (takes more scratch) = go (badLengths w k table start R (W .ledger) (W .bytes) (W .window ++ replicate more 0) X″ scratch) refl
+  after-reporting W X Y (closes p) = close-reporting W Y p
+  after-reporting W X Y (takes cap more scratch) = go (badLengths w k table start R (W .ledger) (W .bytes) (W .window ++ replicate more 0) X″ cap scratch) refl
     where
       X″ : Watching w k table start (W .ledger) (W .bytes) (W .window ++ replicate more 0)
       X″ = lengthened w k table start R (W .ledger) (W .bytes) (W .window) X more
 
-      go : (b : Bool) → badLengths w k table start R (W .ledger) (W .bytes) (W .window ++ replicate more 0) X″ scratch ≡ b → Reporting (after w (takes more scratch) W .ledger) (after w (takes more scratch) W .answers)
-      go true h = let t = take-6 w k table start R (W .ledger) (W .bytes) (W .window ++ replicate more 0) X″ scratch h in
+      go : (b : Bool) → badLengths w k table start R (W .ledger) (W .bytes) (W .window ++ replicate more 0) X″ cap scratch ≡ b → Reporting (after w (takes cap more scratch) W .ledger) (after w (takes cap more scratch) W .answers)
+      go true h = let t = take-6 w k table start R (W .ledger) (W .bytes) (W .window ++ replicate more 0) X″ cap scratch h in
           rw (t .1, t .0) (turned-plain (W .ledger) (W .ledger) (W .answers) Y refl 6 0)
-      go false h = let t = take-else w k table start R (W .ledger) (W .bytes) (W .window ++ replicate more 0) X″ scratch h in
-          rw (t .1, t .0) (decided-reporting W X Y more scratch (trial w k table start R (W .ledger) (W .bytes) (W .window ++ replicate more 0) X″ scratch))
+      go false h = let t = take-else w k table start R (W .ledger) (W .bytes) (W .window ++ replicate more 0) X″ cap scratch h in
+          rw (t .1, t .0) (decided-reporting W X Y cap more scratch (trial w k table start R (W .ledger) (W .bytes) (W .window ++ replicate more 0) X″ cap scratch))
 
   -- ... and what open reports is true
-  pub open-reporting : (fs : List Frontier) → Represents (worldOf k table start) [] fs → Reporting (record { history = []; pending = []; falsified = [] }) (stateOf (length table) (replicate 8 0) fs ∷ [])
+  pub open-reporting : (fs : List Frontier) → Represents (worldOf k 0 table start) [] fs → Reporting (record { history = []; pending = []; falsified = []; closed = 0 }) (stateOf (length table) (replicate 8 0) fs ∷ [])
   unfolding stateOf listOf taken
   open-reporting fs r = record {
     truthful = λ c t kept i. here c t kept (List·Memᴰ·eq-of-singleton i);
@@ -182,4 +199,4 @@ module _ (w k : ℕ) (f : Formula) (start : Cut) (R : Rule w k (linesAt 0 f) sta
       here c t kept x =
           let a : c ≡ replicate 8 0 = cc in
           let b : t ≡ bit (getD (map (λ g. g .values) fs) (length fs - 1) 0) (length table - 1) = cc in
-          rw b (state-true k f start w R [] tt fs r c a)
+          rw b (state-true k f start w 0 R [] tt fs r c a)

@@ -22,9 +22,8 @@ use Rattle.window.specs.SteppedCount.{stepped-many}
 use Rattle.frontiers.specs.ListLaws.{place-member, member-place}
 use Rattle.demands.specs.Watching.{Rule, Watching}
 use Rattle.trial.specs.Trial.{validAmong, settingIn, Decision, undecided, false-clock, chosen}
-use Rattle.call_take.specs.Take.{takeCall, Taken, decided}
+use Rattle.call_take.specs.Take.{allowedOf, takeCapped, Taken, decided}
 use Rattle.records.specs.Record.{readyIn}
-use Rattle.refusals.specs.Refusals.{roomOf}
 use Rattle.answers.specs.Answer.{turnedBack, state, nothingReady, stateOf}
 use Rattle.trial.specs.TrialLaws.{Indecisive, Outcome, none-decides, falsifies, chooses}
 use Rattle.demands.specs.calls.WatchingLaws.{ready-in, valid-in, setting-in, says-lines, says-event, says-taken}
@@ -44,60 +43,60 @@ use Rattle.demands.specs.calls.TakeLedger.{ledgerAfter}
 use Rattle.demands.specs.Status.{removeAt}
 
 -- ---- A take stops at one event
-module _ (k room : ℕ) (L : Ledger) where
-  pub stops-pending : (e : Event) → StopsAt k room L e → List·Memᴰ e (L .pending)
+module _ (k allowed : ℕ) (L : Ledger) where
+  pub stops-pending : (e : Event) → StopsAt k allowed L e → List·Memᴰ e (L .pending)
   stops-pending e s = rw (s .pending-are) (Memᴰ·append-right (s .before) (List·Memᴰ·head refl))
 
   -- an event that is not passed over: there a take stops, if it comes so far
   abbrev pub Stopping : Event → Type 0
-  Stopping e = PassedOver k room (L .history) e → ⊥
+  Stopping e = PassedOver k (L .closed) allowed (L .history) e → ⊥
 
-  pub one-stop : (e f : Event) (s : StopsAt k room L e) → Stopping e → (t : StopsAt k room L f) → Stopping f
+  pub one-stop : (e f : Event) (s : StopsAt k allowed L e) → Stopping e → (t : StopsAt k allowed L f) → Stopping f
       → (s .before ≡ t .before) × (e ≡ f) × (s .behind ≡ t .behind)
   one-stop e f s a t b = ⊎-elim (λ q. q) (⊎-elim (λ m. absurd (a (t .passed e m))) (λ m. absurd (b (s .passed f m))))
       (which-first (s .before) (s .behind) (t .before) (t .behind) e f (sym (s .pending-are) ∙ t .pending-are))
 
-  pub false-stopping : (x : FalseClock k room L) → Stopping (x .0)
+  pub false-stopping : (x : FalseClock k allowed L) → Stopping (x .0)
   false-stopping x p = x .2 (p (x .1 .ready) .0)
 
-  module _ (f : Formula) (start : Cut) (counts : List ℕ) (truth : Bool) (kept : ℕ) (x : Takes k room f start L counts truth kept) where
+  module _ (f : Formula) (start : Cut) (counts : List ℕ) (truth : Bool) (kept : ℕ) (x : Takes k allowed f start L counts truth kept) where
     pub takes-stopping : Stopping (x .event)
     takes-stopping p =
         let n = p (x .stops .ready) .1 in
-        omega (arith, n .2, x .fits, number-unique k (x .event ∷ L .history) (n .0) kept (n .1) (x .kept-are))
+        omega (arith, n .2, x .fits, number-unique k (L .closed) (x .event ∷ L .history) (n .0) kept (n .1) (x .kept-are))
 
-    pub not-both : FalseClock k room L → ⊥
+    pub not-both : FalseClock k allowed L → ⊥
     not-both y =
         y .2 (rw (one-stop (y .0) (x .event) (y .1) (false-stopping y) (x .stops) takes-stopping .1) (x .true-clock))
 
 -- ---- What the trial comes to
 module _ (w k : ℕ) (f : Formula) (start : Cut) (R : Rule w k (linesAt 0 f) start) (L : Ledger) (bytes lent : List ℕ) (X : Watching w k (linesAt 0 f) start L bytes lent)
-    (scratch : List ℕ) (h : badLengths w k (linesAt 0 f) start R L bytes lent X scratch ≡ false) where
+    (cap : ℕ) (scratch : List ℕ) (h : badLengths w k (linesAt 0 f) start R L bytes lent X cap scratch ≡ false) where
   abbrev pub table : List Line
   table = linesAt 0 f
 
-  abbrev pub room : ℕ
-  room = roomOf w (length lent)
+  abbrev pub allowed : ℕ
+  allowed = allowedOf w cap lent
 
   -- the frontiers with one more event
   abbrev keptWith : Event → List Frontier
-  keptWith e = stepped (settingOf (worldOf k table start) (L .history) e) (X .kept)
+  keptWith e = stepped (settingOf (worldOf k (L .closed) table start) (L .history) e) (X .kept)
 
   abbrev pendingEvent : ℕ → Event
   pendingEvent j = getD (L .pending) j noEvent
 
   -- the ledger after it
   abbrev pub then : Ledger
-  then = ledgerThen w k table start R L bytes lent X scratch
+  then = ledgerThen w k table start R L bytes lent X cap scratch
 
   pub data Answered : Type 0 where
-    nothing : takeCall w bytes lent scratch .answer ≡ nothingReady → Settled L → Answered
-    full : takeCall w bytes lent scratch .answer ≡ turnedBack 36 0 → NoRoom k room L → Answered
-    falsified : takeCall w bytes lent scratch .answer ≡ turnedBack 35 0 → (x : FalseClock k room L)
+    nothing : takeCapped w cap bytes lent scratch .answer ≡ nothingReady → Settled L → Answered
+    full : takeCapped w cap bytes lent scratch .answer ≡ turnedBack 36 0 → NoRoom k allowed L → Answered
+    falsified : takeCapped w cap bytes lent scratch .answer ≡ turnedBack 35 0 → (x : FalseClock k allowed L)
         → then ≡ falsifiedLedger L (x .0) (x .1 .before ++ x .1 .behind) → Answered
     took : (counts : List ℕ) (truth : Bool) (kept : ℕ)
-        → takeCall w bytes lent scratch .answer ≡ state counts truth kept
-        → (x : Takes k room f start L counts truth kept)
+        → takeCapped w cap bytes lent scratch .answer ≡ state counts truth kept
+        → (x : Takes k allowed f start L counts truth kept)
         → then ≡ chosenLedger L (x .event) (x .stops .before ++ x .stops .behind) → Answered
 
   ready-at : (j : ℕ) → j < length (L .pending)
@@ -108,70 +107,72 @@ module _ (w k : ℕ) (f : Formula) (start : Cut) (R : Rule w k (linesAt 0 f) sta
   valid-at : (j : ℕ) → j < length (L .pending) → Ready (pendingEvent j) (taken (L .history))
       → T (validAmong (X .kept) (pendingEvent j)) ↔ Valid (L .history) (pendingEvent j)
   valid-at j l =
-      valid-in w k table start R L bytes lent X (pendingEvent j) (X .right .formed (pendingEvent j) (place-member (L .pending) j noEvent l))
+      let m = place-member (L .pending) j noEvent l in
+      let e = pendingEvent j in
+      valid-in w k table start R L bytes lent X e (X .right .formed e m) (X .names-open e m)
 
   -- of a ready pending event with a true clock
   module _ (j : ℕ) (l : j < length (L .pending)) (r : Ready (pendingEvent j) (taken (L .history))) (v : Valid (L .history) (pendingEvent j)) where
-    kept-right : Represents (worldOf k table start) (pendingEvent j ∷ L .history) (keptWith (pendingEvent j))
+    kept-right : Represents (worldOf k (L .closed) table start) (pendingEvent j ∷ L .history) (keptWith (pendingEvent j))
     kept-right = stepped-right w k table start R L bytes lent X j noEvent l r v
 
-    kept-number : KeptNumber k (pendingEvent j ∷ L .history) (length (keptWith (pendingEvent j)))
+    kept-number : KeptNumber k (L .closed) (pendingEvent j ∷ L .history) (length (keptWith (pendingEvent j)))
     kept-number =
-        represented-number k table start (pendingEvent j ∷ L .history) (R .some-process) (keptWith (pendingEvent j)) kept-right
+        represented-number k (L .closed) (pendingEvent j ∷ L .history) table start (keptWith (pendingEvent j)) kept-right
 
     later : History k Valid (pendingEvent j ∷ L .history)
     later =
         (record { formed = X .right .formed (pendingEvent j) (place-member (L .pending) j noEvent l); ready = r; true-clock = v }, X .right .by-rule)
 
     -- some cut is kept then, so it fits exactly if there is room
-    fits-is : fits (settingIn w bytes (pendingEvent j)) room (X .kept) ≡ leb (length (keptWith (pendingEvent j))) room
+    fits-is : fits (settingIn w bytes (pendingEvent j)) allowed (X .kept) ≡ leb (length (keptWith (pendingEvent j))) allowed
     unfolding fits
     fits-is =
-        let s : Setting = settingOf (worldOf k table start) (L .history) (pendingEvent j) in
+        let s : Setting = settingOf (worldOf k (L .closed) table start) (L .history) (pendingEvent j) in
         rw (setting-in w k table start R L bytes lent X (pendingEvent j), ← stepped-many s (X .kept), lt-ltb 0 (length (keptWith (pendingEvent j))) (stepped-some w k table start R L bytes lent X j noEvent l r v))
 
-  over : (j : ℕ) → j < length (L .pending) → Indecisive w bytes (validAmong (X .kept)) room (X .kept) (pendingEvent j)
-      → PassedOver k room (L .history) (pendingEvent j)
+  over : (j : ℕ) → j < length (L .pending) → Indecisive w bytes (validAmong (X .kept)) allowed (X .kept) (pendingEvent j)
+      → PassedOver k (L .closed) allowed (L .history) (pendingEvent j)
   over j l d r =
       let x = d (ready-at j l .1 r) in
       let v : Valid (L .history) (pendingEvent j) = valid-at j l r .0 (x .0) in
-      (v, (length (keptWith (pendingEvent j)), kept-number j l r v, leb-false (length (keptWith (pendingEvent j))) room (sym (fits-is j l r v) ∙ x .1)))
+      (v, (length (keptWith (pendingEvent j)), kept-number j l r v, leb-false (length (keptWith (pendingEvent j))) allowed (sym (fits-is j l r v) ∙ x .1)))
 
-  over-member : (e : Event) → List·Memᴰ e (L .pending) → Indecisive w bytes (validAmong (X .kept)) room (X .kept) e
-      → PassedOver k room (L .history) e
+  over-member : (e : Event) → List·Memᴰ e (L .pending) → Indecisive w bytes (validAmong (X .kept)) allowed (X .kept) e
+      → PassedOver k (L .closed) allowed (L .history) e
   over-member e m d = go (member-place (L .pending) e noEvent m)
     where
-      go : (j : ℕ) × (j < length (L .pending)) × (pendingEvent j ≡ e) → PassedOver k room (L .history) e
+      go : (j : ℕ) × (j < length (L .pending)) × (pendingEvent j ≡ e) → PassedOver k (L .closed) allowed (L .history) e
       go p =
-          subst (PassedOver k room (L .history)) (p .2)
-          (over (p .0) (p .1) (subst⁻¹ (Indecisive w bytes (validAmong (X .kept)) room (X .kept)) (p .2) d))
+          subst (PassedOver k (L .closed) allowed (L .history)) (p .2)
+          (over (p .0) (p .1) (subst⁻¹ (Indecisive w bytes (validAmong (X .kept)) allowed (X .kept)) (p .2) d))
 
   stops : (j : ℕ) (l : j < length (L .pending)) → Ready (pendingEvent j) (taken (L .history))
-      → ((i : ℕ) → i < j → Indecisive w bytes (validAmong (X .kept)) room (X .kept) (pendingEvent i))
-      → StopsAt k room L (pendingEvent j)
+      → ((i : ℕ) → i < j → Indecisive w bytes (validAmong (X .kept)) allowed (X .kept) (pendingEvent i))
+      → StopsAt k allowed L (pendingEvent j)
   stops j l r u = record {
     before = take j (L .pending);
     behind = drop (suc j) (L .pending);
     pending-are = split-at (L .pending) j noEvent l;
     ready = r;
-    passed = λ e m. let p = member-take (L .pending) j noEvent e m in subst (PassedOver k room (L .history)) (p .3) (over (p .0) (p .2) (u (p .0) (p .1)));
+    passed = λ e m. let p = member-take (L .pending) j noEvent e m in subst (PassedOver k (L .closed) allowed (L .history)) (p .3) (over (p .0) (p .2) (u (p .0) (p .1)));
   }
 
   pub answered : Answered
   unfolding decided stateOf taken apply ledgerAfter removeAt stops
-  answered = go (trial w k table start R L bytes lent X scratch)
+  answered = go (trial w k table start R L bytes lent X cap scratch)
     where
-      t : takeCall w bytes lent scratch ≡ decided w bytes lent (X .kept) (decision w k table start R L bytes lent X scratch)
-      t = take-else w k table start R L bytes lent X scratch h .0
+      t : takeCapped w cap bytes lent scratch ≡ decided w bytes lent (X .kept) (decision w k table start R L bytes lent X cap scratch)
+      t = take-else w k table start R L bytes lent X cap scratch h .0
 
-      answers : (d : Decision) → decision w k table start R L bytes lent X scratch ≡ d
-          → takeCall w bytes lent scratch .answer ≡ decided w bytes lent (X .kept) d .answer
+      answers : (d : Decision) → decision w k table start R L bytes lent X cap scratch ≡ d
+          → takeCapped w cap bytes lent scratch .answer ≡ decided w bytes lent (X .kept) d .answer
       answers d q = ap (λ (x : Taken). x .answer) (t ∙ ap (decided w bytes lent (X .kept)) q)
 
-      ledgers : (d : Decision) → decision w k table start R L bytes lent X scratch ≡ d → then ≡ ledgerAfter w bytes L d
-      ledgers d q = take-else w k table start R L bytes lent X scratch h .1 ∙ ap (ledgerAfter w bytes L) q
+      ledgers : (d : Decision) → decision w k table start R L bytes lent X cap scratch ≡ d → then ≡ ledgerAfter w bytes L d
+      ledgers d q = take-else w k table start R L bytes lent X cap scratch h .1 ∙ ap (ledgerAfter w bytes L) q
 
-      go : Outcome w bytes (validAmong (X .kept)) room (X .kept) 0 false (L .pending) noEvent → Answered
+      go : Outcome w bytes (validAmong (X .kept)) allowed (X .kept) 0 false (L .pending) noEvent → Answered
       go (none-decides false q u o) =
           nothing (answers (undecided false) q) (λ e m r. o .1 (inr (e, m, ready-in w k table start R L bytes lent X e (X .right .formed e m) .1 r)))
       go (none-decides true q u o) = ⊎-elim (λ x. absurd x)
@@ -193,8 +194,8 @@ module _ (w k : ℕ) (f : Formula) (start : Cut) (R : Rule w k (linesAt 0 f) sta
             stops = stops j l R′ u;
             true-clock = J;
             kept-are = kept-number j l R′ J;
-            fits = leb→le (length (keptWith e)) room (rw (fits-is j l R′ J) at g);
+            fits = leb→le (length (keptWith e)) allowed (rw (fits-is j l R′ J) at g);
             counts-are = refl;
-            truth-is = state-holds k f start w R (e ∷ L .history) (later j l R′ J) (keptWith e) (kept-right j l R′ J);
+            truth-is = state-holds k f start w (L .closed) R (e ∷ L .history) (later j l R′ J) (keptWith e) (kept-right j l R′ J);
           })
           (ledgers (chosen (0 + j)) q ∙ rw (i, says-event w k table start R L bytes lent X j noEvent l))

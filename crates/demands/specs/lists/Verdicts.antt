@@ -43,10 +43,11 @@ module _ (k : ℕ) (f : Formula) (start : Cut) where
   }
 
   -- ---- the answer of a window that holds the kept cuts
-  module _ (w : ℕ) (R : Rule w k (linesAt 0 f) start) (ts : List Event) (h : History k Valid ts) (fs : List Frontier) (r : Represents (worldOf k (linesAt 0 f) start) ts fs) where
-    pub state-holds : bit (getD (map (λ g. g .values) fs) (length fs - 1) 0) (length (linesAt 0 f) - 1) ≡ holds (modelOf (worldOf k (linesAt 0 f) start) ts) (meaning f) (taken ts)
+  module _ (w closed : ℕ) (R : Rule w k (linesAt 0 f) start) (ts : List Event) (h : History k Valid ts)
+      (fs : List Frontier) (r : Represents (worldOf k closed (linesAt 0 f) start) ts fs) where
+    pub state-holds : bit (getD (map (λ g. g .values) fs) (length fs - 1) 0) (length (linesAt 0 f) - 1) ≡ holds (modelOf (worldOf k closed (linesAt 0 f) start) ts) (meaning f) (taken ts)
     state-holds =
-        let W : World = worldOf k (linesAt 0 f) start in
+        let W : World = worldOf k closed (linesAt 0 f) start in
         let P : Proper W Valid ts = record { some-process = R .some-process; room = R .eight-processes; rule = valid-rule k; by-rule = h; good = R .good } in
         let n : 0 < length fs = some-frontier W Valid ts P fs r in
         let last : ℕ = length (linesAt 0 f) - 1 in

@@ -24,7 +24,7 @@ use Rattle.demands.specs.World.{worldOf}
 use native.Mathlib.Omega.{arith}
 use Rattle.pactl.specs.declared.Line.{Line}
 use Rattle.demands.specs.statements.WindowExact.{WindowExact, WindowIsExact}
-use Rattle.demands.specs.calls.KeptCutsLaws.{represented-cuts}
+use Rattle.demands.specs.calls.KeptCutsLaws.{represented-cuts, none-closed}
 use Rattle.demands.specs.lists.TakeAnswers.{nothing-after, not-34}
 
 -- ---- Proof
@@ -43,14 +43,20 @@ module _ (w k : ℕ) (f : Formula) (start : Cut) (Z : Watch) (S : Sound w k f st
   unfolding frontierOf
   window-exact-of =
       let X = S .right in
-      let W : World = worldOf k table start in
+      let W : World = worldOf k (Z .ledger .closed) table start in
       record {
         frontiers-kept = X .kept;
         cuts = X .represents .cuts;
         record-is = X .bytes-are;
         window-is = X .window-is;
         read-back = ap (λ (s : List ℕ). frontiers w s (keptCount (Z .bytes))) (X .window-is) ∙ says-frontiers w k table start (S .rule) (Z .ledger) (Z .bytes) (Z .window) X (length (Z .window));
-        cuts-are = represented-cuts k table start ts (S .rule .some-process) (X .kept) (X .represents);
+        cuts-are = represented-cuts k (Z .ledger .closed) ts table start (X .kept) (X .represents);
+        none-closed = λ q C.
+            let kept = represented-cuts k (Z .ledger .closed) ts table start (X .kept) (X .represents) .exactly C in
+            let old = none-closed k (S .rule .some-process) ts C in (
+              (λ m. let c = kept .0 m in (c .0, old .0 (rw q at (c .1)))),
+              λ c. kept .1 (c .0, rw q (old .1 (c .1))),
+            );
         frontiers-are = X .represents .are;
         line-true = λ C i l. bit-wordOf (length table) (λ j. lineTruth (modelOf W ts) table j C) i l;
         no-more-bits = λ C i l. bit-above (wordOf (length table) (λ j. lineTruth (modelOf W ts) table j C)) (length table) i (wordOf-lt (length table) (λ j. lineTruth (modelOf W ts) table j C)) l;
@@ -58,7 +64,9 @@ module _ (w k : ℕ) (f : Formula) (start : Cut) (Z : Watch) (S : Sound w k f st
         history-true = X .right .by-rule;
         pending-ordered = X .ordered;
         pending-apart = X .clear;
-        nothing-ready = λ more scratch h. nothing-after w k f start Z S more scratch h;
+        closed-below = X .closed-below;
+        pending-open = X .names-open;
+        nothing-ready = λ cap more scratch h. nothing-after w k f start Z S cap more scratch h;
         state-good = good;
         never-34 = not-34 w k f start Z S;
       }

@@ -17,9 +17,12 @@ use Rattle.call_open.specs.Open.{openCall, openTable}
 use Rattle.call_offer.specs.Offer.{offerCall}
 use Rattle.call_offer.specs.OfferCases.{OfferCase, offer-case, turned, repeats, accepted}
 use Rattle.trial.specs.Trial.{Decision, undecided, false-clock, chosen, trial}
-use Rattle.call_take.specs.Take.{decided, Taken, takeWithin, takeCall}
+use Rattle.call_take.specs.Take.{decided, Taken, takeWithin, allowedOf, takeCapped}
 use Rattle.call_find.specs.Find.{findFrom, findCall}
-use Rattle.demands.specs.Run.{Call, offers, takes, finds, Watch, offeredLedger, acceptedBy, after, run, opened}
+use Rattle.call_close.specs.Close.{closeProcess, closeCall}
+use Rattle.call_close.specs.CloseCases as closing
+use Rattle.call_close.specs.CloseCases.{CloseCase, close-case}
+use Rattle.demands.specs.Run.{Call, offers, takes, finds, closes, Watch, offeredLedger, acceptedBy, after, run, opened}
 use Rattle.demands.specs.calls.OpenLaws.{OpenCase, open-case, turned-back, opens}
 use Rattle.demands.specs.statements.Again.{isAgain, lastOf, withoutAgains, otherAnswers, SameButAgains, AgainsMakeNoDifference}
 
@@ -33,16 +36,16 @@ decided-other w s window fs (undecided false) = refl
 decided-other w s window fs (false-clock i) = refl
 decided-other w s window fs (chosen i) = refl
 
-take-other : (w : ℕ) (s window scratch : List ℕ) → isAgain (takeCall w s window scratch .answer) ≡ false
-unfolding takeCall takeWithin
-take-other w s window scratch =
+take-other : (w cap : ℕ) (s window scratch : List ℕ) → isAgain (takeCapped w cap s window scratch .answer) ≡ false
+unfolding takeCapped takeWithin
+take-other w cap s window scratch =
     let by = by-test (λ (t : Taken). isAgain (t .answer) ≡ false) in
     let back : ℕ → Taken = λ n. record { answer = turnedBack n 0; bytes = s; window = window; scratch = scratch } in
     let fs = frontiers w window (keptCount s) in
     let wrong = badWindowLength w (length window) || not (eqb (length scratch) (length window)) in
     by (badRecordLength w (length s) || wrong) (back 6) _ (λ _. refl) λ _.
     by (badState w (roomOf w (length window)) s) (back 34) _ (λ _. refl) λ _.
-    decided-other w s window fs (trial w s (roomOf w (length window)) fs)
+    decided-other w s window fs (trial w s (allowedOf w cap window) fs)
 
 found-other : (line i : ℕ) (fs : List Frontier) → isAgain (findFrom line i fs) ≡ false
 unfolding findFrom
@@ -59,6 +62,14 @@ find-other w line s window =
     by (badState w (roomOf w (length window)) s) (turnedBack 34 0) _ (λ _. refl) λ _.
     by (leb (lineTotal s) line) (turnedBack 11 0) _ (λ _. refl) λ _.
     found-other line 0 (frontiers w window (keptCount s))
+
+close-other : (w p : ℕ) (s window : List ℕ) → isAgain (closeCall w p s window .answer) ≡ false
+unfolding closeProcess
+close-other w p s window = go (close-case w p s window)
+  where
+    go : CloseCase w p s window → isAgain (closeCall w p s window .answer) ≡ false
+    go (closing.turned n some small other q) = rw q
+    go (closing.accepted h41 h42 q) = rw q
 
 open-other : (w : ℕ) (text : List ℕ) (k : ℕ) (labels s window : List ℕ)
     → isAgain (openCall w text k labels s window .answer) ≡ false
@@ -91,19 +102,22 @@ offer-idle w mask clock labels W h = go (offer-case w mask clock labels (W .byte
     never x = let z : _≡_ {A = ℕ} 0 1 = cc in omega arith
 
     go : OfferCase w mask clock labels (W .bytes) → after w (offers mask clock labels) W ≡ answeredBy again W
-    go (turned n some small q) = absurd (never (rw q at h))
+    go (turned n some small other q) = absurd (never (rw q at h))
     go (repeats h7 r q) = rw q
-    go (accepted h7 h8 h9 h31 h32 h33 q) = absurd (never (rw q at h))
+    go (accepted h7 h8 h9 h42 h31 h32 h33 q) = absurd (never (rw q at h))
 
 idle : (w : ℕ) (c : Call) (W : Watch) → isAgain (lastOf (after w c W .answers)) ≡ true
     → after w c W ≡ answeredBy again W
 unfolding after lastOf
 idle w (offers mask clock labels) W h = offer-idle w mask clock labels W h
-idle w (takes more scratch) W h =
-    let z : _≡_ {A = Bool} true false = sym h ∙ take-other w (W .bytes) (W .window ++ replicate more 0) scratch in
+idle w (takes cap more scratch) W h =
+    let z : _≡_ {A = Bool} true false = sym h ∙ take-other w cap (W .bytes) (W .window ++ replicate more 0) scratch in
     let y : _≡_ {A = ℕ} 0 1 = cc in absurd (omega arith)
 idle w (finds line) W h =
     let z : _≡_ {A = Bool} true false = sym h ∙ find-other w line (W .bytes) (W .window) in
+    let y : _≡_ {A = ℕ} 0 1 = cc in absurd (omega arith)
+idle w (closes p) W h =
+    let z : _≡_ {A = Bool} true false = sym h ∙ close-other w p (W .bytes) (W .window) in
     let y : _≡_ {A = ℕ} 0 1 = cc in absurd (omega arith)
 
 -- ---- Call by call
@@ -119,7 +133,7 @@ step w (offers mask clock labels) Y Z S h = record {
   same-accepted = rw (S .same-record, S .same-accepted);
   other-answers = rw (S .same-record, S .other-answers, h);
 }
-step w (takes more scratch) Y Z S h = record {
+step w (takes cap more scratch) Y Z S h = record {
   same-record = rw (S .same-record, S .same-window);
   same-window = rw (S .same-record, S .same-window);
   same-ledger = rw (S .same-record, S .same-window, S .same-ledger);
@@ -130,6 +144,13 @@ step w (finds line) Y Z S h = record {
   same-record = S .same-record;
   same-window = S .same-window;
   same-ledger = S .same-ledger;
+  same-accepted = S .same-accepted;
+  other-answers = rw (S .same-record, S .same-window, S .other-answers, h);
+}
+step w (closes p) Y Z S h = record {
+  same-record = rw (S .same-record, S .same-window);
+  same-window = rw (S .same-record, S .same-window);
+  same-ledger = rw (S .same-record, S .same-window, S .same-ledger);
   same-accepted = S .same-accepted;
   other-answers = rw (S .same-record, S .same-window, S .other-answers, h);
 }

@@ -11,11 +11,11 @@ use Rattle.clocks.specs.History.{In, taken}
 use Rattle.clocks.specs.Refusal.{Faultless}
 use Rattle.rules.specs.Formula.{Formula}
 use Rattle.numbers.specs.Refusal.{conflictNumber, takenNumber}
-use Rattle.answers.specs.Answer.{Answer, turnedBack, state, nothingReady, held, again, found, absent}
+use Rattle.answers.specs.Answer.{Answer, turnedBack, state, nothingReady, held, again, found, absent, processClosed}
 use Rattle.call_open.specs.Open.{openCall}
 use Rattle.call_offer.specs.Offer.{offeredEvent, offerCall}
 use Rattle.demands.specs.Run.{Call, offers, Passed, Watch, after, opened}
-use Rattle.demands.specs.EveryList.{AfterEveryList, atEnd}
+use Rattle.demands.specs.EveryList.{AfterEveryList, atEnd, NamesOpen}
 
 -- ---- The next offer
 
@@ -46,15 +46,15 @@ pub record AgainExact (w k : ℕ) (f : Formula) (start : Cut) (Z : Watch) : Type
         accepted = Z .accepted;
         answers = again ∷ Z .answers;
       }
-  -- once the event is taken its repeat is 31
+  -- once the event is taken its repeat is 31, where its processes are open (statements/Close: 42 where one is closed)
   pub taken-again : (mask : ℕ) (clock labels : List ℕ) → Offerable w mask clock labels
-      → In (offeredEvent mask clock labels) (Z .ledger .history)
+      → In (offeredEvent mask clock labels) (Z .ledger .history) → NamesOpen Z (offeredEvent mask clock labels)
       → offerCall w mask clock labels (Z .bytes) .answer ≡ turnedBack takenNumber 0
   -- an event that nothing before 32 turns back, and that differs from a pending one with the same count at a common
   -- process, is 32, however many are pending
   pub other-event : (mask : ℕ) (clock labels : List ℕ) → Offerable w mask clock labels
       → let e = offeredEvent mask clock labels in
-      Faultless k e → ((p : ℕ) → involved e p ≡ true → taken (Z .ledger .history) p < count e p)
+      Faultless k e → NamesOpen Z e → ((p : ℕ) → involved e p ≡ true → taken (Z .ledger .history) p < count e p)
       → (g : Event) → List·Memᴰ g (Z .ledger .pending) → Contradicts e g
       → offerCall w mask clock labels (Z .bytes) .answer ≡ turnedBack conflictNumber 0
 
@@ -71,6 +71,7 @@ isAgain (held n) = false
 isAgain again = true
 isAgain (found i) = false
 isAgain absent = false
+isAgain (processClosed n) = false
 
 -- The last answer of some, newest first.
 unfoldable pub lastOf : List Answer → Answer

@@ -9,7 +9,7 @@ use lib.ListN.{length}
 use Rattle.clocks.specs.declared.Event.{Event}
 use Rattle.clocks.specs.Event.{one}
 use Rattle.records.specs.Record.{pendingCount}
-use Rattle.answers.specs.Answer.{Answer, turnedBack, state, nothingReady, held, again, found, absent}
+use Rattle.answers.specs.Answer.{Answer, turnedBack, state, nothingReady, held, again, found, absent, processClosed}
 use Rattle.demands.specs.Ledger.{occurrences, Ledger, accounted}
 use Rattle.demands.specs.Run.{Watch}
 use Rattle.demands.specs.EveryList.{AfterEveryList}
@@ -31,6 +31,7 @@ isHeld (held n) = true
 isHeld again = false
 isHeld (found i) = false
 isHeld absent = false
+isHeld (processClosed n) = false
 
 -- Opened, or an event was taken.
 abbrev pub isState : Answer → Bool
@@ -41,6 +42,7 @@ isState (held n) = false
 isState again = false
 isState (found i) = false
 isState absent = false
+isState (processClosed n) = false
 
 -- Turned back by 35: an event left with a false clock.
 abbrev pub isFalseClock : Answer → Bool
@@ -51,6 +53,7 @@ isFalseClock (held n) = false
 isFalseClock again = false
 isFalseClock (found i) = false
 isFalseClock absent = false
+isFalseClock (processClosed n) = false
 
 -- ---- The balance
 

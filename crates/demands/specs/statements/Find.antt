@@ -37,7 +37,7 @@ lineOf k f start Z line = lineTruth (modelAfter k f start (Z .ledger .history)) 
 pub record FindExact (w k : ℕ) (f : Formula) (start : Cut) (Z : Watch) : Type 0 where
   -- the kept cuts; the window's bytes have their frontiers in this order, one at each place
   pub cuts : List Cut
-  pub cuts-are : KeptCuts k (Z .ledger .history) cuts
+  pub cuts-are : KeptCuts k (Z .ledger .closed) (Z .ledger .history) cuts
   pub in-window : frontiers w (Z .window) (keptCount (Z .bytes))
       ≡ map (frontierAfter k f start (Z .ledger .history)) cuts
   pub wrong-length : (line : ℕ)

@@ -18,16 +18,16 @@ use Rattle.rules.specs.Formula.{Formula}
 use Rattle.trial.specs.Trial.{validAmong}
 use Rattle.demands.specs.Run.{Watch}
 use Rattle.demands.specs.World.{Valid}
-use Rattle.demands.specs.EveryList.{AfterEveryList, lentWindow}
+use Rattle.demands.specs.EveryList.{AfterEveryList, lentWindow, NamesOpen}
 
 -- The kept frontiers of the window that the next take is lent.
 abbrev pub keptLent : ℕ → Watch → ℕ → List Frontier
 keptLent w Z more = frontiers w (lentWindow Z more) (keptCount (Z .bytes))
 
 pub record MessagesExact (w k : ℕ) (f : Formula) (start : Cut) (Z : Watch) : Type 0 where
-  -- a ready event, pending or not: its clock lowered by 1 at its processes is a kept frontier exactly if it is a
-  -- consistent cut of the taken events
-  pub clock-exactly : (more : ℕ) (e : Event) → WellFormed k e → Ready e (taken (Z .ledger .history))
+  -- a ready event of open processes, pending or not: its clock lowered by 1 at its processes is a kept frontier exactly
+  -- if it is a consistent cut of the taken events
+  pub clock-exactly : (more : ℕ) (e : Event) → WellFormed k e → NamesOpen Z e → Ready e (taken (Z .ledger .history))
       → T (validAmong (keptLent w Z more) e) ↔ Consistent (Z .ledger .history) (lowered e)
   -- two events without a common process, g taken right after e: with the two exchanged, and the later ones as they
   -- were, the taken events are a history too exactly if neither's clock counts the other

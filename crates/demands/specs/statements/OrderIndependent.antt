@@ -1,5 +1,6 @@
--- Independence of order (demand 3): two lists of calls that accepted the same events, in whatever order, and both end
--- with "nothing ready", end alike. Proved in lists/OrderIndependent.
+-- Independence of order (demand 3; 02 [5]): two lists of calls that accepted the same events, in whatever order, closed
+-- the same processes, wherever in the lists, and both end with "nothing ready", end alike. Proved in
+-- lists/OrderIndependent.
 use Prim.Native.Nat.{ℕ, _*_, _<_}
 use mathlib.Core.Path.{_≡_}
 use mathlib.Core.Bool.{Bool, false}
@@ -21,12 +22,12 @@ use Rattle.call_find.specs.Find.{findCall}
 use Rattle.demands.specs.Ledger.{Settled}
 use Rattle.demands.specs.Run.{Watch, Call}
 use Rattle.demands.specs.Verdict.{Truthful}
-use Rattle.demands.specs.EveryList.{Accepts, EightBytes, AllPassed, atEnd, EndsQuiet, SameAccepted}
+use Rattle.demands.specs.EveryList.{Accepts, EightBytes, AllPassed, atEnd, EndsQuiet, SameAccepted, SameClosed}
 use Rattle.demands.specs.statements.WindowExact.{WindowExact}
 
 -- What is shown of the two watches at the ends.
 pub record Alike (w k : ℕ) (f : Formula) (start : Cut) (Y Z : Watch) : Type 0 where
-  -- the records are equal in every byte, and so are the kept frontiers
+  -- the records are equal in every byte, that of the closed processes too, and so are the kept frontiers
   pub same-record : Y .bytes ≡ Z .bytes
   pub same-window : take (keptCount (Y .bytes) * frontierLength w) (Y .window)
       ≡ take (keptCount (Z .bytes) * frontierLength w) (Z .window)
@@ -58,5 +59,6 @@ OrderIndependent =
     → (s′ window′ : List ℕ) → Accepts w text k labels s′ window′ → (cs′ : List Call) → AllPassed w cs′
     → EndsQuiet (atEnd w text k labels s window cs) → EndsQuiet (atEnd w text k labels s′ window′ cs′)
     → SameAccepted (atEnd w text k labels s window cs) (atEnd w text k labels s′ window′ cs′)
+    → SameClosed (atEnd w text k labels s window cs) (atEnd w text k labels s′ window′ cs′)
     → (f : Formula) × (i : ℕ) × (readRule text k ≡ formed i f) × (textOf f ≡ text)
     × Alike w k f (at labels) (atEnd w text k labels s window cs) (atEnd w text k labels s′ window′ cs′)

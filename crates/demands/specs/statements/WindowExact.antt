@@ -1,9 +1,9 @@
 -- What a window holds (demand 2): after every list of calls, exactly the kept cuts of the taken events, each with the
 -- truth of every line; what the record says; when nothing is ready. Proved in lists/WindowExact.
-use Prim.Native.Nat.{ℕ, _-_, _≤_, _<_}
+use Prim.Native.Nat.{ℕ, _-_, _^_, _≤_, _<_}
 use mathlib.Core.Path.{_≡_}
 use mathlib.Core.Bool.{false}
-use mathlib.Core.List.{List, map}
+use mathlib.Core.List.{List, map, List·Memᴰ}
 use mathlib.Core.Logic.{_↔_, _≢_}
 use lib.ListN.{length}
 use Rattle.frontiers.specs.declared.Frontier.{Frontier}
@@ -12,7 +12,9 @@ use Rattle.frontiers.specs.Bytes.{frontiers, windowBytes}
 use Rattle.rules.specs.Line.{lineCount, linesAt}
 use Rattle.pactl.specs.Truth.{holds, lineTruth}
 use Rattle.rules.specs.Formula.{Formula, meaning}
+use Rattle.clocks.specs.declared.Event.{Event}
 use Rattle.clocks.specs.Event.{Cut}
+use Rattle.clocks.specs.History.{taken, Consistent}
 use Rattle.clocks.specs.Valid.{History}
 use Rattle.records.specs.Record.{keptCount}
 use Rattle.refusals.specs.Refusals.{badState}
@@ -21,7 +23,7 @@ use Rattle.demands.specs.Ledger.{Settled, Ordered, Clear}
 use Rattle.demands.specs.Run.{Watch}
 use Rattle.demands.specs.Status.{recordBytes}
 use Rattle.demands.specs.World.{statusOf, Valid, KeptCuts, modelAfter, frontierAfter}
-use Rattle.demands.specs.EveryList.{AfterEveryList, RightLengths, nextTake}
+use Rattle.demands.specs.EveryList.{AfterEveryList, RightLengths, nextTake, NamesOpen}
 use Rattle.numbers.specs.Refusal.{stateNumber}
 
 pub record WindowExact (w k : ℕ) (f : Formula) (start : Cut) (Z : Watch) : Type 0 where
@@ -32,8 +34,13 @@ pub record WindowExact (w k : ℕ) (f : Formula) (start : Cut) (Z : Watch) : Typ
   pub record-is : Z .bytes ≡ recordBytes w (statusOf k (linesAt 0 f) (length frontiers-kept) (Z .ledger))
   pub window-is : Z .window ≡ windowBytes w (length (Z .window)) frontiers-kept
   pub read-back : frontiers w (Z .window) (keptCount (Z .bytes)) ≡ frontiers-kept
-  -- exactly the consistent cuts in which some process has all its taken events, each once, in ascending order
-  pub cuts-are : KeptCuts k (Z .ledger .history) cuts
+  -- exactly the consistent cuts in which some open process has all its taken events, and the largest cut; each once, in
+  -- ascending order
+  pub cuts-are : KeptCuts k (Z .ledger .closed) (Z .ledger .history) cuts
+  -- with no process closed: exactly those in which some process has all its taken events
+  pub none-closed : Z .ledger .closed ≡ 0 → (S : Cut)
+      → List·Memᴰ S cuts
+      ↔ (Consistent (Z .ledger .history) S × ((p : ℕ) × (p < k) × (S p ≡ taken (Z .ledger .history) p)))
   -- ... each with its labels, masks and values
   pub frontiers-are : frontiers-kept ≡ map (frontierAfter k f start (Z .ledger .history)) cuts
   -- bit i of a frontier's values is PaCTL's truth of line i there; the bits from the number of lines up are 0
@@ -51,13 +58,16 @@ pub record WindowExact (w k : ℕ) (f : Formula) (start : Cut) (Z : Watch) : Typ
   -- process
   pub pending-ordered : Ordered (Z .ledger .pending)
   pub pending-apart : Clear (Z .ledger .pending)
+  -- a closed process is one that there is, and no pending event names it
+  pub closed-below : Z .ledger .closed < 2 ^ k
+  pub pending-open : (e : Event) → List·Memᴰ e (Z .ledger .pending) → NamesOpen Z e
   -- "nothing ready" is the next take's answer, where 6 does not come, exactly when the taken counts allow no pending
   -- event
-  pub nothing-ready : (more : ℕ) (scratch : List ℕ) → RightLengths w Z more scratch
-      → (nextTake w Z more scratch .answer ≡ nothingReady) ↔ Settled (Z .ledger)
+  pub nothing-ready : (cap more : ℕ) (scratch : List ℕ) → RightLengths w Z more scratch
+      → (nextTake w Z cap more scratch .answer ≡ nothingReady) ↔ Settled (Z .ledger)
   -- 34 never comes: its condition does not hold with any room for what is kept, and no take answers it
   pub state-good : (room : ℕ) → keptCount (Z .bytes) ≤ room → badState w room (Z .bytes) ≡ false
-  pub never-34 : (more : ℕ) (scratch : List ℕ) → nextTake w Z more scratch .answer ≢ turnedBack stateNumber 0
+  pub never-34 : (cap more : ℕ) (scratch : List ℕ) → nextTake w Z cap more scratch .answer ≢ turnedBack stateNumber 0
 
 abbrev pub WindowIsExact : Type 0
 WindowIsExact = AfterEveryList WindowExact

@@ -1,0 +1,91 @@
+-- Closed processes (02 [5]): what a close after a list of calls answers and leaves, and exactly when; which offers it
+-- shuts out; and that a cut which was dropped stays dropped. What the window holds then is WindowExact's. Proved in
+-- lists/Close and lists/Dropped.
+use Prim.Native.Nat.{ℕ, _≤_, _<_}
+use mathlib.Core.Path.{_≡_}
+use mathlib.Core.Bool.{true, false}
+use mathlib.Core.List.{List, _++_, List·Memᴰ}
+use mathlib.Core.Logic.{_⊎_, _↔_, _≢_}
+use lib.ListN.{length}
+use Rattle.codec.specs.Bit.{bit}
+use Rattle.clocks.specs.declared.Event.{Event}
+use Rattle.clocks.specs.Event.{Cut, involved}
+use Rattle.clocks.specs.History.{Consistent}
+use Rattle.clocks.specs.Refusal.{Faultless}
+use Rattle.rules.specs.Formula.{Formula}
+use Rattle.numbers.specs.Refusal.{lengthNumber, namedNumber, notOpenNumber, stateNumber}
+use Rattle.refusals.specs.Refusals.{badWindowLength}
+use Rattle.answers.specs.Answer.{turnedBack, processClosed}
+use Rattle.call_close.specs.Close.{Closed, closing, closeCall}
+use Rattle.call_offer.specs.Offer.{offeredEvent, offerCall}
+use Rattle.demands.specs.Ledger.{Ledger}
+use Rattle.demands.specs.Run.{Call, offers, closes, Passed, Watch, after}
+use Rattle.demands.specs.World.{Open, Stays, KeptNumber}
+use Rattle.demands.specs.EveryList.{Accepts, EightBytes, AllPassed, AfterEveryList, atEnd}
+
+-- ---- The next close
+
+abbrev pub nextClose : ℕ → Watch → ℕ → Closed
+nextClose w Z p = closeCall w p (Z .bytes) (Z .window)
+
+-- The window has a right length: 6 does not come.
+abbrev pub RightWindow : ℕ → Watch → Type 0
+RightWindow w Z = badWindowLength w (length (Z .window)) ≡ false
+
+-- A pending event names the process.
+abbrev pub Named : ℕ → Ledger → Type 0
+Named p L = (e : Event) × List·Memᴰ e (L .pending) × (involved e p ≡ true)
+
+-- The ledger with process p closed.
+abbrev pub closedWith : Ledger → ℕ → Ledger
+closedWith L p = record {
+  history = L .history;
+  pending = L .pending;
+  falsified = L .falsified;
+  closed = closing (L .closed) p;
+}
+
+-- The event names a closed process.
+abbrev pub NamesClosed : Watch → Event → Type 0
+NamesClosed Z e = (p : ℕ) × (involved e p ≡ true) × (bit (Z .ledger .closed) p ≡ true)
+
+pub record CloseExact (w k : ℕ) (f : Formula) (start : Cut) (Z : Watch) : Type 0 where
+  pub wrong-length : (p : ℕ)
+      → (nextClose w Z p .answer ≡ turnedBack lengthNumber 0) ↔ (badWindowLength w (length (Z .window)) ≡ true)
+  -- 41: not below k, or closed already
+  pub not-open : RightWindow w Z → (p : ℕ)
+      → (nextClose w Z p .answer ≡ turnedBack notOpenNumber 0) ↔ ((k ≤ p) ⊎ (bit (Z .ledger .closed) p ≡ true))
+  -- 42: below k and open, and a pending event names it
+  pub named : RightWindow w Z → (p : ℕ)
+      → (nextClose w Z p .answer ≡ turnedBack namedNumber 0)
+      ↔ ((p < k) × Open (Z .ledger .closed) p × Named p (Z .ledger))
+  -- else it is closed; the answer is the number of cuts that are kept with the open processes that are left
+  pub closes-exactly : RightWindow w Z → (p n : ℕ)
+      → (nextClose w Z p .answer ≡ processClosed n)
+      ↔ ((p < k) × Open (Z .ledger .closed) p × (Named p (Z .ledger) → ⊥)
+      × KeptNumber k (closing (Z .ledger .closed) p) (Z .ledger .history) n)
+  -- and the ledger has it closed, and is the same in all else
+  pub ledger-closed : (p n : ℕ) → nextClose w Z p .answer ≡ processClosed n
+      → after w (closes p) Z .ledger ≡ closedWith (Z .ledger) p
+  pub never-34 : (p : ℕ) → nextClose w Z p .answer ≢ turnedBack stateNumber 0
+  -- the mask with p: p is closed in it, and what else was closed
+  pub closes-one : (p q : ℕ) → Open (closing (Z .ledger .closed) p) q ↔ ((q ≢ p) × Open (Z .ledger .closed) q)
+  -- an offer is 42 exactly if nothing before turns it back and it names a closed process, be it taken already or not
+  pub shut-out : (mask : ℕ) (clock labels : List ℕ) → Passed w (offers mask clock labels)
+      → (offerCall w mask clock labels (Z .bytes) .answer ≡ turnedBack namedNumber 0)
+      ↔ ((mask < 256) × Faultless k (offeredEvent mask clock labels) × NamesClosed Z (offeredEvent mask clock labels))
+
+abbrev pub CloseIsExact : Type 0
+CloseIsExact = AfterEveryList CloseExact
+
+-- ---- What was dropped
+
+-- Whatever calls follow a list: a consistent cut of its taken events that is not kept at its end is not kept at theirs.
+abbrev pub DroppedStaysDropped : Type 0
+DroppedStaysDropped =
+    (w : ℕ) → 0 < w → (text : List ℕ) (k : ℕ) (labels : List ℕ) → EightBytes labels
+    → (s window : List ℕ) → Accepts w text k labels s window → (cs ds : List Call) → AllPassed w (cs ++ ds)
+    → let Y = atEnd w text k labels s window cs in
+    let Z = atEnd w text k labels s window (cs ++ ds) in
+    (S : Cut) → Consistent (Y .ledger .history) S
+    → (Stays k (Y .ledger .closed) (Y .ledger .history) S → ⊥) → Stays k (Z .ledger .closed) (Z .ledger .history) S → ⊥
