@@ -6,6 +6,7 @@ use mathlib.Core.Bool.{true, false}
 use mathlib.Core.List.{List}
 use lib.Dec.{leb, eqb}
 use lib.ListN.{length}
+use borrow.Author.Tests.{eqb-false}
 use Rattle.clocks.specs.Counts.{at}
 use Rattle.clocks.specs.Refusal.{badMask, badClock, badLabels}
 use Rattle.records.specs.Record.{processCount, pendingCount, closedMask, takenCounts, pendingEvents, inserted}
@@ -52,3 +53,38 @@ offer-case w mask clock labels s =
     by (conflicting e (pendingEvents w s)) (back 32) _ (λ _. turned 32 (omega arith) (omega arith) refl refl) λ h32.
     by (leb 32 (pendingCount s)) (back 33) _ (λ _. turned 33 (omega arith) (omega arith) refl refl) λ h33.
     accepted h7 h8 h9 h42 h31 h32 h33 refl
+
+-- What is known of an offer that is turned back by 42: nothing before it turned it back, and its own condition holds.
+pub record Named (w mask : ℕ) (clock labels s : List ℕ) : Type 0 where
+  pub h7 : badMask (processCount s) mask ≡ false
+  pub h8 : badClock (processCount s) mask clock ≡ false
+  pub h9 : badLabels mask labels ≡ false
+  pub h42 : namesClosed (closedMask s) (offeredEvent mask clock labels) ≡ true
+
+-- An answer that is 42 says so; every other answer says nothing.
+abbrev Says : ℕ → ℕ → List ℕ → List ℕ → List ℕ → Offered → Type 0
+Says w mask clock labels s o = o .answer ≡ turnedBack 42 0 → Named w mask clock labels s
+
+pub named-case : (w mask : ℕ) (clock labels s : List ℕ) → Says w mask clock labels s (offerCall w mask clock labels s)
+unfolding offerCall
+named-case w mask clock labels s =
+    let by = by-test (Says w mask clock labels s) in
+    let back : ℕ → Offered = λ n. record { answer = turnedBack n 0; bytes = s } in
+    let e = offeredEvent mask clock labels in
+    by (badRecordLength w (length s)) (back 6) _ (λ _ q. other 6 refl q) λ _.
+    by (badState w 1024 s) (back 34) _ (λ _ q. other 34 refl q) λ _.
+    by (badMask (processCount s) mask) (back 7) _ (λ _ q. other 7 refl q) λ h7.
+    by (badClock (processCount s) mask clock) (back 8) _ (λ _ q. other 8 refl q) λ h8.
+    by (badLabels mask labels) (back 9) _ (λ _ q. other 9 refl q) λ h9.
+    by (namesClosed (closedMask s) e) (back 42) _ (λ h42 q. record { h7 = h7; h8 = h8; h9 = h9; h42 = h42 }) λ _.
+    by (alreadyTaken e (at (takenCounts w s))) (back 31) _ (λ _ q. other 31 refl q) λ _.
+    by (repeated e (pendingEvents w s)) (record { answer = again; bytes = s }) _ (λ _ q. none q) λ _.
+    by (conflicting e (pendingEvents w s)) (back 32) _ (λ _ q. other 32 refl q) λ _.
+    by (leb 32 (pendingCount s)) (back 33) _ (λ _ q. other 33 refl q) λ _.
+    λ q. let z : _≡_ {A = ℕ} 0 1 = cc in absurd (omega arith)
+  where
+    other : (n : ℕ) → eqb n 42 ≡ false → turnedBack n 0 ≡ turnedBack 42 0 → Named w mask clock labels s
+    other n h q = let z : n ≡ 42 = cc in absurd (eqb-false n 42 h z)
+
+    none : again ≡ turnedBack 42 0 → Named w mask clock labels s
+    none q = let z : _≡_ {A = ℕ} 0 1 = cc in absurd (omega arith)

@@ -16,5 +16,5 @@ pub mod WithoutAgains
 pub mod Again
 pub mod Messages
 pub mod Earlier
--- pub mod Close
+pub mod Close
 pub mod Dropped

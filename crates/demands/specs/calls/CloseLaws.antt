@@ -79,7 +79,7 @@ module _ (w k : ℕ) (table : List Line) (start : Cut) (R : Rule w k table start
       subst T h (any-of-i (λ (f : Event). involved f p) (L .pending) e m (true-T b))
 
   -- ---- the frontiers that stay
-  abbrev gs : List Frontier
+  abbrev pub gs : List Frontier
   gs = filtered (staysIn world (L .history) closed′) (X .kept)
 
   read : frontiers w window (keptCount bytes) ≡ X .kept

@@ -65,7 +65,7 @@ module _ (w k : ℕ) (table : List Line) (start : Cut) (R : Rule w k table start
     labels-fit = passed .4;
   }
 
-  offered-faultless : badMask k mask ≡ false → badClock k mask clock ≡ false → badLabels mask labels ≡ false → Faultless k e
+  pub offered-faultless : badMask k mask ≡ false → badClock k mask clock ≡ false → badLabels mask labels ≡ false → Faultless k e
   offered-faultless h7 h8 h9 =
       let m : mask < 2 ^ k = mask-fine k mask (passed .0) .0 h7 .1 in
       let q : mask % 256 ≡ mask = omega (arith, m, pow-mono (R .eight-processes)) in

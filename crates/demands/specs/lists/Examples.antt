@@ -31,15 +31,16 @@ use Rattle.lookup.specs.Seek.{standing, bisect, gallop, seek}
 use Rattle.window.specs.Step.{stays, enabledAt, advanced, filtered, slotCounts, mergeInto, merge, slots, sought, withoutLast, consider, gathered, judgedBy, lay, stepped, keptAfter, fits}
 use Rattle.window.specs.Start.{startFrontier}
 use Rattle.frontiers.specs.Bytes.{frontierLength, countBytes, frontierBytes, frontierFrom, frontierAt, frontiers, framed, windowBytes, replaced}
-use Rattle.answers.specs.Answer.{Answer, turnedBack, state, held, again, stateOf}
-use Rattle.records.specs.Record.{keptCount, takenCounts, lastClocks, tableLines, pendingAt, pendingEvents, eventBytes, inserted, removed, clocksSet, counted, readyIn}
-use Rattle.refusals.specs.Refusals.{badRecordLength, badWindowLength, roomOf, badProcesses, badState, namesClosed, alreadyTaken, conflicts, conflicting}
+use Rattle.answers.specs.Answer.{Answer, turnedBack, state, held, again, processClosed, stateOf}
+use Rattle.records.specs.Record.{keptCount, takenCounts, lastClocks, tableLines, pendingAt, pendingEvents, eventBytes, inserted, removed, clocksSet, closedSet, counted, readyIn}
+use Rattle.refusals.specs.Refusals.{badRecordLength, badWindowLength, roomOf, badProcesses, badState, namesClosed, alreadyTaken, conflicts, conflicting, notOpen, namedBy}
 use Rattle.call_open.specs.Open.{firstRecord, openTable, openRead, openCall}
 use Rattle.call_offer.specs.Offer.{placeAmong, offerCall}
 use Rattle.trial.specs.Trial.{validAmong, settingIn, tried}
 use Rattle.call_take.specs.Take.{decided, takeWithin, takeCapped}
+use Rattle.call_close.specs.Close.{remaining, closeProcess, closeCall}
 use Rattle.demands.specs.Status.{insertAt, removeAt}
-use Rattle.demands.specs.Run.{Call, offers, takes, Watch, trialOf, stoppedAt, takenLedger, offeredLedger, after, run}
+use Rattle.demands.specs.Run.{Call, offers, takes, Watch, trialOf, stoppedAt, takenLedger, offeredLedger, closedLedger, closes, after, run}
 use Rattle.demands.specs.EveryList.{atEnd}
 
 -- ---- The watches
@@ -83,6 +84,10 @@ sent-a1 = offers 1 (eight 1 0 0) (eight 1 0 0)
 
 abbrev pub a1-twice : List Call
 a1-twice = sent-a1 ∷ sent-a1 ∷ takes 1024 0 (replicate 200 0) ∷ sent-a1 ∷ []
+
+-- At (2 1) process 1 is closed, and its event is sent once more.
+abbrev pub b-shuts : List Call
+b-shuts = closes 1 ∷ offers 2 (eight 0 1 0) (eight 0 1 0) ∷ []
 
 -- An event of both; two that process 0 may have next, one of which knows of a message that process 1 left; and one that
 -- may come behind that, but has forgotten it.
@@ -153,6 +158,9 @@ pub record StarredExamples : Type 0 where
   -- a1 twice: again while it is pending, 31 once it is taken (02 [1]).
   pub sent-again : watch 2 (ascii "(at 0 0)") a1-twice .answers
       ≡ (turnedBack 31 0 ∷ state (eight 1 0 0) true 2 ∷ again ∷ held 1 ∷ state (eight 0 0 0) false 1 ∷ [])
+  -- process 1 closed at (2 1): 2 kept, those with both events of process 0; its event sent again is 42 (02 [5]).
+  pub shuts : watch 2 someOrder (a1 ++ a2 ++ b1 ++ b-shuts) .answers ≡ turnedBack 42 0 ∷ processClosed 2 ∷ answersAB
+  pub shuts-cuts : keptCuts (watch 2 someOrder (a1 ++ a2 ++ b1 ++ b-shuts)) ≡ (eight 2 0 0 ∷ eight 2 1 0 ∷ [])
   -- with ap for ep: no at (2 1), and at every state before.
   pub in-every-order : watch 2 everyOrder (a1 ++ a2 ++ b1) .answers
       ≡ (state (eight 2 1 0) false 4 ∷ held 1 ∷ state (eight 2 0 0) false 3 ∷ held 1 ∷ state (eight 1 0 0) false 2 ∷ held 1 ∷ state (eight 0 0 0) false 1 ∷ [])
@@ -181,7 +189,7 @@ frontiersAt21 =
     ∷ []
 
 pub starred : StarredExamples
-unfolding repeated sameEvent badStart restAt aWordAt eWordAt wordAt andThen expect expectDigit closeAt atomAt innerWith unaryWith binaryWith bodyWith formAt readRule lineCount constantWeight unaryWeight binaryWeight trueLines constantLines linesBefore linesAfter linesBetween linesAfterBoth linesAt startFrontier firstRecord openTable openRead openCall trailingZeros bit bytesOf valueOf number put involved count apply minus listOf allBelow anyBelow anyOf ready less lowered validAmong lowest keyOf keyBefore badMask badClock badLabels stays enabledAt advanced filtered slotCounts mergeInto merge slots sought withoutLast consider gathered judgedBy lay stepped keptAfter fits frontierLength countBytes frontierBytes frontierFrom frontierAt frontiers framed windowBytes replaced before same standing bisect gallop seek tableBytes goodLine goodFrom lineAt linesFrom propositionJudged notJudged andJudged eyJudged esJudged asJudged judgeLine judgeFrom takenCounts lastClocks tableLines pendingAt pendingEvents eventBytes inserted removed clocksSet counted badRecordLength badWindowLength roomOf badProcesses badState namesClosed alreadyTaken conflicts conflicting placeAmong offerCall settingIn readyIn tried stateOf decided takeWithin takeCapped after run trialOf stoppedAt takenLedger offeredLedger insertAt removeAt headed vectors sourceKeeps consistent redundant redundantWithin served taken clockOf event isNumber
+unfolding repeated sameEvent badStart restAt aWordAt eWordAt wordAt andThen expect expectDigit closeAt atomAt innerWith unaryWith binaryWith bodyWith formAt readRule lineCount constantWeight unaryWeight binaryWeight trueLines constantLines linesBefore linesAfter linesBetween linesAfterBoth linesAt startFrontier firstRecord openTable openRead openCall trailingZeros bit bytesOf valueOf number put involved count apply minus listOf allBelow anyBelow anyOf ready less lowered validAmong lowest keyOf keyBefore badMask badClock badLabels stays enabledAt advanced filtered slotCounts mergeInto merge slots sought withoutLast consider gathered judgedBy lay stepped keptAfter fits frontierLength countBytes frontierBytes frontierFrom frontierAt frontiers framed windowBytes replaced before same standing bisect gallop seek tableBytes goodLine goodFrom lineAt linesFrom propositionJudged notJudged andJudged eyJudged esJudged asJudged judgeLine judgeFrom takenCounts lastClocks tableLines pendingAt pendingEvents eventBytes inserted removed clocksSet counted badRecordLength badWindowLength roomOf badProcesses badState namesClosed alreadyTaken conflicts conflicting placeAmong offerCall settingIn readyIn tried stateOf decided takeWithin takeCapped after run trialOf stoppedAt takenLedger offeredLedger closedLedger notOpen namedBy closedSet remaining closeProcess closeCall insertAt removeAt headed vectors sourceKeeps consistent redundant redundantWithin served taken clockOf event isNumber
 starred =
     let ab : watch 2 someOrder (a1 ++ a2 ++ b1) .window ≡ windowBytes 2 200 frontiersAt21 = refl in
     let ba : watch 2 someOrder (b1 ++ a1 ++ a2) .window ≡ windowBytes 2 200 frontiersAt21 = refl in
@@ -198,6 +206,8 @@ starred =
       knows-cuts = refl;
       forgets = refl;
       sent-again = refl;
+      shuts = refl;
+      shuts-cuts = refl;
       in-every-order = refl;
       ap-start = refl;
       ay-start = refl;
