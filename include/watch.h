@@ -62,7 +62,9 @@ enum {
     WATCH_FULL = 33,        /* offer: 32 events are pending: take, or wait for what is missing */
     WATCH_DAMAGED = 34,     /* the record is none, or it says more frontiers than the lent window has */
     WATCH_CLOCK_FALSE = 35, /* take: what an event says it knew cannot be; that event, and nothing else, is gone */
-    WATCH_NO_ROOM = 36      /* take: events are ready but none fits; lend a longer window */
+    WATCH_NO_ROOM = 36,     /* take: events are ready but none fits; lend a longer window */
+    WATCH_NOT_OPEN = 41,    /* close: the watch has no such process, or it is closed already */
+    WATCH_NAMED = 42        /* close: a pending event names the process; offer: the event names a closed one */
 };
 
 /* A reply is one word: number, flag, value and place. A number above 0 is the refusal; a refusal has flag 0, value 0
@@ -123,6 +125,9 @@ uint64_t watch_take(uint8_t *record, size_t record_len, uint8_t *window, size_t 
  * Refused, in this order: 6 record or window, 34, 11. */
 uint64_t watch_find(uint64_t line, const uint8_t *record, size_t record_len,
                     const uint8_t *window, size_t window_len);
+
+/* Closes a process: value is the number of frontiers kept. Refused, in this order: 6 record or window, 34, 41, 42. */
+uint64_t watch_close(uint64_t process, uint8_t *record, size_t record_len, uint8_t *window, size_t window_len);
 
 static inline unsigned watch_bytes2(const uint8_t *at) { return at[0] | (unsigned)at[1] << 8; }
 
