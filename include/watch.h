@@ -1,4 +1,4 @@
-/* The vault watcher's four calls: open a watch, offer it events, take them, find a frontier.
+/* The vault watcher's five calls: open a watch, offer it events, take them, find a frontier, close a process.
  *
  * A watch is two buffers of the caller's: a record of WATCH_RECORD_BYTES and a window of 40 to 40,960 bytes, a
  * multiple of 40 (one frontier has 40). Take borrows a third, the scratch, as long as the window. The library has no
@@ -33,8 +33,8 @@
 extern "C" {
 #endif
 
-#define WATCH_VERSION "0.5.0"    /* of this header and of the library that it was installed with */
-#define WATCH_VERSION_NUMBER 500 /* the same as a number: 10000 major + 100 minor + patch */
+#define WATCH_VERSION "0.6.0"    /* of this header and of the library that it was installed with */
+#define WATCH_VERSION_NUMBER 600 /* the same as a number: 10000 major + 100 minor + patch */
 
 #define WATCH_PROCESSES 8        /* at most so many processes */
 #define WATCH_LINES 64           /* a rule has at most so many lines */
@@ -100,7 +100,9 @@ uint64_t watch_open(const uint8_t *rule, size_t rule_len, uint64_t k, uint64_t s
  * Again, the word WATCH_AGAIN (watch_again): a pending event has the same mask, the same eight counts and the same
  * labels, so this one is known. Neither accepted nor refused, and nothing is written. One that was taken meets 31; one
  * that left with 35 is not pending and may be offered anew.
- * Refused, in this order with again among them: 6 record, 34, 7, 8, 9, 31, again, 32, 33. Writes nothing then. */
+ * An event that names a closed process meets 42, and so does one of a closed process that was taken and is sent again.
+ * Its clock may count the events of closed processes.
+ * Refused, in this order with again among them: 6 record, 34, 7, 8, 9, 42, 31, again, 32, 33. Writes nothing then. */
 uint64_t watch_offer(uint64_t mask, uint64_t clock_low, uint64_t clock_high, uint64_t labels,
                      uint8_t *record, size_t record_len);
 
@@ -126,16 +128,24 @@ uint64_t watch_take(uint8_t *record, size_t record_len, uint8_t *window, size_t 
 uint64_t watch_find(uint64_t line, const uint8_t *record, size_t record_len,
                     const uint8_t *window, size_t window_len);
 
-/* Closes a process: value is the number of frontiers kept. Refused, in this order: 6 record or window, 34, 41, 42. */
+/* Closes a process that will send no more (since 0.6.0). Then the window keeps, in their order, the frontiers in which
+ * some open process has all its taken events, and the largest; the others are gone, here and not only at the next
+ * take, and their places are 0. What find answers may change with them; verdicts do not, and taken and pending events
+ * stay. It cannot be undone: the process's events are refused from now on (42). All processes may be closed; the
+ * largest frontier alone is kept then. Linear in the frontiers kept.
+ * Accepted: number 0, value the number of frontiers kept (never 0 in a watch that these calls wrote). Writes record and
+ * window, which is lent at the length that it has.
+ * Refused, in this order: 6 record or window, 34, 41 (the whole word is judged), 42. Writes nothing then. */
 uint64_t watch_close(uint64_t process, uint8_t *record, size_t record_len, uint8_t *window, size_t window_len);
 
 static inline unsigned watch_bytes2(const uint8_t *at) { return at[0] | (unsigned)at[1] << 8; }
 
-/* Of a record that open wrote: lines of the rule, pending events, frontiers kept, and how many events of process p
- * (0 to 7) were taken. */
+/* Of a record that open wrote: lines of the rule, pending events, frontiers kept, whether process p (0 to 7) is closed,
+ * and how many of its events were taken. */
 static inline unsigned watch_lines(const uint8_t *record) { return record[1]; }
 static inline unsigned watch_pending(const uint8_t *record) { return record[2]; }
 static inline unsigned watch_kept(const uint8_t *record) { return watch_bytes2(record + 4); }
+static inline int watch_closed(const uint8_t *record, unsigned p) { return record[3] >> p & 1; }
 static inline unsigned watch_taken(const uint8_t *record, unsigned p) { return watch_bytes2(record + 8 + 2 * p); }
 
 /* Of the frontier at a place below watch_kept: process p's count in that cut. */
