@@ -87,7 +87,8 @@ event-passed c = event-read (c .before) ∙ c .if3 .left
 
 -- What the record says of the event's processes.
 closed-read : (c : tie.After-names-closed)
-    → let start = begun (made c .before) in namesClosed (closedMask (bytes start)) (event start) ≡ c .names-closed .result
+    → let start = begun (made c .before) in
+    namesClosed (closedMask (bytes start)) (event start) ≡ c .names-closed .result
 closed-read c = cc
 
 taken-read : (c : tie.After-already-taken)
