@@ -76,9 +76,9 @@ state-passed c = sym (c .before .bad-state .ensures) ∙ c .if2 .left
 
 -- The number of 7, 8 and 9 is that of the record's processes.
 event-read : (c : tie.After-event-fault)
-    → let start = start (sized (c .before .before)) in
-    let a = start .args in
-    eventFault (processCount (bytes start)) (a .mask) (a .clock) (a .labels) ≡ c .event-fault .result
+    → let from = start (sized (c .before .before)) in
+    let a = from .args in
+    eventFault (processCount (bytes from)) (a .mask) (a .clock) (a .labels) ≡ c .event-fault .result
 event-read c = cc
 
 event-passed : (c : tie.Else3)
@@ -87,33 +87,33 @@ event-passed c = event-read (c .before) ∙ c .if3 .left
 
 -- What the record says of the event's processes.
 closed-read : (c : tie.After-names-closed)
-    → let start = begun (made c .before) in
-    namesClosed (closedMask (bytes start)) (event start) ≡ c .names-closed .result
+    → let from = begun (made c .before) in
+    namesClosed (closedMask (bytes from)) (event from) ≡ c .names-closed .result
 closed-read c = cc
 
 taken-read : (c : tie.After-already-taken)
-    → let start = begun (fine c) in
-    alreadyTaken (event start) (at (takenCounts (start .args .w) (bytes start))) ≡ c .already-taken .result
+    → let from = begun (fine c) in
+    alreadyTaken (event from) (at (takenCounts (from .args .w) (bytes from))) ≡ c .already-taken .result
 taken-read c =
-    let start = begun (fine c) in
+    let from = begun (fine c) in
     let offered = made (named c) .offered-event in
     let counts = c .before .taken-counts in
     sym (
     c .already-taken .ensures
     ∙ ap (λ (l : List ℕ). alreadyTaken (offered .result) (at l)) (counts .ensures)
-    ∙ ap (λ (e : Event). alreadyTaken e (at (takenCounts (start .args .w) (bytes start)))) (offered .ensures)
+    ∙ ap (λ (e : Event). alreadyTaken e (at (takenCounts (from .args .w) (bytes from)))) (offered .ensures)
     )
 
 -- What the pending events say of the offered one.
 conflict-read : (c : tie.After-pending-alike)
-    → let start = begun (fine (untaken (c .before))) in
-    conflicting (event start) (pendingEvents (start .args .w) (bytes start)) ≡ c .pending-alike .result
+    → let from = begun (fine (untaken (c .before))) in
+    conflicting (event from) (pendingEvents (from .args .w) (bytes from)) ≡ c .pending-alike .result
 unfolding conflicting alike
 conflict-read c = cc
 
 again-read : (c : tie.After-sent-again)
-    → let start = begun (fine (untaken (c .before .before))) in
-    repeated (event start) (pendingEvents (start .args .w) (bytes start)) ≡ c .sent-again .result
+    → let from = begun (fine (untaken (c .before .before))) in
+    repeated (event from) (pendingEvents (from .args .w) (bytes from)) ≡ c .sent-again .result
 again-read c = cc
 
 -- ---- The needs
@@ -137,8 +137,8 @@ process-count-requires c κs = omega (arith, right (sized c))
 
 event-fault-requires : tie.Need-event-fault-requires
 event-fault-requires c κs =
-    let start = start (sized (c .before)) in
-    omega (arith, state-within (start .args .w) 1024 (bytes start) (state-passed (c .before)) .0)
+    let from = start (sized (c .before)) in
+    omega (arith, state-within (from .args .w) 1024 (bytes from) (state-passed (c .before)) .0)
 
 returns-3 : tie.Need-returns-3
 unfolding unacceptedWord
@@ -174,7 +174,7 @@ returns-4 : tie.Need-returns-4
 unfolding unacceptedWord
 returns-4 c =
     let looked = c .before .before in
-    let start = begun (fine looked) in
+    let from = begun (fine looked) in
     rw (
       length-passed (sized (stood (fine looked))),
       state-passed (stood (fine looked)),
@@ -183,17 +183,17 @@ returns-4 c =
       taken-read looked,
     )
     (processes-turn (named looked .names-closed .result) (looked .already-taken .result)
-    (pendingWord (start .args .w) (event start) (bytes start)) (c .before .process-word .result)
+    (pendingWord (from .args .w) (event from) (bytes from)) (c .before .process-word .result)
     (c .before .process-word .ensures) (c .if4 .taken))
 
 pending-alike-requires : tie.Need-pending-alike-requires
 pending-alike-requires c κs =
     let event-fine = fine (untaken c) in
-    let start = begun event-fine in (
+    let from = begun event-fine in (
       search needs,
       (
         right (sized (stood event-fine)),
-        state-within (start .args .w) 1024 (bytes start) (state-passed (stood event-fine)) .1,
+        state-within (from .args .w) 1024 (bytes from) (state-passed (stood event-fine)) .1,
       ),
     )
 
@@ -202,10 +202,10 @@ unfolding conflicting alike
 sent-again-requires c κs =
     let looked = untaken (c .before) in
     let event-fine = fine looked in
-    let start = begun event-fine in
-    let a = start .args in
-    let within = state-within (a .w) 1024 (bytes start) (state-passed (stood event-fine)) in
-    let some = some-process (processCount (bytes start)) (a .mask) (a .clock) (a .labels) (within .0)
+    let from = begun event-fine in
+    let a = from .args in
+    let within = state-within (a .w) 1024 (bytes from) (state-passed (stood event-fine)) in
+    let some = some-process (processCount (bytes from)) (a .mask) (a .clock) (a .labels) (within .0)
     (mask-word (sized (stood event-fine))) (event-passed event-fine) in (
       search needs,
       (
