@@ -21,8 +21,8 @@ use Rattle.clocks.specs.stored.KeyLaws.{lowest-lt, lowest-involved}
 use Rattle.clocks.specs.stored.BoundedLaws.{and-l, and-r, all-e, any-i, any-of-i, any-of-e}
 use Rattle.clocks.specs.Counts.{at}
 use Rattle.clocks.specs.Refusal.{badMask, badClock, badLabels, eventFault}
-use Rattle.records.specs.Record.{processCount, pendingCount, takenCounts, pendingAt, pendingEvents, inserted, recordLength}
-use Rattle.refusals.specs.Refusals.{badRecordLength, badState, alreadyTaken, conflicts, conflicting}
+use Rattle.records.specs.Record.{processCount, pendingCount, closedMask, takenCounts, pendingAt, pendingEvents, inserted, recordLength}
+use Rattle.refusals.specs.Refusals.{badRecordLength, badState, namesClosed, alreadyTaken, conflicts, conflicting}
 use Rattle.answers.specs.Answer.{turnedBack, held, again, replyWord}
 use Rattle.call_offer.specs.Offer.{Offered, placeAmong, offeredEvent, offerCall}
 use Rattle.refusals.specs.RefusalLaws.{right-length}
@@ -41,6 +41,19 @@ event-first true b8 b9 x = refl
 event-first false true b9 x = refl
 event-first false false true x = refl
 event-first false false false x = refl
+
+-- The number of 42 and 31, where the event is turned back by one of them, and where it is not.
+pub processes-turn : (b42 b31 : Bool) (x n : ℕ) → n ≡ cond b42 42 (cond b31 31 0) → (n ≡ 0 → ⊥)
+    → n ≡ cond b42 42 (cond b31 31 x)
+processes-turn true b31 x n e h = e
+processes-turn false true x n e h = e
+processes-turn false false x n e h = absurd (h e)
+
+pub processes-pass : (b42 b31 : Bool) (x n : ℕ) → n ≡ cond b42 42 (cond b31 31 0) → n ≡ 0
+    → cond b42 42 (cond b31 31 x) ≡ x
+processes-pass true b31 x n e h = absurd (omega arith)
+processes-pass false true x n e h = absurd (omega arith)
+processes-pass false false x n e h = refl
 
 -- What an offer answers and leaves where it is turned back or is a repeat, by the reply word, and where it is accepted.
 pub turned : List ℕ → ℕ → Offered
@@ -62,10 +75,11 @@ turns w mask clock labels s =
     (turn (badMask k mask) 7
     (turn (badClock k mask clock) 8
     (turn (badLabels mask labels) 9
+    (turn (namesClosed (closedMask s) e) 42
     (turn (alreadyTaken e (at (takenCounts w s))) 31
     (turn (repeated e (pendingEvents w s)) 256
     (turn (conflicting e (pendingEvents w s)) 32
-    (turn (leb 32 (pendingCount s)) 33 end))))))))
+    (turn (leb 32 (pendingCount s)) 33 end)))))))))
 
 pub offer-by : (w mask : ℕ) (clock labels s : List ℕ)
     → offerCall w mask clock labels s
@@ -76,9 +90,9 @@ offer-by w mask clock labels s =
     let e = offeredEvent mask clock labels in
     let k = processCount s in
     rw (← event-first (badMask k mask) (badClock k mask clock) (badLabels mask labels)
-    (cond (alreadyTaken e (at (takenCounts w s))) 31 (pendingWord w e s)))
+    (cond (namesClosed (closedMask s) e) 42 (cond (alreadyTaken e (at (takenCounts w s))) 31 (pendingWord w e s))))
     (chosen-by (turns w mask clock labels s) (turned s) (accepted w e s)
-    (lit< tt, (lit< tt, (lit< tt, (lit< tt, (lit< tt, (lit< tt, (lit< tt, (lit< tt, (lit< tt, tt))))))))))
+    (lit< tt, (lit< tt, (lit< tt, (lit< tt, (lit< tt, (lit< tt, (lit< tt, (lit< tt, (lit< tt, (lit< tt, tt)))))))))))
 
 -- ---- A repeat conflicts
 
@@ -151,12 +165,13 @@ offer-passed w mask clock labels s h =
     let full : ℕ = cond (leb 32 (pendingCount s)) 33 0 in
     let conflict : ℕ = cond (conflicting e (pendingEvents w s)) 32 full in
     let taken : ℕ = cond (alreadyTaken e (at (takenCounts w s))) 31 (pendingWord w e s) in
+    let named : ℕ = cond (namesClosed (closedMask s) e) 42 taken in
     let fault : ℕ = eventFault (processCount s) mask clock labels in
-    let p = passed (badRecordLength w (length s)) 6 (cond (badState w 1024 s) 34 (cond (eqb fault 0) taken fault))
+    let p = passed (badRecordLength w (length s)) 6 (cond (badState w 1024 s) 34 (cond (eqb fault 0) named fault))
     (lit< tt) h in
-    let q = passed (badState w 1024 s) 34 (cond (eqb fault 0) taken fault) (lit< tt) (p .1) in
-    let r = passed (alreadyTaken e (at (takenCounts w s))) 31 (pendingWord w e s) (lit< tt)
-    (passed-event fault taken (q .1)) in
+    let q = passed (badState w 1024 s) 34 (cond (eqb fault 0) named fault) (lit< tt) (p .1) in
+    let o = passed (namesClosed (closedMask s) e) 42 taken (lit< tt) (passed-event fault named (q .1)) in
+    let r = passed (alreadyTaken e (at (takenCounts w s))) 31 (pendingWord w e s) (lit< tt) (o .1) in
     let t = passed (repeated e (pendingEvents w s)) 256 conflict (lit< tt) (r .1) in
     let u = passed (conflicting e (pendingEvents w s)) 32 full (lit< tt) (t .1) in (
       right-length w (length s) (p .0),

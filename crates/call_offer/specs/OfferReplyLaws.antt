@@ -16,7 +16,7 @@ record Tells (a : Answer) : Type 0 where
   turned-exactly : (n : ℕ) → (a ≡ turnedBack n 0) ↔ ((0 < n) × (replyWord a % 256 ≡ n))
   again-exactly : (a ≡ again) ↔ (replyWord a ≡ 256)
 
-turned-tells : (n : ℕ) → 0 < n → n < 35 → Tells (turnedBack n 0)
+turned-tells : (n : ℕ) → 0 < n → n < 43 → Tells (turnedBack n 0)
 unfolding replyWord
 turned-tells n some small = record {
   accepted-exactly = λ m.
@@ -56,7 +56,7 @@ replies-tell w mask clock labels s =
     }
   where
     go : (o : Offered) → Case w mask clock labels s o → Tells (o .answer)
-    go o (turned n some small q) = rw q (turned-tells n some small)
+    go o (turned n some small other q) = rw q (turned-tells n some small)
     go o (repeats h7 h q) = rw q again-tells
-    go o (accepted h7 h8 h9 h31 h32 h33 q) =
+    go o (accepted h7 h8 h9 h42 h31 h32 h33 q) =
         rw q (held-tells (pendingCount s + 1) (omega arith) (omega (arith, leb-false 32 (pendingCount s) h33)))

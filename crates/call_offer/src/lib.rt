@@ -1,5 +1,5 @@
-// Offer (01, The calls; 02 [1]): an event is added to the pending ones, in its place by lowest process and count; or it
-// is one of them already, or turned back.
+// Offer (01, The calls; 02 [1], [5]): an event is added to the pending ones, in its place by lowest process and count;
+// or it is one of them already, or turned back.
 
 use answers::AGAIN;
 use clocks::Event;
@@ -8,8 +8,10 @@ use numbers::limit::PENDING;
 use numbers::refusal::CONFLICT;
 use numbers::refusal::FULL;
 use numbers::refusal::LENGTH;
+use numbers::refusal::NAMED;
 use numbers::refusal::STATE;
 use numbers::refusal::TAKEN;
+use records::fields::closed_mask;
 use records::fields::pending_count;
 use records::fields::pending_event;
 use records::fields::process_count;
@@ -17,6 +19,7 @@ use records::fields::taken_counts;
 use refusals::already_taken;
 use refusals::bad_record_length;
 use refusals::bad_state;
+use refusals::names_closed;
 use repeats::pending_alike;
 use updates::insert_event;
 ghost use Prim.Native.Nat.{ℕ, _≤_, _<_, _^_};
@@ -77,6 +80,20 @@ fn sent_again(suspected: bool, record: &[u8], w: usize, e: Event) -> bool
     false
 }
 
+// The number that the processes of an event give an offer, in their order: 42 where one is closed, 31 where one's count
+// is taken; 0 for neither.
+fn process_word(closed: bool, taken: bool) -> u64
+    ensures { λ r. ⌜ r ≡ cond closed 42 (cond taken 31 0) ⌝ }
+{
+    if closed {
+        return NAMED;
+    }
+    if taken {
+        return TAKEN;
+    }
+    0
+}
+
 // The reply word that the pending events give an offer, in their order: again, or a refusal; 0 for neither.
 fn pending_word(again: bool, conflict: bool, full: bool) -> u64
     ensures { λ r. ⌜ r ≡ cond again 256 (cond conflict 32 (cond full 33 0)) ⌝ }
@@ -109,8 +126,11 @@ pub fn unaccepted_word(w: usize, mask: u64, clock: [u32; 8], labels: [u8; 8], re
         return fault;
     }
     let e = offered_event(mask, clock, labels);
-    if already_taken(e, taken_counts(record, w)) {
-        return TAKEN;
+    let closed = names_closed(e, closed_mask(record));
+    let taken = already_taken(e, taken_counts(record, w));
+    let number = process_word(closed, taken);
+    if number != 0 {
+        return number;
     }
     let conflict = pending_alike(record, w, e, false);
     let again = sent_again(conflict, record, w, e);

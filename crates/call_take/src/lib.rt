@@ -7,6 +7,7 @@ use numbers::refusal::FALSE_CLOCK;
 use numbers::refusal::LENGTH;
 use numbers::refusal::NO_ROOM;
 use numbers::refusal::STATE;
+use records::fields::closed_mask;
 use records::fields::kept_count;
 use records::fields::line_total;
 use records::fields::pending_event;
@@ -69,6 +70,7 @@ fn step_window(
     ensures frontiers { λ r. ⌜ frontiers w (now (window .exit)) kept ≡ stepped (settingIn w (now («record» .entry)) e) (frontiers w (now (window .entry)) n) ⌝ }
 {
     let k = process_count(record);
+    let closed = closed_mask(record) as u64;
     let lines = line_total(record);
     let reached = clocks::step::apply(e, taken_counts(record, w));
     let place = table_place(w);
@@ -77,7 +79,7 @@ fn step_window(
         n,
         kept,
         k,
-        closed: 0,
+        closed,
         event: e,
         reached,
         lines,

@@ -91,18 +91,18 @@ pub offer-fits : (w mask : ℕ) (clock labels s : List ℕ) → Fits (offerCall 
 offer-fits w mask clock labels s = go (offer-case w mask clock labels s)
   where
     go : OfferCase w mask clock labels s → Fits (offerCall w mask clock labels s .answer)
-    go (turned n some small q) = rw q (omega arith, omega arith, omega arith)
+    go (turned n some small other q) = rw q (omega arith, omega arith, omega arith)
     go (repeats h7 h q) = rw q tt
-    go (accepted h7 h8 h9 h31 h32 h33 q) = rw q (omega (arith, leb-false 32 (pendingCount s) h33))
+    go (accepted h7 h8 h9 h42 h31 h32 h33 q) = rw q (omega (arith, leb-false 32 (pendingCount s) h33))
 
 -- An offer is answered with a refusal, with "again", or with the number of pending events, which is not 0.
 pub offer-possible : (w mask : ℕ) (clock labels s counts : List ℕ) → Possible true counts (offerCall w mask clock labels s .answer)
 offer-possible w mask clock labels s counts = go (offer-case w mask clock labels s)
   where
     go : OfferCase w mask clock labels s → Possible true counts (offerCall w mask clock labels s .answer)
-    go (turned n some small q) = rw q some
+    go (turned n some small other q) = rw q some
     go (repeats h7 h q) = rw q refl
-    go (accepted h7 h8 h9 h31 h32 h33 q) = rw q (refl, omega arith)
+    go (accepted h7 h8 h9 h42 h31 h32 h33 q) = rw q (refl, omega arith)
 
 -- ---- Take
 

@@ -1,16 +1,23 @@
 -- The refusals' conditions, test by test, as the functions go through them.
 use Prim.Native.Nat.{ℕ, _+_, _≤_, _<_, _-_, _*_, _%_}
 use native.Mathlib.Omega.{arith}
-use mathlib.Core.Path.{_≡_, sym, _∙_}
-use mathlib.Core.Bool.{false, not, _||_, or-assoc}
+use mathlib.Core.Path.{_≡_, refl, sym, _∙_}
+use mathlib.Core.Bool.{Bool, true, false, not, _&&_, _||_, or-assoc, true≢false}
 use mathlib.Core.List.{List}
+use lib.Bits.{bitAnd}
 use lib.Dec.{ltb, eqb}
 use borrow.Author.Tests.{ltb-false, not-false, eqb-true, eqb-false}
+use Rattle.codec.specs.Bit.{bit}
+use Rattle.codec.specs.BitLaws.{bit-zero, bit-and, bits-none, bit-above}
+use Rattle.clocks.specs.declared.Event.{Event}
+use Rattle.clocks.specs.Event.{involved}
+use Rattle.clocks.specs.Bounded.{anyBelow}
 use Rattle.pactl.specs.Table.{goodTable}
 use Rattle.frontiers.specs.Bytes.{frontierLength}
 use Rattle.records.specs.Record.{processCount, lineTotal, pendingCount, keptCount, tableLines, recordLength}
-use Rattle.refusals.specs.Refusals.{badProcesses, badState, badRecordLength, badWindowLength, badNumbers, roomOf}
+use Rattle.refusals.specs.Refusals.{badProcesses, badState, badRecordLength, badWindowLength, badNumbers, roomOf, namesClosed}
 use Rattle.clocks.specs.stored.BoundedLaws.{or-false-e}
+use Rattle.clocks.specs.stored.BoundedTurns.{any-false-i, any-false-e}
 use native.Mathlib.Decide.{decLt}
 use native.Mathlib.Nat.{mul-le-mul-right, le-div-iff-mul-le}
 
@@ -79,3 +86,34 @@ room-few w n h = go (decLt 1024 (roomOf w n))
     go : Dec (1024 < roomOf w n) → roomOf w n ≤ 1024
     go (yes l) = absurd (omega (arith, short, mul-le-mul-right size l, room-within w (roomOf w n) n (omega arith)))
     go (no l) = omega arith
+
+-- ---- 42, of an offer
+
+-- An event names a closed process exactly where its mask and theirs have a common bit.
+pub named-by-mask : (closed : ℕ) (e : Event) → e .mask < 256
+    → not (eqb (bitAnd (e .mask) closed) 0) ≡ namesClosed closed e
+unfolding namesClosed involved
+named-by-mask closed e byte = go (eqb common 0) refl (anyBelow 8 both) refl
+  where
+    common : ℕ
+    common = bitAnd (e .mask) closed
+
+    both : ℕ → Bool
+    both p = bit (e .mask) p && bit closed p
+
+    -- Bit by bit, whether below 8 or above.
+    absent-bit : anyBelow 8 both ≡ false → (p : ℕ) → Dec (p < 8) → both p ≡ false
+    absent-bit h p (yes l) = any-false-e 8 both h p l
+    absent-bit h p (no l) = rw (bit-above (e .mask) 8 p byte (omega arith))
+
+    shared : (p : ℕ) → bit common p ≡ both p
+    shared p = bit-and (e .mask) closed p
+
+    go : (a : Bool) → eqb common 0 ≡ a → (b : Bool) → anyBelow 8 both ≡ b → not a ≡ b
+    go true h true q =
+        let none : (p : ℕ) → both p ≡ false = λ p. sym (shared p) ∙ rw (eqb-true common 0 h) (bit-zero p) in
+        absurd (true≢false (sym q ∙ any-false-i 8 both (λ p l. none p)))
+    go true h false q = refl
+    go false h true q = refl
+    go false h false q =
+        absurd (eqb-false common 0 h (bits-none common (λ p. shared p ∙ absent-bit q p (decLt p 8))))

@@ -1,4 +1,5 @@
-// What a call is turned back for by a record, a window or the state of a watch (01, Turned back: 6, 31, 32, 34).
+// What a call is turned back for by a record, a window or the state of a watch (01, Turned back: 6, 31, 32, 34; 02 [5]:
+// 42).
 
 use clocks::Event;
 use numbers::limit::FRONTIERS;
@@ -19,7 +20,7 @@ ghost use lib.ListN.{length};
 ghost use Rattle.clocks.specs.Counts.{at};
 ghost use Rattle.frontiers.specs.Width.{Width};
 ghost use Rattle.records.specs.Record.{recordLength};
-ghost use Rattle.refusals.specs.Refusals.{badRecordLength, badWindowLength, roomOf, badProcesses, badState, alreadyTaken, badNumbers};
+ghost use Rattle.refusals.specs.Refusals.{badRecordLength, badWindowLength, roomOf, badProcesses, badState, alreadyTaken, namesClosed, badNumbers};
 ghost use Rattle.refusals.specs.Refusals as conditions;
 
 // 6: a record of a wrong length.
@@ -130,6 +131,13 @@ pub fn already_taken(e: Event, taken: [u32; 8]) -> bool
         p += 1;
     }
     false
+}
+
+// 42, of an offer: the event names a closed process.
+pub fn names_closed(e: Event, closed: u32) -> bool
+    ensures { λ r. ⌜ r ≡ namesClosed closed e ⌝ }
+{
+    codec::and_words(e.mask as u64, closed as u64) != 0
 }
 
 // What 32 asks of one process: it takes part in both, with one count.

@@ -6,7 +6,7 @@ use mathlib.Core.Bool.{Bool, true, false, not, _&&_, _||_}
 use mathlib.Core.List.{List}
 use lib.Dec.{eqb}
 use borrow.Author.Tests.{ne-eqb}
-use Rattle.answers.specs.Answer.{Answer, turnedBack, state, nothingReady, held, again, found, absent}
+use Rattle.answers.specs.Answer.{Answer, turnedBack, state, nothingReady, held, again, found, absent, processClosed}
 use Rattle.replies.specs.declared.Reply.{Reply}
 use Rattle.replies.specs.Following.{accepted, takesAgain}
 use Rattle.replies.specs.Replies.{partsOf, Possible}
@@ -24,6 +24,7 @@ accepted-by (held n) r offered counts h e = rw (e, h .0, ne-eqb n 0 (omega arith
 accepted-by again r offered counts h e = rw (e, h)
 accepted-by (found i) r offered counts h e = absurd h
 accepted-by absent r offered counts h e = absurd h
+accepted-by (processClosed n) r offered counts h e = absurd h
 
 pub again-by : (a : Answer) (r : Reply) (counts : List ℕ) → Possible false counts a → r ≡ partsOf a
     → (eqb (r .number) 35 || (eqb (r .number) 0 && not (eqb (r .value) 0))) ≡ takesAgain a
@@ -42,3 +43,4 @@ again-by (held n) r counts h e = absurd (never (h .0))
 again-by again r counts h e = rw e
 again-by (found i) r counts h e = absurd h
 again-by absent r counts h e = absurd h
+again-by (processClosed n) r counts h e = absurd h

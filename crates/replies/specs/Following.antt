@@ -2,7 +2,7 @@
 use Prim.Native.Nat.{ℕ, _+_}
 use mathlib.Core.Bool.{Bool, true, false, cond}
 use lib.Dec.{eqb, leb}
-use Rattle.answers.specs.Answer.{Answer, turnedBack, state, nothingReady, held, again, found, absent}
+use Rattle.answers.specs.Answer.{Answer, turnedBack, state, nothingReady, held, again, found, absent, processClosed}
 
 -- A refusal.
 unfoldable pub refused : Answer → Bool
@@ -13,6 +13,7 @@ refused (held n) = false
 refused again = false
 refused (found i) = false
 refused absent = false
+refused (processClosed n) = false
 
 -- After an accepted offer the program takes until nothing is ready or 36: a take is followed by another exactly if an
 -- event was taken or left with 35.
@@ -24,6 +25,7 @@ takesAgain (held n) = false
 takesAgain again = false
 takesAgain (found i) = false
 takesAgain absent = false
+takesAgain (processClosed n) = false
 
 -- An event is offered and accepted: takes follow. After "again" none does (02 [1]).
 unfoldable pub accepted : Answer → Bool
@@ -34,6 +36,7 @@ accepted (held n) = true
 accepted again = false
 accepted (found i) = false
 accepted absent = false
+accepted (processClosed n) = false
 
 -- The stages: the line that comes next is the watch line (0), the rule's (1), the start labels' (2) or an event's (3);
 -- or the program is over (4).

@@ -3,7 +3,7 @@ use Prim.Native.Nat.{ℕ, _≤_, _<_}
 use mathlib.Core.Path.{_≡_}
 use mathlib.Core.Bool.{Bool, true, false}
 use mathlib.Core.List.{List}
-use Rattle.answers.specs.Answer.{Answer, turnedBack, state, nothingReady, held, again, found, absent}
+use Rattle.answers.specs.Answer.{Answer, turnedBack, state, nothingReady, held, again, found, absent, processClosed}
 use Rattle.replies.specs.declared.Reply.{Reply}
 
 -- A refusal's number and place, both 0 where there is none; the rule's truth; the frontiers kept or the events pending.
@@ -16,6 +16,7 @@ partsOf (held n) = record { number = 0; place = 0; holds = false; value = n }
 partsOf again = record { number = 0; place = 0; holds = true; value = 0 }
 partsOf (found i) = record { number = 0; place = 0; holds = true; value = i }
 partsOf absent = record { number = 0; place = 0; holds = false; value = 0 }
+partsOf (processClosed n) = record { number = 0; place = 0; holds = false; value = n }
 
 -- An answer's numbers are within the parts of a reply word, and no refusal has number 0.
 abbrev pub Fits : Answer → Type 0
@@ -26,10 +27,11 @@ Fits (held n) = n < 65536
 Fits again = Unit {0}
 Fits (found i) = i < 65536
 Fits absent = Unit {0}
+Fits (processClosed n) = n < 65536
 
 -- An answer to an offer (`true`), or to another line or a take (`false`), that left a record with these taken counts. A
 -- refusal's number is not 0, a state's counts are the record's and some frontier is kept, after an accepted offer an
--- event is pending. Find is never asked.
+-- event is pending. Find and close are never asked.
 abbrev pub Possible : Bool → List ℕ → Answer → Type 0
 Possible offered counts (turnedBack n place) = 1 ≤ n
 Possible offered counts (state taken truth kept) = (offered ≡ false) × (taken ≡ counts) × (1 ≤ kept)
@@ -38,3 +40,4 @@ Possible offered counts (held n) = (offered ≡ true) × (1 ≤ n)
 Possible offered counts again = offered ≡ true
 Possible offered counts (found i) = ⊥
 Possible offered counts absent = ⊥
+Possible offered counts (processClosed n) = ⊥

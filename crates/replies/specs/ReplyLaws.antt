@@ -6,7 +6,7 @@ use mathlib.Core.Bool.{Bool, true, false, cond, not}
 use mathlib.Core.List.{List}
 use lib.Dec.{eqb}
 use borrow.Author.Tests.{eq-eqb, ne-eqb}
-use Rattle.answers.specs.Answer.{Answer, turnedBack, state, nothingReady, held, again, found, absent, replyWord}
+use Rattle.answers.specs.Answer.{Answer, turnedBack, state, nothingReady, held, again, found, absent, processClosed, replyWord}
 use Rattle.replies.specs.declared.Reply.{Reply}
 use Rattle.replies.specs.Replies.{partsOf, Fits, Possible}
 use Rattle.replies.specs.Following.{refused}
@@ -31,6 +31,8 @@ word-parts (held n) h = parts (omega arith) (omega arith) (ne-eqb (65536 * n / 2
 word-parts again h = refl
 word-parts (found i) h = parts (omega arith) (omega arith) (eq-eqb ((256 + 65536 * i) / 256 % 2) 1 (omega arith)) (omega arith)
 word-parts absent h = refl
+word-parts (processClosed n) h =
+    parts (omega arith) (omega arith) (ne-eqb (65536 * n / 256 % 2) 1 (omega arith)) (omega arith)
 
 -- The answer that has these parts.
 unfoldable pub answerOf : Bool → List ℕ → Reply → Answer
@@ -48,6 +50,7 @@ known-by-parts offered counts (held n) r h e = rw (e, ne-eqb n 0 (omega arith), 
 known-by-parts offered counts again r h e = rw e
 known-by-parts offered counts (found i) r h e = absurd h
 known-by-parts offered counts absent r h e = absurd h
+known-by-parts offered counts (processClosed n) r h e = absurd h
 
 -- A refusal is known by its number.
 pub refused-by : (a : Answer) (r : Reply) → Fits a → r ≡ partsOf a → not (eqb (r .number) 0) ≡ refused a
@@ -59,3 +62,4 @@ refused-by (held n) r h e = rw e
 refused-by again r h e = rw e
 refused-by (found i) r h e = rw e
 refused-by absent r h e = rw e
+refused-by (processClosed n) r h e = rw e

@@ -5,7 +5,7 @@ use mathlib.Core.List.{List, [], _∷_, _++_}
 use lib.Dec.{ltb}
 use Rattle.clocks.specs.Counts.{at}
 use Rattle.rules.specs.Text.{ascii}
-use Rattle.answers.specs.Answer.{Answer, turnedBack, state, nothingReady, held, again, found, absent}
+use Rattle.answers.specs.Answer.{Answer, turnedBack, state, nothingReady, held, again, found, absent, processClosed}
 
 -- A number's decimal digits, without needless zeros, for a number of at most so many digits.
 unfoldable pub numeralOf : ℕ → ℕ → List ℕ
@@ -45,7 +45,7 @@ unfoldable pub stateText : List ℕ → ℕ → Bool → ℕ → List ℕ
 stateText counts k holds kept = ascii "(state (" ++ countsText counts k ++ verdictText holds ++ numeral kept ++ (41 ∷ 10 ∷ [])
 
 -- What is printed for an answer, where there are k processes. Nothing ready prints nothing; the program asks for no
--- place.
+-- place and closes no process.
 unfoldable pub answerText : ℕ → Answer → List ℕ
 answerText k (turnedBack n place) = refusedText n place
 answerText k (state counts truth kept) = stateText counts k truth kept
@@ -54,3 +54,4 @@ answerText k (held n) = heldText n
 answerText k again = againText
 answerText k (found i) = []
 answerText k absent = []
+answerText k (processClosed n) = []

@@ -4,6 +4,7 @@
 use clocks::Event;
 use frontiers::stored::counts_at;
 use lookup::order::counts_same;
+use records::fields::closed_mask;
 use records::fields::pending_count;
 use records::fields::pending_event;
 use records::fields::process_count;
@@ -49,8 +50,9 @@ pub fn kept_with(
     ensures { λ r. ⌜ Marked (settingIn w (now («record» .entry)) e) w (now (window .entry)) n (now (marks .exit)) ⌝ }
 {
     let k = process_count(record);
+    let closed = closed_mask(record) as u64;
     let reached = clocks::step::apply(e, taken_counts(record, w));
-    window::kept::count_after(window, marks, w, n, k, 0, e, reached)
+    window::kept::count_after(window, marks, w, n, k, closed, e, reached)
 }
 
 // So many frontiers fit where at most so many are allowed; none at all never fit.

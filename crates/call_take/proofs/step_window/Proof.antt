@@ -1,6 +1,6 @@
 -- The parameters of the step make the setting of the record (`setting-lent`).
 use Rattle.call_take.proofs.step_window.Tie as tie
-use Prim.Native.Nat.{ℕ, _-_}
+use Prim.Native.Nat.{ℕ, _<_, _-_}
 use native.Mathlib.Omega.{arith}
 use mathlib.Core.List.{List}
 use lib.ListN.{length, take, drop, length-take, length-drop}
@@ -22,13 +22,22 @@ use Rattle.trial.specs.SettingLaws.{setting-lent}
 abbrev start : tie.After-process-count → tie.Start
 start c = let lent = c .before .before in lent .before .before .before
 
-abbrev counted : tie.After-table-place → tie.After-process-count
-counted c = c .before .before .before .before
+abbrev counted : tie.After-line-total → tie.After-process-count
+counted c = c .before .before
+
+abbrev lined : tie.After-table-place → tie.After-line-total
+lined c = c .before .before .before
 
 -- ---- The needs
 
 process-count-requires : tie.Need-process-count-requires
 process-count-requires c κs = search needs
+
+closed-mask-requires : tie.Need-closed-mask-requires
+closed-mask-requires c κs = search needs
+
+cast-closed : tie.Need-cast-closed
+cast-closed c = search needs
 
 line-total-requires : tie.Need-line-total-requires
 line-total-requires c κs = search needs
@@ -38,7 +47,7 @@ taken-counts-requires c κs = search needs
 
 apply-requires : tie.Need-apply-requires
 unfolding readyIn
-apply-requires c κs = rw (c .taken-counts .ensures) (start (c .before .before) .pre .1 .1 .1 .1 .1 .1 .1 .0)
+apply-requires c κs = rw (c .taken-counts .ensures) (start (counted (c .before)) .pre .1 .1 .1 .1 .1 .1 .1 .0)
 
 table-place-requires : tie.Need-table-place-requires
 table-place-requires c κs = search needs
@@ -52,20 +61,33 @@ part-step-start c = search needs
 part-step-end : tie.Need-part-step-end
 part-step-end c = search needs
 
+-- The event's mask is a byte.
+small : (c : tie.Start) → c .args .e .mask < 256
+small c = omega arith
+
 -- The step's parameters make the record's setting.
-setting : (c : tie.After-table-place) → let a = start (counted c) .args in
-    settingIn (a .w) (now (a .«record»)) (a .e) ≡ settingWith (counted c .process-count .result) 0 (take (length (now (a .«record»)) - c .table-place .result) (drop (c .table-place .result) (now (a .«record»)))) (c .before .before .before .line-total .result) (a .e) (c .before .apply .result)
+setting : (c : tie.After-table-place) → let processes = counted (lined c) in
+    let a = start processes .args in
+    let s = now (a .«record») in
+    let place = c .table-place .result in
+    settingIn (a .w) s (a .e)
+    ≡ settingWith (processes .process-count .result) (lined c .before .closed-mask .result)
+    (take (length s - place) (drop place s)) (lined c .line-total .result) (a .e) (c .before .apply .result)
 setting c =
-    let a = start (counted c) .args in
-    let counts : c .before .apply .result ≡ listOf 8 (apply (a .e) (at (takenCounts (a .w) (now (a .«record»))))) =
-    c .before .apply .ensures ∙ ap (λ (l : List ℕ). listOf 8 (apply (a .e) (at l))) (c .before .before .taken-counts .ensures) in
-    setting-lent (a .w) (now (a .«record»)) (a .e) _ _ _ _ (omega arith) (counted c .process-count .ensures .0) (c .table-place .ensures .0) (c .before .before .before .line-total .ensures .0) counts
+    let processes = counted (lined c) in
+    let a = start processes .args in
+    let s = now (a .«record») in
+    let counts : c .before .apply .result ≡ listOf 8 (apply (a .e) (at (takenCounts (a .w) s))) =
+    c .before .apply .ensures
+    ∙ ap (λ (l : List ℕ). listOf 8 (apply (a .e) (at l))) (c .before .before .taken-counts .ensures) in
+    setting-lent (a .w) s (a .e) _ _ _ _ _ (small (start processes)) (processes .process-count .ensures .0)
+    (lined c .before .closed-mask .ensures .0) (c .table-place .ensures .0) (lined c .line-total .ensures .0) counts
 
 step-requires : tie.Need-step-requires
 step-requires c κs =
     let place = c .before .before .before in
-    let a = start (counted place) .args in
-    let asked = start (counted place) .pre in (
+    let a = start (counted (lined place)) .args in
+    let asked = start (counted (lined place)) .pre in (
       search needs,
       (
         asked .1 .1 .1 .1 .1 .1 .0,
@@ -80,7 +102,9 @@ step-requires c κs =
                 (
                   search needs,
                   (
-                    asked .1 .1 .1 .1 .1 .1 .1 .1 .0 ∙ ap (λ (t : Setting). keptAfter t (frontiers (a .w) (now (a .window)) (a .n))) (setting place),
+                    asked .1 .1 .1 .1 .1 .1 .1 .1 .0
+                        ∙ ap (λ (t : Setting). keptAfter t (frontiers (a .w) (now (a .window)) (a .n)))
+                        (setting place),
                     (asked .1 .1 .1 .1 .1 .1 .1 .1 .1 .0, rw (setting place) at (asked .1 .1 .1 .1 .1 .1 .1 .1 .1 .1)),
                   ),
                 ),
@@ -109,6 +133,8 @@ step-window-spec =
     tie.close
     (tie.spec
     process-count-requires
+    closed-mask-requires
+    cast-closed
     line-total-requires
     taken-counts-requires
     apply-requires

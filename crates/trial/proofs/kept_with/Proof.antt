@@ -2,7 +2,7 @@
 -- nor for their marks.
 use Rattle.trial.proofs.kept_with.Tie as tie
 use native.Mathlib.Omega.{arith}
-use mathlib.Core.Path.{_≡_, ap, _∙_}
+use mathlib.Core.Path.{_≡_, refl, ap, _∙_}
 use Prim.Native.Nat.{ℕ, _<_}
 use mathlib.Core.List.{List}
 use borrow.Author.Needs.{needs}
@@ -10,22 +10,34 @@ use denote.Ref.{now}
 use Rattle.trial.proofs.kept_with.Statement.{statement}
 use Rattle.clocks.specs.Event.{apply}
 use Rattle.clocks.specs.Counts.{at, listOf}
-use Rattle.records.specs.Record.{takenCounts, readyIn}
-use Rattle.trial.specs.SettingLaws.{setting-with}
+use Rattle.records.specs.Record.{lineTotal, tablePlace, takenCounts, readyIn}
+use Rattle.trial.specs.SettingLaws.{setting-lent}
 
--- The start of the walk.
+-- ---- Places in the walk: the start, where the processes are counted, and the step's counts
+
 abbrev start : tie.After-process-count → tie.Start
 start c = c .before .before .before .before
 
+abbrev counted : tie.After-taken-counts → tie.After-process-count
+counted c = c .before .before
+
+-- ---- The needs
+
 process-count-requires : tie.Need-process-count-requires
 process-count-requires c κs = search needs
+
+closed-mask-requires : tie.Need-closed-mask-requires
+closed-mask-requires c κs = search needs
+
+cast-closed : tie.Need-cast-closed
+cast-closed c = search needs
 
 taken-counts-requires : tie.Need-taken-counts-requires
 taken-counts-requires c κs = search needs
 
 apply-requires : tie.Need-apply-requires
 unfolding readyIn
-apply-requires c κs = rw (c .taken-counts .ensures) (start (c .before) .pre .1 .1 .1 .1 .0)
+apply-requires c κs = rw (c .taken-counts .ensures) (start (counted c) .pre .1 .1 .1 .1 .0)
 
 count-after-requires : tie.Need-count-after-requires
 count-after-requires c κs = search needs
@@ -37,22 +49,28 @@ same-length c = search needs
 small : (c : tie.Start) → c .args .e .mask < 256
 small c = omega arith
 
+-- The step's parameters make the record's setting, whatever the table.
 returns : tie.Need-returns
 returns c =
-    let b = c .before .before .before .before in
-    let k = b .before .before in
-    let a = start k .args in
-    let counts : b .apply .result ≡ listOf 8 (apply (a .e) (at (takenCounts (a .w) (now (a .«record»))))) =
-    b .apply .ensures ∙ ap (λ (l : List ℕ). listOf 8 (apply (a .e) (at l))) (b .before .taken-counts .ensures) in (
-      rw (setting-with (a .w) (now (a .«record»)) (a .e) (small (start k)), ← counts, ← (k .process-count .ensures .0)) (c .before .before .count-after .ensures .0 _ _),
-      rw (setting-with (a .w) (now (a .«record»)) (a .e) (small (start k)), ← counts, ← (k .process-count .ensures .0)) (c .before .before .count-after .ensures .1 .1 _ _),
-    )
+    let step = c .before .before .before .before in
+    let processes = counted (step .before) in
+    let closed = step .before .before .closed-mask in
+    let a = start processes .args in
+    let s = now (a .«record») in
+    let counts : step .apply .result ≡ listOf 8 (apply (a .e) (at (takenCounts (a .w) s))) =
+    step .apply .ensures ∙ ap (λ (l : List ℕ). listOf 8 (apply (a .e) (at l))) (step .before .taken-counts .ensures) in
+    let setting = setting-lent (a .w) s (a .e) _ _ (tablePlace (a .w)) (lineTotal s) _ (small (start processes))
+    (processes .process-count .ensures .0) (closed .ensures .0) refl refl counts in
+    let kept = c .before .before .count-after .ensures in
+    (rw setting (kept .0 _ _), rw setting (kept .1 .1 _ _))
 
 pub kept-with-spec : {M : Type 1} → statement M
 kept-with-spec =
     tie.close
     (tie.spec
     process-count-requires
+    closed-mask-requires
+    cast-closed
     taken-counts-requires
     apply-requires
     count-after-requires
