@@ -1,5 +1,5 @@
--- The answers of the calls, with 01's numbers and values (01, The calls; Turned back; 02 [1], [4], [5]), and the words that
--- C gets.
+-- The answers of the calls, with 01's numbers and values (01, The calls; Turned back; 02 [1], [4], [5]), and the words
+-- that C gets.
 use Prim.Native.Nat.{ℕ, _+_, _*_, _-_}
 use mathlib.Core.Bool.{Bool, true, false}
 use mathlib.Core.List.{List, map}

@@ -1,5 +1,5 @@
--- Offer (01, The calls; 02 [1], [5]): an event is added to the pending ones, in its place by lowest process and count; or it
--- is one of them already, or turned back.
+-- Offer (01, The calls; 02 [1], [5]): an event is added to the pending ones, in its place by lowest process and count;
+-- or it is one of them already, or turned back.
 use Prim.Native.Nat.{ℕ, suc, _+_, _%_}
 use mathlib.Core.Bool.{cond}
 use mathlib.Core.List.{List, [], _∷_}

@@ -19,7 +19,8 @@ use Rattle.call_offer.specs.Offer.{Offered, placeAmong, offeredEvent, of
 -- What it answers and leaves then.
 pub data Case (w mask : ℕ) (clock labels s : List ℕ) (o : Offered) : Type 0 where
   -- ... by a number below 43 that is not take's 35
-  turned : (n : ℕ) → 0 < n → n < 43 → eqb n 35 ≡ false → o ≡ record { answer = turnedBack n 0; bytes = s } → Case w mask clock labels s o
+  turned : (n : ℕ) → 0 < n → n < 43 → eqb n 35 ≡ false → o ≡ record { answer = turnedBack n 0; bytes = s }
+      → Case w mask clock labels s o
   repeats : badMask (processCount s) mask ≡ false → repeated (offeredEvent mask clock labels) (pendingEvents w s) ≡ true
       → o ≡ record { answer = again; bytes = s } → Case w mask clock labels s o
   accepted : badMask (processCount s) mask ≡ false → badClock (processCount s) mask clock ≡ false

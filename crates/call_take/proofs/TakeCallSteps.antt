@@ -39,7 +39,8 @@ module _ (w : ℕ) (s window scratch : List ℕ) where
   abbrev fault : ℕ
   fault = takeFault w s (length window) (length scratch)
 
-  take-by : takeCall w s window scratch ≡ cond (eqb fault 0) (takeWithin w (allowedOf w 1024 window) s window) (turned s window scratch fault)
+  take-by : takeCall w s window scratch
+      ≡ cond (eqb fault 0) (takeWithin w (allowedOf w 1024 window) s window) (turned s window scratch fault)
   unfolding takeCapped takeFault turned
   take-by =
       chosen-by (turn (badRecordLength w (length s) || (badWindowLength w (length window) || not (eqb (length scratch) (length window)))) 6 (turn (badState w (roomOf w (length window)) s) 34 end))

@@ -70,7 +70,8 @@ module _ (W : World) (valid : List Event → Event → Type 0) (ts : List Event)
         let w = filtered-e stay (R .cuts) S m in
         let c = R .kept S (w .0) .consistent in
         record { consistent = c; kept = stays-test S c .0 (w .1) };
-    complete = λ S k. filtered-i stay (R .cuts) S (R .complete S (was-kept S k)) (stays-test S (k .consistent) .1 (k .kept));
+    complete = λ S k.
+        filtered-i stay (R .cuts) S (R .complete S (was-kept S k)) (stays-test S (k .consistent) .1 (k .kept));
   }
     where
       stay : Cut → Bool

@@ -23,7 +23,8 @@ use Rattle.window.specs.Step.{keptBy}
 abbrev pub SilentFrom : ℕ → Cut → Type 0
 SilentFrom n S = (p : ℕ) → n ≤ p → S p ≡ 0
 
-module _ (n k closed : ℕ) (ts : List Event) (S : Cut) (silent : SilentFrom n S) (all-silent : SilentFrom n (taken ts)) where
+module _ (n k closed : ℕ) (ts : List Event) (S : Cut) (silent : SilentFrom n S)
+    (all-silent : SilentFrom n (taken ts)) where
   abbrev complete-at : ℕ → Bool
   complete-at p = not (bit closed p) && eqb (S p) (taken ts p)
 

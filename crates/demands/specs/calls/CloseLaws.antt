@@ -102,8 +102,8 @@ module _ (w k : ℕ) (table : List Line) (start : Cut) (R : Rule w k table start
 
   shaped : AllShaped w gs
   shaped =
-      all-shaped w (L .history) (causal-history w k table start R L bytes window X) (λ e m. X .storable e (inl m)) k closed′
-      table start (R .short) (R .labels-fit) gs closed-represents
+      all-shaped w (L .history) (causal-history w k table start R L bytes window X) (λ e m. X .storable e (inl m)) k
+      closed′ table start (R .short) (R .labels-fit) gs closed-represents
 
   fewer : length gs ≤ length (X .kept)
   fewer = filtered-fewer (staysIn world (L .history) closed′) (X .kept)
@@ -121,12 +121,15 @@ module _ (w k : ℕ) (table : List Line) (start : Cut) (R : Rule w k table start
   unfolding closeProcess
   closed-are =
       rw (says-closed w k table start R L bytes window X, read, remain)
-      (ap (λ (v : List ℕ). record { answer = processClosed (length gs); bytes = closedSet bytes closed′ (length gs); window = v })
+      (ap
+      (λ (v : List ℕ).
+      record { answer = processClosed (length gs); bytes = closedSet bytes closed′ (length gs); window = v })
       (ap (λ (v : List ℕ). replaced w v (length (X .kept)) gs) (X .window-is)
-      ∙ replaced-windowBytes w (length window) (X .kept) gs (kept-shaped w k table start R L bytes window X) shaped (X .room)
-      room))
+      ∙ replaced-windowBytes w (length window) (X .kept) gs (kept-shaped w k table start R L bytes window X) shaped
+      (X .room) room))
 
-  pub closed-watching : Watching w k table start shut (closedSet bytes closed′ (length gs)) (windowBytes w (length window) gs)
+  pub closed-watching : Watching w k table start shut (closedSet bytes closed′ (length gs))
+      (windowBytes w (length window) gs)
   closed-watching = record {
     kept = gs;
     bytes-are = ap (λ (s : List ℕ). closedSet s closed′ (length gs)) (X .bytes-are)
@@ -149,7 +152,8 @@ module _ (w k : ℕ) (table : List Line) (start : Cut) (R : Rule w k table start
     many = X .many;
     closed-below = closing-below (L .closed) p k (X .closed-below) (there .0);
     names-open = λ e m q b.
-        other-open (L .closed) p q (λ z. unnamed e m (subst (λ (x : ℕ). involved e x ≡ true) z b)) (X .names-open e m q b);
+        other-open (L .closed) p q (λ z. unnamed e m (subst (λ (x : ℕ). involved e x ≡ true) z b))
+        (X .names-open e m q b);
   }
     where
       long : length (windowBytes w (length window) gs) ≡ length window

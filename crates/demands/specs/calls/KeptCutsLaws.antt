@@ -58,7 +58,8 @@ module _ (k closed : ℕ) (ts : List Event) where
 
       pub represented-number : KeptNumber k closed ts (length fs)
       represented-number =
-          (R .cuts, represented-cuts, sym (ap length (R .are) ∙ length-map (R .cuts) (frontierOf (worldOf k closed table start) ts)))
+          let many = length-map (R .cuts) (frontierOf (worldOf k closed table start) ts) in
+          (R .cuts, represented-cuts, sym (ap length (R .are) ∙ many))
 
 -- With no process closed a cut is kept exactly if some process has all its taken events in it (01, The window).
 pub none-closed : (k : ℕ) → 0 < k → (ts : List Event) (S : Cut)

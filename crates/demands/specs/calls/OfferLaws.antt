@@ -65,7 +65,8 @@ module _ (w k : ℕ) (table : List Line) (start : Cut) (R : Rule w k table start
     labels-fit = passed .4;
   }
 
-  pub offered-faultless : badMask k mask ≡ false → badClock k mask clock ≡ false → badLabels mask labels ≡ false → Faultless k e
+  pub offered-faultless : badMask k mask ≡ false → badClock k mask clock ≡ false → badLabels mask labels ≡ false
+      → Faultless k e
   offered-faultless h7 h8 h9 =
       let m : mask < 2 ^ k = mask-fine k mask (passed .0) .0 h7 .1 in
       let q : mask % 256 ≡ mask = omega (arith, m, pow-mono (R .eight-processes)) in
@@ -80,7 +81,8 @@ module _ (w k : ℕ) (table : List Line) (start : Cut) (R : Rule w k table start
   offered-open : namesClosed (L .closed) e ≡ false → (p : ℕ) → p < 8 → involved e p ≡ true → Open (L .closed) p
   unfolding namesClosed
   offered-open h p l b =
-      let q : involved e p && bit (L .closed) p ≡ false = any-false-e 8 (λ x. involved e x && bit (L .closed) x) h p l in
+      let q : involved e p && bit (L .closed) p ≡ false =
+      any-false-e 8 (λ x. involved e x && bit (L .closed) x) h p l in
       rw b at q
 
   -- an event with a pending one's key has its count at a common process
@@ -116,7 +118,12 @@ module _ (w k : ℕ) (table : List Line) (start : Cut) (R : Rule w k table start
     i = placeAmong e (L .pending)
 
     abbrev with-event : Ledger
-    with-event = record { history = L .history; pending = insertAt i e (L .pending); falsified = L .falsified; closed = L .closed }
+    with-event = record {
+      history = L .history;
+      pending = insertAt i e (L .pending);
+      falsified = L .falsified;
+      closed = L .closed;
+    }
 
     free : length (L .pending) < 32
     free = leb-false 32 (length (L .pending)) (rw (says-many w k table start R L bytes window X) at h33)

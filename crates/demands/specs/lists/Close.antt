@@ -219,7 +219,7 @@ module _ (w k : ℕ) (f : Formula) (start : Cut) (Z : Watch) (S : Sound w k f st
 
   one-closed : (p q : ℕ) → Open (closing (L .closed) p) q ↔ ((q ≢ p) × Open (L .closed) q)
   one-closed p q = (
-    (λ h. ((λ e. let z : _≡_ {A = Bool} true false = sym shut-itself ∙ rw e at h in let y : _≡_ {A = ℕ} 0 1 = cc in omega arith), still-open (L .closed) p q h)),
+    (λ h. ((λ e. itself-not (rw e at h)), still-open (L .closed) p q h)),
     λ h. other-open (L .closed) p q (h .0) (h .1),
   )
     where
@@ -229,6 +229,11 @@ module _ (w k : ℕ) (f : Formula) (start : Cut) (Z : Watch) (S : Sound w k f st
 
       shut-itself : bit (closing (L .closed) p) p ≡ true
       shut-itself = rw (bit-or (L .closed) (2 ^ p) p, bit-power p) (either (bit (L .closed) p))
+
+      itself-not : Open (closing (L .closed) p) p → ⊥
+      itself-not h =
+          let z : _≡_ {A = Bool} true false = sym shut-itself ∙ h in
+          let y : _≡_ {A = ℕ} 0 1 = cc in omega arith
 
   -- ---- Offers
   shut-out-exactly : (mask : ℕ) (clock labels : List ℕ) → Passed w (offers mask clock labels)

@@ -38,10 +38,20 @@ pub record StopsAt (k allowed : ℕ) (L : Ledger) (e : Event) : Type 0 where
 
 -- The ledger with an event gone with a false clock, or taken, where these stay pending.
 abbrev pub falsifiedLedger : Ledger → Event → List Event → Ledger
-falsifiedLedger L e others = record { history = L .history; pending = others; falsified = e ∷ L .falsified; closed = L .closed }
+falsifiedLedger L e others = record {
+  history = L .history;
+  pending = others;
+  falsified = e ∷ L .falsified;
+  closed = L .closed;
+}
 
 abbrev pub chosenLedger : Ledger → Event → List Event → Ledger
-chosenLedger L e others = record { history = e ∷ L .history; pending = others; falsified = L .falsified; closed = L .closed }
+chosenLedger L e others = record {
+  history = e ∷ L .history;
+  pending = others;
+  falsified = L .falsified;
+  closed = L .closed;
+}
 
 -- 36: some pending event is ready, and all are passed over.
 abbrev pub NoRoom : ℕ → ℕ → Ledger → Type 0
@@ -53,8 +63,8 @@ NoRoom k allowed L =
 abbrev pub FalseClock : ℕ → ℕ → Ledger → Type 0
 FalseClock k allowed L = (e : Event) × StopsAt k allowed L e × (Valid (L .history) e → ⊥)
 
--- It stops at an event whose clock is true and with which the kept cuts are allowed, and answers the counts with it, the
--- rule's truth by source 000 at the cut of these counts, and the number of the kept cuts.
+-- It stops at an event whose clock is true and with which the kept cuts are allowed, and answers the counts with it,
+-- the rule's truth by source 000 at the cut of these counts, and the number of the kept cuts.
 pub record Takes (k allowed : ℕ) (f : Formula) (start : Cut) (L : Ledger) (counts : List ℕ) (truth : Bool) (kept : ℕ)
     : Type 0 where
   pub event : Event
@@ -76,9 +86,11 @@ abbrev pub nextLedger : ℕ → Watch → ℕ → ℕ → List ℕ → Ledger
 nextLedger w Z cap more scratch = after w (takes cap more scratch) Z .ledger
 
 -- The answers where the lengths are right.
-pub record AnswersExact (w k : ℕ) (f : Formula) (start : Cut) (Z : Watch) (cap more : ℕ) (scratch : List ℕ) : Type 0 where
+pub record AnswersExact (w k : ℕ) (f : Formula) (start : Cut) (Z : Watch) (cap more : ℕ) (scratch : List ℕ)
+    : Type 0 where
   pub nothing-exactly : (nextTake w Z cap more scratch .answer ≡ nothingReady) ↔ Settled (Z .ledger)
-  pub full-exactly : (nextTake w Z cap more scratch .answer ≡ turnedBack noRoomNumber 0) ↔ NoRoom k (allowedNext w Z cap more) (Z .ledger)
+  pub full-exactly : (nextTake w Z cap more scratch .answer ≡ turnedBack noRoomNumber 0)
+      ↔ NoRoom k (allowedNext w Z cap more) (Z .ledger)
   pub false-exactly : (nextTake w Z cap more scratch .answer ≡ turnedBack falseClockNumber 0)
       ↔ FalseClock k (allowedNext w Z cap more) (Z .ledger)
   pub state-exactly : (counts : List ℕ) (truth : Bool) (kept : ℕ)
@@ -107,7 +119,8 @@ pub record TakeExact (w k : ℕ) (f : Formula) (start : Cut) (Z : Watch) : Type 
   -- a take with none of these answers lowers the number of pending events by exactly 1, so that takes one after the
   -- other come to an end
   pub lowers : (cap more : ℕ) (scratch : List ℕ) → nextTake w Z cap more scratch .answer ≢ nothingReady
-      → nextTake w Z cap more scratch .answer ≢ turnedBack lengthNumber 0 → nextTake w Z cap more scratch .answer ≢ turnedBack noRoomNumber 0
+      → nextTake w Z cap more scratch .answer ≢ turnedBack lengthNumber 0
+      → nextTake w Z cap more scratch .answer ≢ turnedBack noRoomNumber 0
       → pendingCount (nextTake w Z cap more scratch .bytes) + 1 ≡ pendingCount (Z .bytes)
 
 abbrev pub TakeIsExact : Type 0
