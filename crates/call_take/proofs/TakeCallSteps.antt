@@ -12,7 +12,7 @@ use Rattle.frontiers.specs.Bytes.{frontierLength}
 use Rattle.records.specs.Record.{recordLength, processCount, lineTotal, pendingCount, keptCount}
 use Rattle.refusals.specs.Refusals.{badRecordLength, badWindowLength, roomOf, badState}
 use Rattle.answers.specs.Answer.{replyWord, turnedBack}
-use Rattle.call_take.specs.Take.{Taken, takeWithin, allowedOf, takeCall}
+use Rattle.call_take.specs.Take.{Taken, takeWithin, allowedOf, takeCapped, takeCall}
 use Rattle.refusals.specs.RefusalLaws.{right-length, state-within, room-within, room-few}
 use Rattle.answers.specs.Turns.{chosen-by, passed, end, turn}
 use Rattle.clocks.specs.stored.BoundedLaws.{or-false-e}

@@ -1,6 +1,7 @@
 -- What the calls answer is within the parts of a reply word, and possible with the record that they leave.
 use Prim.Native.Nat.{ℕ, _+_, _≤_, _<_}
 use native.Mathlib.Omega.{arith}
+use native.Mathlib.Nat.{min-le-left}
 use mathlib.Core.Path.{_≡_, refl, sym}
 use mathlib.Core.Logic.{inl, inr}
 use mathlib.Core.Bool.{Bool, true, false, not, cond, _||_}
@@ -18,9 +19,9 @@ use Rattle.frontiers.specs.declared.Frontier.{Frontier}
 use Rattle.frontiers.specs.Bytes.{frontiers}
 use Rattle.window.specs.Step.{fits, keptAfter}
 use Rattle.window.specs.SteppedCount.{stepped-many}
-use Rattle.refusals.specs.RefusalLaws.{right-length, room-few}
+use Rattle.refusals.specs.RefusalLaws.{right-length}
 use Rattle.trial.specs.Trial.{validAmong, settingIn, undecided, false-clock, chosen as takes, tried}
-use Rattle.call_take.specs.Take.{Taken, decided, takeWithin, takeCall}
+use Rattle.call_take.specs.Take.{Taken, decided, takeWithin, allowedOf, takeCapped, takeCall}
 use Rattle.trial.specs.TrialLaws.{Outcome, outcome, none-decides, falsifies, chooses}
 use Rattle.program.specs.TakenCountsLaws.{first-taken, counted-taken}
 use Rattle.rules.specs.Fault.{Fault}
@@ -162,7 +163,7 @@ module _ (w room : ℕ) (s window : List ℕ) (b : Bytes s) (long : length s ≡
 
 -- A take of whatever bytes.
 pub take-told : (w : ℕ) (s window scratch : List ℕ) → Bytes s → TakeTold w (takeCall w s window scratch)
-unfolding takeCall
+unfolding takeCapped
 take-told w s window scratch bytes =
     let by = chosen (TakeTold w) in
     let turned : ℕ → Taken = λ n. record { answer = turnedBack n 0; bytes = s; window = window; scratch = scratch } in
@@ -172,5 +173,4 @@ take-told w s window scratch bytes =
     by (badRecordLength w (length s) || wrong) (turned 6) _ (back 6 (omega arith) (omega arith)) λ right.
     by (badState w room s) (turned 34) _ (back 34 (omega arith) (omega arith)) λ _.
     let r = or-false-e (badRecordLength w (length s)) wrong right in
-    let few = room-few w (length window) (or-false-e (badWindowLength w (length window)) _ (r .1) .0) in
-    within-told w room s window bytes (right-length w (length s) (r .0)) few
+    within-told w (allowedOf w 1024 window) s window bytes (right-length w (length s) (r .0)) (min-le-left 1024 room)
