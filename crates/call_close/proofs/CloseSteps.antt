@@ -1,7 +1,7 @@
 -- Close from its lengths on: what turns it back, what is known where nothing does, and what its parts make up.
 use Prim.Native.Nat.{ℕ, _*_, _≤_, _<_}
 use native.Mathlib.Omega.{arith}
-use mathlib.Core.Path.{_≡_, refl, _∙_}
+use mathlib.Core.Path.{_≡_, _∙_}
 use mathlib.Core.Bool.{false, cond, _||_}
 use mathlib.Core.List.{List}
 use lib.Dec.{leb, eqb, lit<}
@@ -12,7 +12,7 @@ use Rattle.clocks.specs.stored.BoundedLaws.{or-false-e}
 use Rattle.frontiers.specs.declared.Frontier.{Frontier}
 use Rattle.frontiers.specs.Bytes.{frontierLength, frontiers, replaced}
 use Rattle.frontiers.specs.WindowLaws.{length-frontiers}
-use Rattle.records.specs.Record.{recordLength, processCount, closedMask, pendingCount, keptCount, takenCounts, pendingEvents, closedSet}
+use Rattle.records.specs.Record.{recordLength, processCount, closedMask, keptCount, takenCounts, pendingEvents, closedSet}
 use Rattle.refusals.specs.Refusals.{badRecordLength, badWindowLength, roomOf, badState, notOpen, namedBy}
 use Rattle.refusals.specs.RefusalLaws.{right-length, state-within, room-within}
 use Rattle.answers.specs.Answer.{replyWord, turnedBack}

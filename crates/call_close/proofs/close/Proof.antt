@@ -1,15 +1,14 @@
+-- Turned back, or the process closed: the laws `close-turned`, `close-goes` and `close-fit`.
+use Rattle.call_close.proofs.close.Tie as tie
 use native.Mathlib.Omega.{arith}
-use mathlib.Core.Path.{_≡_, refl, sym, ap, _∙_}
-use Prim.Native.Nat.{ℕ, _≤_, _<_, _-_, _+_, _*_}
-use mathlib.Core.List.{List, _++_}
-use lib.ListN.{length, getD, take, drop, set, length-set}
-use mathlib.Core.Logic.{⊎-elim}
+use mathlib.Core.Path.{_≡_, sym, _∙_}
+use Prim.Native.Nat.{_-_}
+use lib.ListN.{length}
 use borrow.Author.Needs.{needs}
 use denote.Ref.{now}
 use Rattle.call_close.specs.CloseCode.{closeFault}
 use Rattle.call_close.proofs.CloseSteps.{Fit, close-turned, close-goes, close-fit}
 use Rattle.call_close.proofs.close.Statement.{statement}
-use Rattle.call_close.proofs.close.Tie as tie
 
 -- ---- Places in the walk: the start, and where nothing turns the call back
 

@@ -1,16 +1,15 @@
+-- What was read of the record, the frontiers dropped by it, and the two fields stored: the law `closed-by`.
+use Rattle.call_close.proofs.close_process.Tie as tie
 use native.Mathlib.Omega.{arith}
 use mathlib.Core.Path.{ap, subst⁻¹, _∙_}
-use Prim.Native.Nat.{ℕ, _≤_, _<_, _-_, _+_, _*_}
-use mathlib.Core.List.{List, _++_}
-use lib.ListN.{length, getD, take, drop, set, length-set}
-use mathlib.Core.Logic.{⊎-elim}
+use Prim.Native.Nat.{ℕ, _≤_, _-_, _*_}
+use lib.ListN.{length}
 use borrow.Author.Needs.{needs}
 use denote.Ref.{now}
 use Rattle.frontiers.specs.Bytes.{frontierLength}
 use Rattle.call_close.specs.Close.{closing}
 use Rattle.call_close.proofs.CloseSteps.{closed-by}
 use Rattle.call_close.proofs.close_process.Statement.{statement}
-use Rattle.call_close.proofs.close_process.Tie as tie
 
 -- ---- Places in the walk: the start, when the number kept is read, the taken counts, the mask, and when the others
 -- are dropped
@@ -84,13 +83,13 @@ returns c =
     let counts = counts-read masked in
     let kept = kept-read counts in
     let a = start kept .args in
+    let k = counts .before .before .process-count in
     let closed = masked .with-process in
     let mask = closed .ensures .0 ∙ ap (λ (m : ℕ). closing m (a .p)) (masked .before .closed-mask .ensures .0) in
     let law =
-    closed-by (a .w) (a .p) (now (a .«record»)) (now (a .window)) (kept .kept-count .result)
-    (counts .before .before .process-count .result) (closed .result) (d .drop-others .result) (counts .taken-counts .result)
-    (kept .kept-count .ensures) (counts .before .before .process-count .ensures .0) mask (counts .taken-counts .ensures)
-    (d .drop-others .ensures .1 .0) in
+    closed-by (a .w) (a .p) (now (a .«record»)) (now (a .window)) (kept .kept-count .result) (k .result) (closed .result)
+    (d .drop-others .result) (counts .taken-counts .result) (kept .kept-count .ensures) (k .ensures .0) mask
+    (counts .taken-counts .ensures) (d .drop-others .ensures .1 .0) in
     (law .0, (c .before .before .set-closed .ensures ∙ law .1, d .drop-others .ensures .1 .1 ∙ law .2))
 
 pub close-process-spec : {M : Type 1} → statement M

@@ -1,14 +1,12 @@
+-- The two stores that the definition has.
+use Rattle.call_close.proofs.set_closed.Tie as tie
 use native.Mathlib.Omega.{arith}
-use mathlib.Core.Path.{_≡_, refl, sym, ap, _∙_}
-use Prim.Native.Nat.{ℕ, _≤_, _<_, _-_, _+_, _*_}
-use mathlib.Core.List.{List, _++_}
-use lib.ListN.{length, getD, take, drop, set, length-set}
-use mathlib.Core.Logic.{⊎-elim}
+use Prim.Native.Nat.{_-_}
+use lib.ListN.{length-set}
 use borrow.Author.Needs.{needs}
 use denote.Ref.{now}
 use Rattle.records.specs.Record.{closedSet}
 use Rattle.call_close.proofs.set_closed.Statement.{statement}
-use Rattle.call_close.proofs.set_closed.Tie as tie
 
 cast-record : tie.Need-cast-record
 cast-record c = search needs

@@ -1,9 +1,10 @@
+-- No pending event passed names the process; the first that does decides: the laws `search-next`, `search-here`,
+-- `search-none`.
+use Rattle.call_close.proofs.refused.named_by.Tie as tie
 use native.Mathlib.Omega.{arith}
 use mathlib.Core.Path.{_≡_, refl, sym, ap, _∙_}
-use Prim.Native.Nat.{ℕ, _≤_, _<_, _-_, _+_, _*_}
-use mathlib.Core.List.{List, _++_}
-use lib.ListN.{length, getD, take, drop, set, length-set}
-use mathlib.Core.Logic.{⊎-elim}
+use Prim.Native.Nat.{ℕ, _≤_, _-_}
+use lib.ListN.{getD}
 use borrow.Author.Needs.{needs}
 use denote.Ref.{now}
 use Rattle.codec.specs.Bit.{bit}
@@ -13,7 +14,6 @@ use Rattle.records.specs.Record.{pendingCount, pendingAt, pendingEvents}
 use Rattle.records.specs.RecordLaws.{event-within}
 use Rattle.refusals.specs.Refusals.{namedBy}
 use Rattle.call_close.proofs.refused.named_by.Statement.{statement}
-use Rattle.call_close.proofs.refused.named_by.Tie as tie
 
 abbrev Inv-loop : tie.InvT-loop
 Inv-loop s w p n i₀ i =

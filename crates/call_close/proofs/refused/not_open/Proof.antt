@@ -1,14 +1,12 @@
+-- The process is not one of k, or its bit decides.
+use Rattle.call_close.proofs.refused.not_open.Tie as tie
 use native.Mathlib.Omega.{arith}
-use mathlib.Core.Path.{_≡_, refl, sym, ap, _∙_}
-use Prim.Native.Nat.{ℕ, _≤_, _<_, _-_, _+_, _*_}
-use mathlib.Core.List.{List, _++_}
-use lib.ListN.{length, getD, take, drop, set, length-set}
-use mathlib.Core.Logic.{⊎-elim}
+use mathlib.Core.Path.{sym}
+use Prim.Native.Nat.{_-_}
 use borrow.Author.Needs.{needs}
 use borrow.Author.Tests.{le-leb, lt-leb}
 use Rattle.refusals.specs.Refusals.{notOpen}
 use Rattle.call_close.proofs.refused.not_open.Statement.{statement}
-use Rattle.call_close.proofs.refused.not_open.Tie as tie
 
 returns : tie.Need-returns
 unfolding notOpen

@@ -1,9 +1,9 @@
+-- Those that stay, then zeros where there were more: the law `cleared-behind`.
+use Rattle.call_close.proofs.staying.drop_others.Tie as tie
 use native.Mathlib.Omega.{arith}
-use mathlib.Core.Path.{_≡_, refl, sym, ap, _∙_}
-use Prim.Native.Nat.{ℕ, _≤_, _<_, _-_, _+_, _*_}
-use mathlib.Core.List.{List, _++_}
-use lib.ListN.{length, getD, take, drop, set, length-set}
-use mathlib.Core.Logic.{⊎-elim}
+use mathlib.Core.Path.{_∙_}
+use Prim.Native.Nat.{_≤_, _-_, _*_}
+use lib.ListN.{length}
 use native.Mathlib.Nat.{mul-le-mul-right}
 use borrow.Author.Needs.{needs}
 use denote.Ref.{now}
@@ -12,7 +12,6 @@ use Rattle.frontiers.specs.WindowLaws.{left-within}
 use Rattle.call_close.specs.CloseCode.{staying}
 use Rattle.call_close.proofs.StayingSteps.{cleared-behind}
 use Rattle.call_close.proofs.staying.drop_others.Statement.{statement}
-use Rattle.call_close.proofs.staying.drop_others.Tie as tie
 
 -- ---- Places in the walk: the start, when those that stay are moved, and when what is left is measured
 

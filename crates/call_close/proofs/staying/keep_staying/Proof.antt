@@ -1,13 +1,14 @@
+-- Those that stay among the frontiers passed are laid together, and the next is read as it was, since they end before
+-- it: the laws `read-here`, `laid-next` and `laid-passed`.
+use Rattle.call_close.proofs.staying.keep_staying.Tie as tie
 use native.Mathlib.Omega.{arith}
-use mathlib.Core.Path.{_≡_, refl, sym, ap, _∙_}
+use mathlib.Core.Path.{_≡_, sym, ap, _∙_}
 use Prim.Native.Nat.{ℕ, _≤_, _<_, _-_, _+_, _*_}
-use mathlib.Core.Bool.{Bool, true, false}
-use mathlib.Core.List.{List, []}
-use lib.ListN.{length, getD, take, drop, set, length-set}
+use mathlib.Core.Bool.{Bool}
+use lib.ListN.{length, getD}
 use mathlib.Core.Logic.{⊎-elim}
 use borrow.Author.Needs.{needs}
 use denote.Ref.{now}
-use lib.Seq.{sets}
 use Rattle.frontiers.specs.declared.Frontier.{Frontier}
 use Rattle.frontiers.specs.Bytes.{frontierLength, frontierAt}
 use Rattle.frontiers.specs.WindowLaws.{place-within}
@@ -15,7 +16,6 @@ use Rattle.window.specs.StepCode.{staysWith}
 use Rattle.call_close.specs.CloseCode.{staying}
 use Rattle.call_close.proofs.StayingSteps.{Laid, laid-none, read-here, laid-next, laid-passed}
 use Rattle.call_close.proofs.staying.keep_staying.Statement.{statement}
-use Rattle.call_close.proofs.staying.keep_staying.Tie as tie
 
 abbrev Inv-loop : tie.InvT-loop
 Inv-loop window₀ w n k closed reached opens m₀ i₀ window m i =
@@ -52,7 +52,8 @@ settle-requires : tie.Need-settle-requires Inv-loop μ-loop
 settle-requires c κs =
     let h = head (c .before .before .before) in
     let a = start h .args in
-    (search needs, ((search needs, omega (arith, place-within (h .loop .i) (a .n) (a .w) (search needs))), search needs))
+    let room = place-within (h .loop .i) (a .n) (a .w) (search needs) in
+    (search needs, ((search needs, omega (arith, room)), search needs))
 
 add-m : tie.Need-add-m Inv-loop μ-loop
 add-m c = search needs

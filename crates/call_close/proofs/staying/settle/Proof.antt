@@ -1,9 +1,8 @@
+-- A frontier that stands there already is as good as moved; another is moved by the law `moved-to`.
+use Rattle.call_close.proofs.staying.settle.Tie as tie
 use native.Mathlib.Omega.{arith}
-use mathlib.Core.Path.{_≡_, refl, sym, ap, _∙_}
-use Prim.Native.Nat.{ℕ, _≤_, _<_, _-_, _+_, _*_}
-use mathlib.Core.List.{List, _++_}
-use lib.ListN.{length, getD, take, drop, set, length-set}
-use mathlib.Core.Logic.{⊎-elim}
+use mathlib.Core.Path.{_≡_, sym, _∙_}
+use Prim.Native.Nat.{_-_, _+_, _*_}
 use native.Mathlib.Nat.{mul-le-mul-right}
 use borrow.Author.Needs.{needs}
 use denote.Ref.{now}
@@ -11,7 +10,6 @@ use Rattle.codec.specs.SetsLaws.{sets-same}
 use Rattle.frontiers.specs.Bytes.{frontierLength}
 use Rattle.call_close.proofs.StayingSteps.{moved-to}
 use Rattle.call_close.proofs.staying.settle.Statement.{statement}
-use Rattle.call_close.proofs.staying.settle.Tie as tie
 
 -- The start, from where a frontier's length is known, and that place, from the move.
 abbrev start : tie.After-frontier-length → tie.Start
