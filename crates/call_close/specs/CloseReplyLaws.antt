@@ -3,12 +3,15 @@ use Prim.Native.Nat.{ℕ, _≤_, _<_}
 use native.Mathlib.Omega.{arith}
 use mathlib.Core.Path.{_≡_}
 use mathlib.Core.List.{List}
-use mathlib.Core.Bool.{false, _||_}
+use mathlib.Core.Bool.{Bool, false, _||_}
 use lib.ListN.{length}
+use Rattle.clocks.specs.Counts.{at}
+use Rattle.frontiers.specs.declared.Frontier.{Frontier}
 use Rattle.frontiers.specs.Bytes.{frontiers}
 use Rattle.frontiers.specs.WindowLaws.{length-frontiers}
+use Rattle.window.specs.Step.{keptBy}
 use Rattle.window.specs.Lists.{length-filtered}
-use Rattle.records.specs.Record.{processCount, closedMask, keptCount, pendingEvents}
+use Rattle.records.specs.Record.{processCount, closedMask, keptCount, takenCounts, pendingEvents}
 use Rattle.refusals.specs.Refusals.{badRecordLength, badWindowLength, roomOf, badState, notOpen, namedBy}
 use Rattle.refusals.specs.RefusalLaws.{state-within}
 use Rattle.answers.specs.Answer.{turnedBack, processClosed, replyWord}
@@ -38,7 +41,8 @@ pub few-remain : (w : ℕ) (s : List ℕ) (closed : ℕ) (window : List ℕ) (n 
     → length (remaining w s closed (frontiers w window n)) ≤ n
 unfolding remaining
 few-remain w s closed window n =
-    omega (arith, length-filtered _ (frontiers w window n), length-frontiers w window n)
+    let stay : Frontier → Bool = λ f. keptBy 8 (processCount s) closed (at (takenCounts w s)) (at (f .counts)) in
+    omega (arith, length-filtered stay (frontiers w window n), length-frontiers w window n)
 
 process-told : (w p : ℕ) (s window : List ℕ) → badState w (roomOf w (length window)) s ≡ false
     → Told (closeProcess w p s window .answer)
@@ -51,11 +55,11 @@ pub replies-tell : RepliesTell
 unfolding closeCall
 replies-tell w p s window =
     let back : (n : ℕ) → Closed = λ n. record { answer = turnedBack n 0; bytes = s; window = window } in
-    let Told-of : Closed → Type 0 = λ c. Told (c .answer) in
-    let told : (n : ℕ) → 0 < n → n < 256 → Told-of (back n) = λ n some small. turned-told n some small in
+    let P : Closed → Type 0 = λ c. Told (c .answer) in
+    let told : (n : ℕ) → 0 < n → n < 256 → P (back n) = λ n some small. turned-told n some small in
     let six = badRecordLength w (length s) || badWindowLength w (length window) in
-    by-test Told-of six (back 6) _ (λ _. told 6 (omega arith) (omega arith)) λ _.
-    by-test Told-of (badState w (roomOf w (length window)) s) (back 34) _ (λ _. told 34 (omega arith) (omega arith)) λ good.
-    by-test Told-of (notOpen (processCount s) (closedMask s) p) (back 41) _ (λ _. told 41 (omega arith) (omega arith)) λ _.
-    by-test Told-of (namedBy p (pendingEvents w s)) (back 42) _ (λ _. told 42 (omega arith) (omega arith)) λ _.
+    by-test P six (back 6) _ (λ _. told 6 (omega arith) (omega arith)) λ _.
+    by-test P (badState w (roomOf w (length window)) s) (back 34) _ (λ _. told 34 (omega arith) (omega arith)) λ good.
+    by-test P (notOpen (processCount s) (closedMask s) p) (back 41) _ (λ _. told 41 (omega arith) (omega arith)) λ _.
+    by-test P (namedBy p (pendingEvents w s)) (back 42) _ (λ _. told 42 (omega arith) (omega arith)) λ _.
     process-told w p s window good
