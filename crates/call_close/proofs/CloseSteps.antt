@@ -10,7 +10,7 @@ use borrow.Author.Tests.{ne-eqb, eq-eqb, leb-false}
 use Rattle.codec.specs.Bit.{bit}
 use Rattle.clocks.specs.stored.BoundedLaws.{or-false-e}
 use Rattle.frontiers.specs.declared.Frontier.{Frontier}
-use Rattle.frontiers.specs.Bytes.{frontierLength, frontiers, replaced}
+use Rattle.frontiers.specs.Bytes.{frontierLength, replaced}
 use Rattle.frontiers.specs.WindowLaws.{length-frontiers}
 use Rattle.records.specs.Record.{recordLength, processCount, closedMask, keptCount, takenCounts, pendingEvents, closedSet}
 use Rattle.refusals.specs.Refusals.{badRecordLength, badWindowLength, roomOf, badState, notOpen, namedBy}
@@ -82,7 +82,7 @@ module _ (w p : ℕ) (s window : List ℕ) where
   -- The parts of a close: the frontiers dropped, by what was read of the record.
   module _ (n k closed kept : ℕ) (reached : List ℕ) where
     abbrev gs : List Frontier
-    gs = staying k closed reached (frontiers w window n)
+    gs = staying w k closed reached window n
 
     pub closed-by : n ≡ keptCount s → k ≡ processCount s → closed ≡ closing (closedMask s) p → reached ≡ takenCounts w s
         → kept ≡ length gs

@@ -1,10 +1,12 @@
--- What the code of close keeps to: the number that it is turned back with, and the frontiers that stay, by their counts
--- alone.
-use Prim.Native.Nat.{ℕ}
+-- What the code of close keeps to: the number that it is turned back with, the frontiers that stay, by their counts
+-- alone, and one of them moved.
+use Prim.Native.Nat.{ℕ, _*_}
 use mathlib.Core.Bool.{cond, _||_}
 use mathlib.Core.List.{List}
-use lib.ListN.{length}
+use lib.ListN.{length, take, drop}
+use lib.Seq.{sets}
 use Rattle.frontiers.specs.declared.Frontier.{Frontier}
+use Rattle.frontiers.specs.Bytes.{frontierLength, frontiers}
 use Rattle.window.specs.Step.{filtered}
 use Rattle.window.specs.StepCode.{staysWith}
 use Rattle.records.specs.Record.{processCount, closedMask, pendingEvents}
@@ -18,6 +20,11 @@ closeFault w p s n =
     (cond (notOpen (processCount s) (closedMask s) p) 41
     (cond (namedBy p (pendingEvents w s)) 42 0)))
 
--- The frontiers that stay, in their order: k processes, which are closed, and the taken counts.
-abbrev pub staying : ℕ → ℕ → List ℕ → List Frontier → List Frontier
-staying k closed reached fs = filtered (λ f. staysWith k closed reached (f .counts)) fs
+-- Those of a window's first n frontiers that stay, in their order: k processes, which are closed, and the taken counts.
+abbrev pub staying : ℕ → ℕ → ℕ → List ℕ → List ℕ → ℕ → List Frontier
+staying w k closed reached window n = filtered (λ f. staysWith k closed reached (f .counts)) (frontiers w window n)
+
+-- The window with frontier number i moved to place m.
+abbrev pub movedTo : ℕ → List ℕ → ℕ → ℕ → List ℕ
+movedTo w window i m =
+    sets window (m * frontierLength w) (take (frontierLength w) (drop (i * frontierLength w) window))

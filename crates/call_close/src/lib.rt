@@ -46,8 +46,10 @@ fn close_process(w: usize, p: u32, record: &mut [u8], window: &mut [u8]) -> u64
     requires { ⌜ processCount (now «record») ≤ 8 ⌝ }
     requires { ⌜ RoomFor w (keptCount (now «record»)) (now window) ⌝ }
     ensures reply { λ r. ⌜ r ≡ replyWord (closeProcess w p (now («record» .entry)) (now (window .entry)) .answer) ⌝ }
-    ensures bytes { λ r. ⌜ now («record» .exit) ≡ closeProcess w p (now («record» .entry)) (now (window .entry)) .bytes ⌝ }
-    ensures window { λ r. ⌜ now (window .exit) ≡ closeProcess w p (now («record» .entry)) (now (window .entry)) .window ⌝ }
+    ensures bytes { λ r. ⌜ now («record» .exit)
+        ≡ closeProcess w p (now («record» .entry)) (now (window .entry)) .bytes ⌝ }
+    ensures window { λ r. ⌜ now (window .exit)
+        ≡ closeProcess w p (now («record» .entry)) (now (window .entry)) .window ⌝ }
 {
     let n = kept_count(record) as usize;
     let k = process_count(record);
@@ -63,8 +65,10 @@ fn close_process(w: usize, p: u32, record: &mut [u8], window: &mut [u8]) -> u64
 pub fn close(w: usize, process: u64, record: &mut [u8], window: &mut [u8]) -> u64
     requires { ⌜ Width w ⌝ }
     ensures reply { λ r. ⌜ r ≡ replyWord (closeCall w process (now («record» .entry)) (now (window .entry)) .answer) ⌝ }
-    ensures bytes { λ r. ⌜ now («record» .exit) ≡ closeCall w process (now («record» .entry)) (now (window .entry)) .bytes ⌝ }
-    ensures window { λ r. ⌜ now (window .exit) ≡ closeCall w process (now («record» .entry)) (now (window .entry)) .window ⌝ }
+    ensures bytes { λ r. ⌜ now («record» .exit)
+        ≡ closeCall w process (now («record» .entry)) (now (window .entry)) .bytes ⌝ }
+    ensures window { λ r. ⌜ now (window .exit)
+        ≡ closeCall w process (now («record» .entry)) (now (window .entry)) .window ⌝ }
 {
     let fault = close_fault(w, process, record, window.len());
     if fault != 0 {

@@ -7,21 +7,21 @@ use frontiers::place::frontier_place;
 use frontiers::stored::counts_at;
 use window::prepared::open_ones;
 use window::prepared::stays;
-ghost use Prim.Native.Nat.{_*_, _≤_};
+ghost use Prim.Native.Nat.{_≤_};
 ghost use mathlib.Core.Path.{_≡_};
-ghost use lib.ListN.{length, take, drop};
+ghost use lib.ListN.{length};
 ghost use lib.Seq.{sets};
 ghost use Rattle.frontiers.specs.Width.{Width};
-ghost use Rattle.frontiers.specs.Bytes.{frontierLength, frontiers, framed, replaced};
+ghost use Rattle.frontiers.specs.Bytes.{framed, replaced};
 ghost use Rattle.window.specs.Room.{RoomFor, PlaceFor};
-ghost use Rattle.call_close.specs.CloseCode.{staying};
+ghost use Rattle.call_close.specs.CloseCode.{staying, movedTo};
 
 // Moves frontier number i down to place m. (Mostly all before it stay, and it stands there already.)
 fn settle(window: &mut [u8], w: usize, i: usize, m: usize)
     requires { ⌜ Width w ⌝ }
     requires { ⌜ PlaceFor w i (now window) ⌝ }
     requires { ⌜ m ≤ i ⌝ }
-    ensures { λ r. ⌜ now (window .exit) ≡ sets (now (window .entry)) (m * frontierLength w) (take (frontierLength w) (drop (i * frontierLength w) (now (window .entry)))) ⌝ }
+    ensures { λ r. ⌜ now (window .exit) ≡ movedTo w (now (window .entry)) i m ⌝ }
 {
     if i <= m {
         return;
@@ -44,8 +44,9 @@ fn keep_staying(
     requires { ⌜ RoomFor w n (now window) ⌝ }
     requires { ⌜ k ≤ 8 ⌝ }
     ensures { λ r. ⌜ r ≤ n ⌝ }
-    ensures { λ r. ⌜ r ≡ length (staying k closed reached (frontiers w (now (window .entry)) n)) ⌝ }
-    ensures { λ r. ⌜ now (window .exit) ≡ sets (now (window .entry)) 0 (framed w (staying k closed reached (frontiers w (now (window .entry)) n))) ⌝ }
+    ensures { λ r. ⌜ r ≡ length (staying w k closed reached (now (window .entry)) n) ⌝ }
+    ensures { λ r. ⌜ now (window .exit)
+        ≡ sets (now (window .entry)) 0 (framed w (staying w k closed reached (now (window .entry)) n)) ⌝ }
 {
     let opens = open_ones(k, closed);
     let mut m = 0;
@@ -74,8 +75,9 @@ pub fn drop_others(
     requires { ⌜ RoomFor w n (now window) ⌝ }
     requires { ⌜ k ≤ 8 ⌝ }
     ensures { λ r. ⌜ r ≤ 1024 ⌝ }
-    ensures { λ r. ⌜ r ≡ length (staying k closed reached (frontiers w (now (window .entry)) n)) ⌝ }
-    ensures { λ r. ⌜ now (window .exit) ≡ replaced w (now (window .entry)) n (staying k closed reached (frontiers w (now (window .entry)) n)) ⌝ }
+    ensures { λ r. ⌜ r ≡ length (staying w k closed reached (now (window .entry)) n) ⌝ }
+    ensures { λ r. ⌜ now (window .exit)
+        ≡ replaced w (now (window .entry)) n (staying w k closed reached (now (window .entry)) n) ⌝ }
 {
     let m = keep_staying(window, w, n, k, closed, reached);
     let end = frontier_place(w, m);

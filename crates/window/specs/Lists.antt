@@ -38,7 +38,8 @@ module _ {A : Type 0} where
   filtered-append t (x ∷ xs) ys = go (t x) (filtered-append t xs ys)
     where
       go : (b : Bool) → filtered t (xs ++ ys) ≡ filtered t xs ++ filtered t ys
-          → cond b (x ∷ filtered t (xs ++ ys)) (filtered t (xs ++ ys)) ≡ cond b (x ∷ filtered t xs) (filtered t xs) ++ filtered t ys
+          → cond b (x ∷ filtered t (xs ++ ys)) (filtered t (xs ++ ys))
+          ≡ cond b (x ∷ filtered t xs) (filtered t xs) ++ filtered t ys
       go true e = rw e
       go false e = e
 
@@ -47,7 +48,8 @@ module _ {A : Type 0} where
   length-filtered t [] = omega arith
   length-filtered t (x ∷ xs) = go (t x) (length-filtered t xs)
     where
-      go : (b : Bool) → length (filtered t xs) ≤ length xs → length (cond b (x ∷ filtered t xs) (filtered t xs)) ≤ length (x ∷ xs)
+      go : (b : Bool) → length (filtered t xs) ≤ length xs
+          → length (cond b (x ∷ filtered t xs) (filtered t xs)) ≤ length (x ∷ xs)
       go true l = omega arith
       go false l = omega arith
 

@@ -2,7 +2,7 @@
 use Rattle.call_close.proofs.close_process.Tie as tie
 use native.Mathlib.Omega.{arith}
 use mathlib.Core.Path.{ap, subst⁻¹, _∙_}
-use Prim.Native.Nat.{ℕ, _≤_, _-_, _*_}
+use Prim.Native.Nat.{ℕ, _≤_, _*_}
 use lib.ListN.{length}
 use borrow.Author.Needs.{needs}
 use denote.Ref.{now}
@@ -87,8 +87,8 @@ returns c =
     let closed = masked .with-process in
     let mask = closed .ensures .0 ∙ ap (λ (m : ℕ). closing m (a .p)) (masked .before .closed-mask .ensures .0) in
     let law =
-    closed-by (a .w) (a .p) (now (a .«record»)) (now (a .window)) (kept .kept-count .result) (k .result) (closed .result)
-    (d .drop-others .result) (counts .taken-counts .result) (kept .kept-count .ensures) (k .ensures .0) mask
+    closed-by (a .w) (a .p) (now (a .«record»)) (now (a .window)) (kept .kept-count .result) (k .result)
+    (closed .result) (d .drop-others .result) (counts .taken-counts .result) (kept .kept-count .ensures) (k .ensures .0) mask
     (counts .taken-counts .ensures) (d .drop-others .ensures .1 .0) in
     (law .0, (c .before .before .set-closed .ensures ∙ law .1, d .drop-others .ensures .1 .1 ∙ law .2))
 

@@ -1,7 +1,6 @@
 -- The two stores that the definition has.
 use Rattle.call_close.proofs.set_closed.Tie as tie
 use native.Mathlib.Omega.{arith}
-use Prim.Native.Nat.{_-_}
 use lib.ListN.{length-set}
 use borrow.Author.Needs.{needs}
 use denote.Ref.{now}

@@ -2,7 +2,7 @@
 use Rattle.call_close.proofs.with_process.Tie as tie
 use native.Mathlib.Omega.{arith}
 use mathlib.Core.Path.{_≡_, ap, _∙_}
-use Prim.Native.Nat.{_<_, _-_, _*_, _^_, _%_}
+use Prim.Native.Nat.{_*_, _^_, _%_}
 use lib.Bits.{bitOr, or-lt}
 use lib.Pow.{shl-exact, pow-lt}
 use borrow.Author.Needs.{needs}

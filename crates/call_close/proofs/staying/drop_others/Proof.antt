@@ -2,12 +2,12 @@
 use Rattle.call_close.proofs.staying.drop_others.Tie as tie
 use native.Mathlib.Omega.{arith}
 use mathlib.Core.Path.{_∙_}
-use Prim.Native.Nat.{_≤_, _-_, _*_}
+use Prim.Native.Nat.{_≤_, _*_}
 use lib.ListN.{length}
 use native.Mathlib.Nat.{mul-le-mul-right}
 use borrow.Author.Needs.{needs}
 use denote.Ref.{now}
-use Rattle.frontiers.specs.Bytes.{frontierLength, frontiers}
+use Rattle.frontiers.specs.Bytes.{frontierLength}
 use Rattle.frontiers.specs.WindowLaws.{left-within}
 use Rattle.call_close.specs.CloseCode.{staying}
 use Rattle.call_close.proofs.StayingSteps.{cleared-behind}
@@ -58,7 +58,7 @@ returns c =
     let kept = moved left .keep-staying in
     let few : kept .result ≤ 1024 = omega (arith, kept .ensures .0, start (moved left) .pre .1 .0 .0) in
     let far = left .before .before .frontier-place in
-    let gs = staying (a .k) (a .closed) (a .reached) (frontiers (a .w) (now (a .window)) (a .n)) in
+    let gs = staying (a .w) (a .k) (a .closed) (a .reached) (now (a .window)) (a .n) in
     let bytes =
     b .clear .ensures
     ∙ cleared-behind (a .w) (a .n) (kept .result) (far .result) (left .frontier-place2 .result) (now (a .window)) _ gs
