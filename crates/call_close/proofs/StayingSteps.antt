@@ -16,6 +16,7 @@ use Rattle.frontiers.specs.BytesLaws.{frontierFrom-alike, frontierBytes-from}
 use Rattle.frontiers.specs.WindowLaws.{length-framed, framed-append, frontiers-more, length-frontiers, shaped-frontiers}
 use Rattle.window.specs.Step.{filtered}
 use Rattle.window.specs.Lists.{filtered-e, filtered-append, length-filtered}
+use Rattle.call_close.specs.CloseCode.{movedTo}
 
 -- What is left behind those laid down is cleared, by the places that were worked out.
 pub cleared-behind : (w n m far left : ℕ) (s laid : List ℕ) (gs : List Frontier) → m ≡ length gs
@@ -75,7 +76,7 @@ module _ (t : Frontier → Bool) (w : ℕ) (s : List ℕ) where
     laid-before : 0 + length (framed w (among i)) ≤ i * frontierLength w
     laid-before = omega (arith, laid-long, mul-le-mul-right (frontierLength w) (among-few i))
 
-    -- which is as it was;
+    -- which is as it was.
     same-here : frontierAt w (laid i) i ≡ frontierAt w s i
     unfolding frontierAt
     same-here =
@@ -88,9 +89,7 @@ module _ (t : Frontier → Bool) (w : ℕ) (s : List ℕ) where
         part-sets-after s 0 (framed w (among i)) (i * frontierLength w) (frontierLength w) laid-before
         ∙ sym (frontierBytes-from w s (i * frontierLength w) b room)
 
-    laid-more : (m : ℕ) → m ≡ length (among i) → t (frontierAt w s i) ≡ true
-        → sets (laid i) (m * frontierLength w) (take (frontierLength w) (drop (i * frontierLength w) (laid i)))
-        ≡ laid (i + 1)
+    laid-more : (m : ℕ) → m ≡ length (among i) → t (frontierAt w s i) ≡ true → movedTo w (laid i) i m ≡ laid (i + 1)
     unfolding framed
     laid-more m e h =
         let f = frontierAt w s i in
@@ -107,8 +106,7 @@ module _ (t : Frontier → Bool) (w : ℕ) (s : List ℕ) where
       read-here = rw (h .bytes) same-here
 
       -- one that passes is laid behind the others;
-      pub laid-next : (next : List ℕ) → t (frontierAt w s i) ≡ true
-          → next ≡ sets window (m * frontierLength w) (take (frontierLength w) (drop (i * frontierLength w) window))
+      pub laid-next : (next : List ℕ) → t (frontierAt w s i) ≡ true → next ≡ movedTo w window i m
           → Laid (i + 1) (m + 1) next
       laid-next next passes e =
           let whole : next ≡ laid (i + 1) = e ∙ rw (h .bytes) (laid-more m (h .number) passes) in
