@@ -9,6 +9,7 @@ ghost use Rattle.call_open.specs.Open.{openCall};
 ghost use Rattle.call_offer.specs.Offer.{offerCall};
 ghost use Rattle.call_take.specs.Take.{takeCall};
 ghost use Rattle.call_find.specs.Find.{findCall};
+ghost use Rattle.call_close.specs.Close.{closeCall};
 ghost use Rattle.answers.specs.Answer.{replyWord};
 
 // Opens a watch with a rule's text, so many processes, and start labels that are the bytes of a word.
@@ -57,4 +58,14 @@ pub extern "C" fn watch_find(line: u64, record: &[u8], window: &[u8]) -> u64
     ensures { λ r. ⌜ r ≡ replyWord (findCall 2 line (now («record» .entry)) (now (window .entry))) ⌝ }
 {
     call_find::find(2, line, record, window)
+}
+
+// Closes a process that will send no more.
+#[no_mangle]
+pub extern "C" fn watch_close(process: u64, record: &mut [u8], window: &mut [u8]) -> u64
+    ensures reply { λ r. ⌜ r ≡ replyWord (closeCall 2 process (now («record» .entry)) (now (window .entry)) .answer) ⌝ }
+    ensures bytes { λ r. ⌜ now («record» .exit) ≡ closeCall 2 process (now («record» .entry)) (now (window .entry)) .bytes ⌝ }
+    ensures window { λ r. ⌜ now (window .exit) ≡ closeCall 2 process (now («record» .entry)) (now (window .entry)) .window ⌝ }
+{
+    call_close::close(2, process, record, window)
 }

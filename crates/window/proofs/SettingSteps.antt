@@ -21,6 +21,7 @@ use Rattle.frontiers.specs.Bytes.{frontiers, frontierAt}
 use Rattle.frontiers.specs.WindowLaws.{frontiers-more}
 use Rattle.window.specs.Step.{Setting, stays, enabledAt, filtered, keptAfter}
 use Rattle.window.specs.StepCode.{settingWith, keptOf}
+use Rattle.window.specs.Lists.{filtered-append}
 
 -- ---- Counts that are the same, test by test
 pub same-all : (xs ys : List ℕ) (n : ℕ) → length xs ≡ n → length ys ≡ n → same xs ys ≡ allBelow n (λ p. eqb (at xs p) (at ys p))
@@ -30,16 +31,6 @@ same-all xs ys n h k =
     (λ t. same-i xs ys (ext-getD 0 xs ys (h ∙ sym k) (λ p l. eqb→eq (at xs p) (at ys p) (all-e n (λ q. eqb (at xs q) (at ys q)) t p (subst (λ (m : ℕ). p < m) h l)))))
 
 -- ---- The number kept
-filtered-append : {A : Type 0} (t : A → Bool) (xs ys : List A) → filtered t (xs ++ ys) ≡ filtered t xs ++ filtered t ys
-unfolding filtered
-filtered-append t [] ys = refl
-filtered-append t (x ∷ xs) ys = go (t x) (filtered-append t xs ys)
-  where
-    go : (b : Bool) → filtered t (xs ++ ys) ≡ filtered t xs ++ filtered t ys
-        → cond b (x ∷ filtered t (xs ++ ys)) (filtered t (xs ++ ys)) ≡ cond b (x ∷ filtered t xs) (filtered t xs) ++ filtered t ys
-    go true e = rw e
-    go false e = e
-
 length-filtered-more : {A : Type 0} (t : A → Bool) (xs : List A) (x : A) → length (filtered t (xs ++ (x ∷ []))) ≡ length (filtered t xs) + one (t x)
 unfolding filtered
 length-filtered-more {A} t xs x = rw (filtered-append t xs (x ∷ []), length-append) (go (t x))

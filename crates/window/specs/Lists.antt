@@ -1,9 +1,9 @@
--- Members of mapped and filtered lists.
+-- Mapped and filtered lists: their members, and how they are made piece by piece.
 use Prim.Native.Nat.{ℕ, zero, suc, _≤_, _<_}
 use native.Mathlib.Omega.{arith}
 use mathlib.Core.Path.{_≡_, refl, sym, ap, subst, _∙_}
 use mathlib.Core.Bool.{Bool, true, false, cond}
-use mathlib.Core.List.{List, [], _∷_, map, List·Memᴰ, List·Memᴰ·head, List·Memᴰ·tail, List·Memᴰ·cases-cons, List·Memᴰ·not-nil}
+use mathlib.Core.List.{List, [], _∷_, _++_, map, List·Memᴰ, List·Memᴰ·head, List·Memᴰ·tail, List·Memᴰ·cases-cons, List·Memᴰ·not-nil}
 use mathlib.Core.Logic.{_⊎_, inl, inr, ⊎-elim}
 use lib.Dec.{T}
 use lib.ListN.{length, getD}
@@ -32,11 +32,21 @@ module _ {A : Type 0} where
       go false e (inl s) r = absurd (subst T (ap t s ∙ e) h)
       go false e (inr k) r = r k
 
-  -- no more pass than there are
-  pub filtered-fewer : (t : A → Bool) (xs : List A) → length (filtered t xs) ≤ length xs
+  pub filtered-append : (t : A → Bool) (xs ys : List A) → filtered t (xs ++ ys) ≡ filtered t xs ++ filtered t ys
   unfolding filtered
-  filtered-fewer t [] = omega arith
-  filtered-fewer t (x ∷ xs) = go (t x) (filtered-fewer t xs)
+  filtered-append t [] ys = refl
+  filtered-append t (x ∷ xs) ys = go (t x) (filtered-append t xs ys)
+    where
+      go : (b : Bool) → filtered t (xs ++ ys) ≡ filtered t xs ++ filtered t ys
+          → cond b (x ∷ filtered t (xs ++ ys)) (filtered t (xs ++ ys))
+          ≡ cond b (x ∷ filtered t xs) (filtered t xs) ++ filtered t ys
+      go true e = rw e
+      go false e = e
+
+  pub length-filtered : (t : A → Bool) (xs : List A) → length (filtered t xs) ≤ length xs
+  unfolding filtered
+  length-filtered t [] = omega arith
+  length-filtered t (x ∷ xs) = go (t x) (length-filtered t xs)
     where
       go : (b : Bool) → length (filtered t xs) ≤ length xs
           → length (cond b (x ∷ filtered t xs) (filtered t xs)) ≤ length (x ∷ xs)

@@ -23,7 +23,7 @@ use Rattle.frontiers.specs.Bytes.{frontierLength, frontiers, windowBytes, repla
 use Rattle.frontiers.specs.Shaped.{AllShaped}
 use Rattle.frontiers.specs.WindowLaws.{length-windowBytes, replaced-windowBytes}
 use Rattle.window.specs.Step.{keptBy, filtered}
-use Rattle.window.specs.Lists.{filtered-fewer}
+use Rattle.window.specs.Lists.{length-filtered}
 use Rattle.window_laws.specs.Represents.{World, openIn, Represents}
 use Rattle.window_laws.specs.CloseTheorem.{staysIn, close-represents}
 use Rattle.records.specs.Record.{processCount, closedMask, keptCount, pendingEvents, closedSet}
@@ -106,7 +106,7 @@ module _ (w k : ℕ) (table : List Line) (start : Cut) (R : Rule w k table start
       closed′ table start (R .short) (R .labels-fit) gs closed-represents
 
   fewer : length gs ≤ length (X .kept)
-  fewer = filtered-fewer (staysIn world (L .history) closed′) (X .kept)
+  fewer = length-filtered (staysIn world (L .history) closed′) (X .kept)
 
   room : length gs * frontierLength w ≤ length window
   room = le-trans (mul-le-mul-right (frontierLength w) fewer) (X .room)
