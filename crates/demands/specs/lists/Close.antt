@@ -190,6 +190,16 @@ module _ (w k : ℕ) (f : Formula) (start : Cut) (Z : Watch) (S : Sound w k f st
       onward (shut m a l o u x) d =
           a ∙ ap processClosed (number-unique k (closing (L .closed) p) (L .history) m n x (d .3))
 
+  one-of-these : RightWindow w Z → (p : ℕ)
+      → (answer p ≡ turnedBack 41 0) ⊎ ((answer p ≡ turnedBack 42 0) ⊎ ((n : ℕ) × (answer p ≡ processClosed n)))
+  one-of-these h p = go (answered h p)
+    where
+      go : Answered p
+          → (answer p ≡ turnedBack 41 0) ⊎ ((answer p ≡ turnedBack 42 0) ⊎ ((n : ℕ) × (answer p ≡ processClosed n)))
+      go (barred a c) = inl a
+      go (waited-for a l o n) = inr (inl a)
+      go (shut n a l o u x) = inr (inr (n, a))
+
   -- 6 exactly if the window's length is wrong, and never 34
   other-number : RightWindow w Z → (p n : ℕ) → n ≢ 41 → n ≢ 42 → answer p ≢ turnedBack n 0
   other-number h p n x y q = go (answered h p)
@@ -271,6 +281,7 @@ module _ (w k : ℕ) (f : Formula) (start : Cut) (Z : Watch) (S : Sound w k f st
     not-open = not-open-exactly;
     named = named-exactly;
     closes-exactly = shut-exactly;
+    no-other = one-of-these;
     ledger-closed = ledger-then;
     never-34 = not-34;
     closes-one = one-closed;

@@ -64,7 +64,12 @@ pub record CloseExact (w k : ℕ) (f : Formula) (start : Cut) (Z : Watch) : Type
       → (nextClose w Z p .answer ≡ processClosed n)
       ↔ ((p < k) × Open (Z .ledger .closed) p × (Named p (Z .ledger) → ⊥)
       × KeptNumber k (closing (Z .ledger .closed) p) (Z .ledger .history) n)
-  -- and the ledger has it closed, and is the same in all else
+  -- and it is one of these
+  pub no-other : RightWindow w Z → (p : ℕ)
+      → (nextClose w Z p .answer ≡ turnedBack notOpenNumber 0)
+      ⊎ ((nextClose w Z p .answer ≡ turnedBack namedNumber 0)
+      ⊎ ((n : ℕ) × (nextClose w Z p .answer ≡ processClosed n)))
+  -- the ledger of an accepted close has the process closed, and is the same in all else
   pub ledger-closed : (p n : ℕ) → nextClose w Z p .answer ≡ processClosed n
       → after w (closes p) Z .ledger ≡ closedWith (Z .ledger) p
   pub never-34 : (p : ℕ) → nextClose w Z p .answer ≢ turnedBack stateNumber 0
