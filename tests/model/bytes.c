@@ -1,6 +1,7 @@
 /* Records and windows of any bytes, as no list of calls may have left them: refusals, "again" and "nothing ready" are
  * exact there too, and so is what an accepted offer writes; whether a window fits, and what take writes when an event
- * leaves, are free. What find answers would be free as well, but the library promises more: see model.h. */
+ * leaves, are free. What find answers, and what close does, would be free as well, but the library promises more: see
+ * model.h. */
 #include <string.h>
 
 #include "model.h"
@@ -89,6 +90,7 @@ unsigned bytes_offer(uint64_t mask, uint64_t clock_low, uint64_t clock_high, uin
     if (damaged(record, ROOM)) return 34;
     struct event e = event_of(mask, clock_low, clock_high, labels);
     unsigned number = refused_event(record[0], mask, clock_low, clock_high, labels);
+    if (number == 0 && (e.mask & record[3]) != 0) number = 42;
     if (number == 0) number = answered_by_record(&e, record);
     if (number == 0) insert(&e, record);
     return number;
@@ -141,4 +143,47 @@ struct possible bytes_take(const uint8_t *record, size_t record_len, const uint8
         can.taken = can.no_room = true;
     }
     return can;
+}
+
+/* Byte 3 says which processes are closed. Some process of the watch that is not has all its taken events in the
+ * frontier; or all eight counts are the taken ones, those of processes that the watch has not too. */
+static bool stays(const uint8_t *frontier, const uint8_t *record) {
+    bool all_taken = true;
+    for (unsigned p = 0; p < PROCESSES; p++) {
+        bool complete = get2(frontier + 2 * p) == get2(record + TAKEN_AT + 2 * p);
+        bool open = p < record[0] && !(record[3] >> p & 1);
+        if (open && complete) return true;
+        all_taken = all_taken && complete;
+    }
+    return all_taken;
+}
+
+/* Those that stay move up in their order, and the places that they leave free become 0. How many were kept before
+ * decides what is looked at and what is cleared: nothing behind that is touched. */
+static uint32_t drop(const uint8_t *record, uint8_t *window) {
+    uint32_t before = get4(record + 4), staying = 0;
+    for (uint32_t i = 0; i < before; i++)
+        if (stays(window + FRONTIER * i, record)) memmove(window + FRONTIER * staying++, window + FRONTIER * i, FRONTIER);
+    memset(window + FRONTIER * staying, 0, FRONTIER * (before - staying));
+    return staying;
+}
+
+static bool pending_names(const uint8_t *record, unsigned process) {
+    for (unsigned i = 0; i < record[2]; i++) {
+        struct event e = pending_at(record, i);
+        if (involved(&e, process)) return true;
+    }
+    return false;
+}
+
+/* On such bytes no frontier need stay. */
+uint64_t bytes_close(uint64_t process, uint8_t *record, size_t record_len, uint8_t *window, size_t window_len) {
+    if (record_len != RECORD || !window_length(window_len)) return reply_word(6, 0, 0, 0);
+    if (damaged(record, window_len / FRONTIER)) return reply_word(34, 0, 0, 0);
+    if (process >= record[0] || record[3] >> process & 1) return reply_word(41, 0, 0, 0);
+    if (pending_names(record, (unsigned)process)) return reply_word(42, 0, 0, 0);
+    record[3] |= (uint8_t)(1u << process);
+    uint32_t staying = drop(record, window);
+    for (unsigned i = 0; i < 4; i++) record[4 + i] = (uint8_t)(staying >> 8 * i);
+    return reply_word(0, 0, staying, 0);
 }

@@ -1,5 +1,5 @@
-/* The four calls on a watch that is written by these calls only: sections "The calls" and "Turned back", request 1 on
- * an event that is sent again, request 2 on 35, and request 4 on what find answers. */
+/* The five calls on a watch that is written by these calls only: sections "The calls" and "Turned back", request 1 on
+ * an event that is sent again, request 2 on 35, request 4 on what find answers, and request 5 on close and 42. */
 #include <stdlib.h>
 #include <string.h>
 
@@ -11,6 +11,11 @@ uint64_t reply_word(unsigned number, unsigned flag, uint64_t value, uint64_t pla
 
 static uint64_t refused(unsigned number) {
     return reply_word(number, 0, 0, 0);
+}
+
+unsigned open_processes(const struct model *m) {
+    unsigned all = (1u << m->k) - 1;
+    return all & ~(unsigned)m->closed;
 }
 
 bool window_length(size_t length) {
@@ -49,7 +54,7 @@ unsigned refused_event(uint64_t k, uint64_t mask, uint64_t clock_low, uint64_t c
 uint64_t lay_down(const struct model *m, uint8_t *record, uint8_t *window, size_t window_len) {
     struct cuts all = all_cuts(&m->history);
     judge_cuts(&all, &m->history, &m->rule, m->start);
-    size_t number = kept_number(&all, m->k);
+    size_t number = kept_number(&all, open_processes(m));
     const struct cut *largest = &all.cut[cut_place(&all, all.top)];
     unsigned truth = largest->forms >> (m->rule.forms - 1) & 1;
     write_record(m, number, record);
@@ -80,8 +85,9 @@ static bool meets(const struct event *e, const struct event *f) {
     return false;
 }
 
-/* 31, again, 32, 33, or 0. */
+/* 42, 31, again, 32, 33, or 0. */
 static uint64_t answered_by_state(const struct model *m, const struct event *e) {
+    if ((e->mask & m->closed) != 0) return refused(42);
     for (unsigned p = 0; p < PROCESSES; p++)
         if (involved(e, p) && e->clock[p] <= m->history.taken[p]) return refused(31);
     for (unsigned i = 0; i < m->pending_number; i++)
@@ -98,9 +104,9 @@ static int by_key(const void *x, const void *y) {
     return e->clock[p] < f->clock[p] ? -1 : e->clock[p] > f->clock[p];
 }
 
-static size_t frontiers(const struct history *h, unsigned k) {
+static size_t frontiers(const struct history *h, unsigned open) {
     struct cuts all = all_cuts(h);
-    size_t number = kept_number(&all, k);
+    size_t number = kept_number(&all, open);
     free_cuts(&all);
     return number;
 }
@@ -115,7 +121,7 @@ uint64_t model_offer(struct model *m, uint64_t mask, uint64_t clock_low, uint64_
     if (answer != 0) return answer;
     m->pending[m->pending_number++] = e;
     qsort(m->pending, m->pending_number, sizeof e, by_key);
-    write_record(m, frontiers(&m->history, m->k), record);
+    write_record(m, frontiers(&m->history, open_processes(m)), record);
     return reply_word(0, 0, m->pending_number, 0);
 }
 
@@ -126,7 +132,7 @@ static void leave(struct model *m, unsigned place) {
 
 static bool true_by_taken(const struct model *m, const struct event *e) {
     struct cuts all = all_cuts(&m->history);
-    bool found = true_clock(&all, e, m->k);
+    bool found = true_clock(&all, e, open_processes(m));
     free_cuts(&all);
     return found;
 }
@@ -134,13 +140,13 @@ static bool true_by_taken(const struct model *m, const struct event *e) {
 static bool fits(const struct model *m, const struct event *e, size_t window_len) {
     struct history longer = m->history;
     append(&longer, e);
-    return frontiers(&longer, m->k) * FRONTIER <= window_len;
+    return frontiers(&longer, open_processes(m)) * FRONTIER <= window_len;
 }
 
 uint64_t model_take(struct model *m, uint8_t *record, size_t record_len, uint8_t *window, size_t window_len,
                     uint8_t *scratch, size_t scratch_len) {
     if (record_len != RECORD || !window_length(window_len) || scratch_len != window_len) return refused(6);
-    if (frontiers(&m->history, m->k) * FRONTIER > window_len) return refused(34);
+    if (frontiers(&m->history, open_processes(m)) * FRONTIER > window_len) return refused(34);
     unsigned answer = 0;
     memset(scratch, 0, scratch_len);
     for (unsigned i = 0; i < m->pending_number; i++) {
@@ -149,7 +155,7 @@ uint64_t model_take(struct model *m, uint8_t *record, size_t record_len, uint8_t
         answer = 36;
         if (!true_by_taken(m, &e)) {
             leave(m, i);
-            write_record(m, frontiers(&m->history, m->k), record);
+            write_record(m, frontiers(&m->history, open_processes(m)), record);
             return refused(35);
         }
         if (fits(m, &e, window_len)) {
@@ -162,11 +168,11 @@ uint64_t model_take(struct model *m, uint8_t *record, size_t record_len, uint8_t
 }
 
 /* By its number among the kept cuts, from 0. The cuts stand in the window's order. */
-static uint64_t first_kept_with(const struct cuts *judged, unsigned k, uint64_t line) {
+static uint64_t first_kept_with(const struct cuts *judged, unsigned open, uint64_t line) {
     uint64_t place = 0;
     for (size_t i = 0; i < judged->n; i++) {
         const struct cut *s = &judged->cut[i];
-        if (!kept(judged, s, k)) continue;
+        if (!kept(judged, s, open)) continue;
         if (s->lines >> line & 1) return reply_word(0, 1, place, 0);
         place++;
     }
@@ -177,8 +183,21 @@ uint64_t model_find(const struct model *m, uint64_t line, size_t record_len, siz
     if (record_len != RECORD || !window_length(window_len)) return refused(6);
     struct cuts all = all_cuts(&m->history);
     judge_cuts(&all, &m->history, &m->rule, m->start);
-    uint64_t answer = line < m->rule.lines ? first_kept_with(&all, m->k, line) : refused(11);
-    if (kept_number(&all, m->k) * FRONTIER > window_len) answer = refused(34);
+    uint64_t answer = line < m->rule.lines ? first_kept_with(&all, open_processes(m), line) : refused(11);
+    if (kept_number(&all, open_processes(m)) * FRONTIER > window_len) answer = refused(34);
     free_cuts(&all);
     return answer;
+}
+
+/* The window is laid down anew from all cuts: what a close drops is not worked out from what was kept before. */
+uint64_t model_close(struct model *m, uint64_t process, uint8_t *record, size_t record_len, uint8_t *window,
+                     size_t window_len) {
+    if (record_len != RECORD || !window_length(window_len)) return refused(6);
+    if (frontiers(&m->history, open_processes(m)) * FRONTIER > window_len) return refused(34);
+    if (process >= m->k || m->closed >> process & 1) return refused(41);
+    for (unsigned i = 0; i < m->pending_number; i++)
+        if (involved(&m->pending[i], (unsigned)process)) return refused(42);
+    m->closed |= (uint8_t)(1u << process);
+    lay_down(m, record, window, window_len);
+    return reply_word(0, 0, frontiers(&m->history, open_processes(m)), 0);
 }

@@ -1,5 +1,5 @@
-/* Consistent cuts, what precedes what, and what is dropped: sections "Clocks and cuts" and "The window"; when a clock
- * is true: request 2. */
+/* Consistent cuts, what precedes what, and what is dropped: sections "Clocks and cuts" and "The window", and request 5
+ * where processes are closed; when a clock is true: request 2. */
 #include <stdlib.h>
 #include <string.h>
 
@@ -54,25 +54,29 @@ bool precedes(const struct cuts *all, const struct event *e, const struct cut *s
     return all->cut[*place].consistent && ready(e, before);
 }
 
-bool kept(const struct cuts *all, const struct cut *s, unsigned k) {
-    for (unsigned p = 0; p < k; p++)
-        if (s->counts[p] == all->top[p]) return s->consistent;
-    return false;
+static bool largest(const struct cuts *all, const struct cut *s) {
+    return memcmp(s->counts, all->top, sizeof all->top) == 0;
 }
 
-size_t kept_number(const struct cuts *all, unsigned k) {
+bool kept(const struct cuts *all, const struct cut *s, unsigned open) {
+    for (unsigned p = 0; p < PROCESSES; p++)
+        if (open >> p & 1 && s->counts[p] == all->top[p]) return s->consistent;
+    return largest(all, s);
+}
+
+size_t kept_number(const struct cuts *all, unsigned open) {
     size_t number = 0;
-    for (size_t i = 0; i < all->n; i++) number += kept(all, &all->cut[i], k);
+    for (size_t i = 0; i < all->n; i++) number += kept(all, &all->cut[i], open);
     return number;
 }
 
 /* That the event forgets nothing which its processes knew, and knows nothing by half, is the cut's consistency. */
-bool true_clock(const struct cuts *all, const struct event *e, unsigned k) {
+bool true_clock(const struct cuts *all, const struct event *e, unsigned open) {
     unsigned lowered[PROCESSES];
     for (unsigned p = 0; p < PROCESSES; p++) lowered[p] = e->clock[p] - involved(e, p);
     for (size_t i = 0; i < all->n; i++) {
         const struct cut *s = &all->cut[i];
-        if (kept(all, s, k) && memcmp(s->counts, lowered, sizeof lowered) == 0) return true;
+        if (kept(all, s, open) && memcmp(s->counts, lowered, sizeof lowered) == 0) return true;
     }
     return false;
 }

@@ -74,9 +74,13 @@ struct cuts {
 struct cuts all_cuts(const struct history *h);
 size_t cut_place(const struct cuts *all, const unsigned *counts); /* the counts must not be above the top */
 bool precedes(const struct cuts *all, const struct event *e, const struct cut *s, size_t *place); /* e leads from the cut there to s */
-bool kept(const struct cuts *all, const struct cut *s, unsigned k);
-size_t kept_number(const struct cuts *all, unsigned k);
-bool true_clock(const struct cuts *all, const struct event *e, unsigned k); /* lowered at its processes: a kept cut */
+
+/* Of the cuts some are kept, by the set of open processes: those that have all taken events of one of these, and the
+ * largest, which is always consistent. */
+bool kept(const struct cuts *all, const struct cut *s, unsigned open);
+size_t kept_number(const struct cuts *all, unsigned open);
+bool true_clock(const struct cuts *all, const struct event *e, unsigned open); /* lowered at its processes: a kept cut */
+
 void free_cuts(struct cuts *all);
 
 void label_cut(const struct history *h, const uint8_t *start, const struct cut *s, uint8_t *labels);
@@ -91,7 +95,10 @@ struct model {
     struct history history;
     unsigned pending_number;
     struct event pending[PENDING]; /* by lowest process and its count */
+    uint8_t closed;                /* bit p: process p is closed */
 };
+
+unsigned open_processes(const struct model *m); /* bit p: the watch has process p, and it is not closed */
 
 void write_record(const struct model *m, size_t kept_frontiers, uint8_t *record);
 void write_window(const struct model *m, const struct cuts *judged, uint8_t *window, size_t window_len);
@@ -105,9 +112,9 @@ uint64_t reply_word(unsigned number, unsigned flag, uint64_t value, uint64_t pla
  * accepted. */
 enum { AGAIN = 256 };
 
-/* As the four calls, with the model of the watch that the lent bytes belong to. Of the kept frontiers that have
+/* As the five calls, with the model of the watch that the lent bytes belong to. Of the kept frontiers that have
  * the line model_find answers the one that stands first in the window: flag 1, its number from 0 as value. The word is
- * 0 exactly if none has it. */
+ * 0 exactly if none has it. model_close answers the frontiers kept, and no truth. */
 uint64_t model_open(struct model *m, const uint8_t *rule, size_t rule_len, uint64_t k, uint64_t start_labels,
                     uint8_t *record, size_t record_len, uint8_t *window, size_t window_len);
 uint64_t model_offer(struct model *m, uint64_t mask, uint64_t clock_low, uint64_t clock_high, uint64_t labels,
@@ -115,6 +122,8 @@ uint64_t model_offer(struct model *m, uint64_t mask, uint64_t clock_low, uint64_
 uint64_t model_take(struct model *m, uint8_t *record, size_t record_len, uint8_t *window, size_t window_len,
                     uint8_t *scratch, size_t scratch_len);
 uint64_t model_find(const struct model *m, uint64_t line, size_t record_len, size_t window_len);
+uint64_t model_close(struct model *m, uint64_t process, uint8_t *record, size_t record_len, uint8_t *window,
+                     size_t window_len);
 
 struct event event_of(uint64_t mask, uint64_t clock_low, uint64_t clock_high, uint64_t labels);
 unsigned refused_event(uint64_t k, uint64_t mask, uint64_t clock_low, uint64_t clock_high, uint64_t labels); /* 7, 8, 9 or 0 */
@@ -136,5 +145,9 @@ struct possible {
 };
 struct possible bytes_take(const uint8_t *record, size_t record_len, const uint8_t *window, size_t window_len,
                            size_t scratch_len);
+
+/* The reply of close, and what it writes. That is free on such bytes by the scope; the library promises the bytes'
+ * own meaning, see bytes.c, and is held to that. */
+uint64_t bytes_close(uint64_t process, uint8_t *record, size_t record_len, uint8_t *window, size_t window_len);
 
 #endif

@@ -1,4 +1,4 @@
-/* The bytes of record and window: section "The window". */
+/* The bytes of record and window: section "The window"; the record's byte 3: request 5. */
 #include <string.h>
 
 #include "model.h"
@@ -26,7 +26,7 @@ void write_record(const struct model *m, size_t kept_frontiers, uint8_t *record)
     at = put(at, m->k, 1);
     at = put(at, m->rule.lines, 1);
     at = put(at, m->pending_number, 1);
-    at = put(at, 0, 1);
+    at = put(at, m->closed, 1);
     at = put(at, kept_frontiers, 4);
     for (unsigned p = 0; p < PROCESSES; p++) at = put(at, m->history.taken[p], 2);
     for (unsigned p = 0; p < PROCESSES; p++) {
@@ -46,7 +46,7 @@ void write_window(const struct model *m, const struct cuts *judged, uint8_t *win
     memset(window, 0, window_len);
     for (size_t i = 0; i < judged->n; i++) {
         const struct cut *s = &judged->cut[i];
-        if (!kept(judged, s, m->k)) continue;
+        if (!kept(judged, s, open_processes(m))) continue;
         uint8_t labels[PROCESSES];
         label_cut(&m->history, m->start, s, labels);
         at = put_counts(at, s->counts);
