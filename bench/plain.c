@@ -1,4 +1,4 @@
-/* The four calls in plain C, written for speed: see plain.h. */
+/* The five calls in plain C, written for speed: see plain.h. */
 #include "plain_inner.h"
 
 enum { AGAIN = 256 };
@@ -118,6 +118,7 @@ uint64_t plain_offer(uint64_t mask, uint64_t clock_low, uint64_t clock_high, uin
     struct counts clock = load(event + 8), reached = load(record + TAKEN_AT);
     unsigned number = refused_event(record[0], mask, &clock, labels), held = record[2];
     if (number != 0) return number;
+    if ((mask & record[CLOSED_AT]) != 0) return 42;
     for (unsigned p = 0; p < PROCESSES; p++)
         if (mask >> p & 1 && clock.at[p] <= reached.at[p]) return 31;
     uint8_t *pending = record + PENDING_AT;
@@ -175,4 +176,31 @@ uint64_t plain_find(uint64_t line, const uint8_t *record, size_t record_len, con
     for (uint32_t i = 0; i < kept; i++)
         if (load_word(window + FRONTIER * i + VALUES_AT) >> line & 1) return accepted(1, i);
     return accepted(0, 0);
+}
+
+/* Moves the frontiers that stay to the front and answers how many. */
+static uint32_t drop(const uint8_t *record, uint8_t *window, uint32_t kept) {
+    struct counts taken = load(record + TAKEN_AT), open = open_lanes(record);
+    uint32_t to = 0;
+    for (uint32_t i = 0; i < kept; i++) {
+        const uint8_t *frontier = window + FRONTIER * i;
+        struct counts c = load(frontier);
+        if (!some_complete(&c, &taken, &open) && memcmp(&c, &taken, sizeof c) != 0) continue;
+        if (to != i) memcpy(window + FRONTIER * to, frontier, FRONTIER);
+        to++;
+    }
+    return to;
+}
+
+uint64_t plain_close(uint64_t process, uint8_t *record, size_t record_len, uint8_t *window, size_t window_len) {
+    if (record_len != RECORD || wrong_window(window_len)) return 6;
+    if (damaged(record, window_len / FRONTIER)) return 34;
+    if (process >= record[0] || record[CLOSED_AT] >> process & 1) return 41;
+    for (unsigned i = 0; i < record[2]; i++)
+        if (record[PENDING_AT + EVENT * i] >> process & 1) return 42;
+    record[CLOSED_AT] |= (uint8_t)(1u << process);
+    uint32_t kept = load_kept(record), staying = drop(record, window, kept);
+    memset(window + FRONTIER * staying, 0, FRONTIER * (kept - staying));
+    store_kept(record, staying);
+    return accepted(0, staying);
 }

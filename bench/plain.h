@@ -1,4 +1,5 @@
-/* A fast C version of the four calls, for comparison: the arguments, replies and bytes of include/watch.h. Nothing in it is proved. */
+/* A fast C version of the five calls, for comparison: the arguments, replies and bytes of include/watch.h. Nothing in
+ * it is proved. */
 #ifndef PLAIN_H
 #define PLAIN_H
 
@@ -12,5 +13,6 @@ uint64_t plain_offer(uint64_t mask, uint64_t clock_low, uint64_t clock_high, uin
 uint64_t plain_take(uint8_t *record, size_t record_len, uint8_t *window, size_t window_len,
                     uint8_t *scratch, size_t scratch_len);
 uint64_t plain_find(uint64_t line, const uint8_t *record, size_t record_len, const uint8_t *window, size_t window_len);
+uint64_t plain_close(uint64_t process, uint8_t *record, size_t record_len, uint8_t *window, size_t window_len);
 
 #endif

@@ -10,7 +10,7 @@
 enum {
     PROCESSES = 8, LINES = 64, PENDING = 32, ROOM = 1024,
     FRONTIER = 40, LABELS_AT = 16, MASKS_AT = 24, VALUES_AT = 32,
-    RECORD = 1368, TAKEN_AT = 8, CLOCKS_AT = 24, TABLE_AT = 152, PENDING_AT = 344, EVENT = 32
+    RECORD = 1368, CLOSED_AT = 3, TAKEN_AT = 8, CLOCKS_AT = 24, TABLE_AT = 152, PENDING_AT = 344, EVENT = 32
 };
 
 struct counts {
@@ -43,6 +43,21 @@ static inline void store_kept(uint8_t *record, uint32_t kept) {
     memcpy(record + 4, &kept, sizeof kept);
 }
 
+/* All bits at processes that the watch has and that are not closed. */
+static inline struct counts open_lanes(const uint8_t *record) {
+    struct counts open;
+    for (unsigned p = 0; p < PROCESSES; p++)
+        open.at[p] = (uint16_t)-(p < record[0] && !(record[CLOSED_AT] >> p & 1));
+    return open;
+}
+
+/* Some open process has all of its events in this cut. */
+static inline bool some_complete(const struct counts *c, const struct counts *taken, const struct counts *open) {
+    unsigned some = 0;
+    for (int p = 0; p < PROCESSES; p++) some |= (c->at[p] == taken->at[p]) & open->at[p];
+    return some != 0;
+}
+
 /* Reads a rule into 192 bytes of table, which is written only if the answer is 0. */
 struct plain_rule {
     uint32_t fault, place, lines;
@@ -59,7 +74,7 @@ struct step {
     struct counts clock, lowered;
     struct counts ones;                   /* 1 at the involved processes */
     struct counts involved;               /* all bits there */
-    struct counts reached, below;         /* the counts after the event; all bits at processes below k */
+    struct counts reached, open;          /* the counts after the event; all bits at open processes */
     uint32_t kept, staying, grown;
     uint8_t marks[ROOM];                  /* of each frontier: STAYS, GROWS */
 };

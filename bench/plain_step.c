@@ -28,34 +28,29 @@ static inline bool enabled(const struct step *s, const struct counts *c) {
     return wrong == 0;
 }
 
-static inline bool stays(const struct step *s, const struct counts *c) {
-    unsigned some = 0;
-    for (int p = 0; p < PROCESSES; p++) some |= (c->at[p] == s->reached.at[p]) & s->below.at[p];
-    return some != 0;
-}
-
 static void prepare(struct step *s, const uint8_t *event, const uint8_t *record) {
     s->mask = event[0];
     s->labels = load_word(event + 24);
     s->clock = load(event + 8);
     s->reached = load(record + TAKEN_AT);
+    s->open = open_lanes(record);
     s->kept = load_kept(record);
     for (unsigned p = 0; p < PROCESSES; p++) {
         unsigned in = s->mask >> p & 1;
         s->ones.at[p] = (uint16_t)in;
         s->involved.at[p] = (uint16_t)-in;
-        s->below.at[p] = (uint16_t)-(p < record[0]);
         s->lowered.at[p] = (uint16_t)(s->clock.at[p] - in);
         s->reached.at[p] = (uint16_t)(s->reached.at[p] + in);
     }
 }
 
+/* The largest cut is a new one, so of the old ones none stays as that. */
 void plain_mark(struct step *s, const uint8_t *event, const uint8_t *record, const uint8_t *window) {
     prepare(s, event, record);
     s->staying = s->grown = 0;
     for (uint32_t i = 0; i < s->kept; i++) {
         struct counts c = load(window + FRONTIER * i);
-        unsigned st = stays(s, &c), gr = enabled(s, &c);
+        unsigned st = some_complete(&c, &s->reached, &s->open), gr = enabled(s, &c);
         s->marks[i] = (uint8_t)(st * STAYS | gr * GROWS);
         s->staying += st;
         s->grown += gr;
