@@ -1,12 +1,15 @@
 /* Calls on records and windows that no list of calls leaves. What the paper fixes there is compared, and what find
- * answers; the rest of what it leaves free is not. */
+ * answers and what close does; the rest of what it leaves free is not. */
 #include <stdlib.h>
 #include <string.h>
 
 #include "../../include/watch.h"
 #include "twin.h"
 
-enum { HEADER = 8, TAKEN_AT = 8, CLOCKS_AT = 24, TABLE_AT = 152, PENDING_AT = 344, EVENT = 32, VALUES_AT = 32 };
+enum {
+    HEADER = 8, CLOSED_AT = 3, TAKEN_AT = 8, CLOCKS_AT = 24, TABLE_AT = 152, PENDING_AT = 344,
+    EVENT = 32, VALUES_AT = 32
+};
 
 struct damaged {
     struct lent record, window, scratch;
@@ -34,6 +37,18 @@ static void damage_record(struct source *s, uint8_t *record) {
     case 5: damage_byte(s, record + PENDING_AT + below(s, EVENT * PENDING)); break;
     case 6: record[2] = (uint8_t)below(s, PENDING + 2); break;
     default: damage_byte(s, record + below(s, RECORD));
+    }
+}
+
+/* Any processes closed: one, all but one, only such as the watch has not. */
+static void damage_closed(struct source *s, uint8_t *record) {
+    uint8_t one = (uint8_t)(1u << below(s, 8)), beyond = (uint8_t)(255u << (record[0] <= 8 ? record[0] : 8));
+    switch (below(s, 5)) {
+    case 0: record[CLOSED_AT] = one; break;
+    case 1: record[CLOSED_AT] = (uint8_t)~one; break;
+    case 2: record[CLOSED_AT] = beyond; break;
+    case 3: record[CLOSED_AT] = (uint8_t)(draw(s) & draw(s)); break;
+    default: record[CLOSED_AT] = (uint8_t)draw(s);
     }
 }
 
@@ -192,8 +207,31 @@ static void plant_ready(struct source *s, struct damaged *d, unsigned kept_front
     if (record[2] < n || chance(s, 50)) record[2] = (uint8_t)n;
 }
 
+/* Frontiers, also behind the kept ones, that have all taken events of all eight processes, of all but one, of one
+ * alone, of some. Mostly little is pending, so that a process can be closed. */
+static void plant_complete(struct source *s, struct damaged *d) {
+    uint8_t *record = d->record.bytes;
+    if (chance(s, 50)) record[TAKEN_AT + below(s, 16)] = (uint8_t)draw(s);
+    for (unsigned place = 0; place < room_of(d); place++) {
+        uint8_t one = (uint8_t)(1u << below(s, 8)), set = (uint8_t)(draw(s) & draw(s));
+        unsigned way = below(s, 5);
+        if (way == 0) continue;
+        if (way < 4) set = way == 1 ? 255 : way == 2 ? (uint8_t)~one : one;
+        memcpy(frontier_at(d, place), record + TAKEN_AT, 16);
+        for (unsigned p = 0; p < PROCESSES; p++)
+            if (!(set >> p & 1)) frontier_at(d, place)[2 * p + below(s, 2)] ^= (uint8_t)(1u << below(s, 8));
+    }
+    if (chance(s, 70)) record[2] = (uint8_t)below(s, 3);
+}
+
 static void damage(struct source *s, struct damaged *d) {
     unsigned times = between(s, 1, 4);
+    if (chance(s, 40)) damage_closed(s, d->record.bytes);
+    if (chance(s, 20)) {
+        choose_kept(s, d);
+        plant_complete(s, d);
+        if (chance(s, 80)) return;
+    }
     bool crowded = chance(s, 25), planted = !crowded && chance(s, 35), valued = chance(s, 30);
     unsigned kept_frontiers = planted || valued ? choose_kept(s, d) : 0;
     if (chance(s, 20)) disorder(s, d);
@@ -266,6 +304,18 @@ static void damaged_find(struct source *s, struct damaged *d) {
     unchanged("window", &d->window, d->window_before);
 }
 
+static void damaged_close(struct source *s, struct damaged *d) {
+    unsigned k = d->record.length == RECORD ? d->record.bytes[0] : 0;
+    uint64_t process = random_process(s, k > 0 && k <= PROCESSES ? k : PROCESSES);
+    remember(d);
+    note("close process %llu on damaged bytes, window %zu\n", (unsigned long long)process, d->window.length);
+    uint64_t reply = watch_close(process, d->record.bytes, d->record.length, d->window.bytes, d->window.length);
+    uint64_t expected = bytes_close(process, d->record_before, d->record.length, d->window_before, d->window.length);
+    compare_replies(tally(CLOSE, reply), expected);
+    unchanged("record", &d->record, d->record_before);
+    unchanged("window", &d->window, d->window_before);
+}
+
 static void damaged_take(struct source *s, struct damaged *d) {
     fill_junk(s, d->scratch.bytes, d->scratch.length);
     remember(d);
@@ -307,9 +357,10 @@ void damage_excursion(struct source *s, const struct twin *t, unsigned calls) {
     memcpy(d->window.bytes, t->window_bytes, FRONTIER * room);
     if (d->record.length == RECORD) damage(s, d);
     for (unsigned i = 0; i < calls; i++) {
-        unsigned action = below(s, 11);
+        unsigned action = below(s, 14);
         if (action < 4) damaged_offer(s, d, t->model.k);
         else if (action < 6) damaged_find(s, d);
+        else if (action < 9) damaged_close(s, d);
         else damaged_take(s, d);
         if (!lent_intact(&d->record) || !lent_intact(&d->window) || !lent_intact(&d->scratch))
             differs("a byte outside the buffers changed");

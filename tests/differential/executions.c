@@ -218,6 +218,17 @@ struct sent random_sent(struct source *s, unsigned k) {
     return e;
 }
 
+uint64_t random_process(struct source *s, unsigned k) {
+    static const unsigned widths[] = {3, 6, 8, 16, 32, 63};
+    uint64_t process = below(s, k), further = (uint64_t)1 << widths[below(s, 6)];
+    switch (below(s, 10)) {
+    case 0: return between(s, k, 2 * PROCESSES);
+    case 1: return process + further;
+    case 2: return chance(s, 50) ? UINT64_MAX - below(s, 3) : sized(s);
+    default: return process;
+    }
+}
+
 void shuffle(struct source *s, struct sent *events, unsigned n, bool anywhere) {
     for (unsigned i = 0; i + 1 < n; i++) {
         unsigned left = n - i, reach = anywhere || left < 4 ? left : 4;

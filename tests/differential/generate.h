@@ -61,6 +61,10 @@ struct sent random_sent(struct source *s, unsigned k);
 
 uint64_t random_labels(struct source *s, uint64_t mask);
 
+/* A word that should name a process: mostly one below k, now and then one from k up, or a word of which only some of
+ * the bits are the number of a process. */
+uint64_t random_process(struct source *s, unsigned k);
+
 /* Into another order: anywhere, or at most a few places away. */
 void shuffle(struct source *s, struct sent *events, unsigned n, bool anywhere);
 

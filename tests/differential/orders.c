@@ -1,6 +1,7 @@
-/* Demand 3, tried: two lists of calls that accept the same events in different orders, each ended by "nothing ready",
- * leave the same record and the same frontiers; a verdict that both reported for the same counts is the same, and it is
- * the one of that cut among all cuts of what is taken at the end. And find names the same place for each line. */
+/* Demand 3, tried: two lists of calls that accept the same events in different orders and close the same processes,
+ * wherever in the lists, each ended by "nothing ready", leave the same record and the same frontiers; a verdict that
+ * both reported for the same counts is the same, and it is the one of that cut among all cuts of what is taken at the
+ * end. And find names the same place for each line. */
 #include <stdio.h>
 #include <string.h>
 
@@ -12,11 +13,24 @@ struct verdicts {
     struct { uint8_t counts[16]; unsigned truth; } reported[4 * EVENTS_MOST];
 };
 
+/* What a list sends and closes. */
+struct events {
+    unsigned n, wrong_number;
+    struct sent event[EVENTS_MOST + 9], wrong[9]; /* the wrong ones, those that forget, are among the events too */
+    bool found;
+    struct sent lost; /* if found: comes when nothing is ready any more, and one that forgot in its place has left */
+    unsigned closing; /* bit p: process p is to be closed */
+};
+
 /* One list of calls. Wide ones are too large for the model, so the library runs alone. */
 struct list {
     struct source *source;
     struct twin *twin;
-    bool wide;
+    bool wide, early;         /* early: a process may be closed before its last event was sent */
+    unsigned left[PROCESSES]; /* how many of the events that are still to come name each process */
+    struct events not_named;  /* what was sent and closed, without those events that named a closed process */
+    unsigned named_number;    /* and these */
+    struct sent named[EVENTS_MOST + 19];
     struct verdicts verdicts;
 };
 
@@ -45,6 +59,22 @@ static uint64_t list_offer(struct list *l, struct sent e) {
     note("offer mask %llx clock %llx %llx labels %llx\n", (unsigned long long)e.mask, (unsigned long long)e.low, (unsigned long long)e.high,
          (unsigned long long)e.labels);
     return tally(OFFER, watch_offer(e.mask, e.low, e.high, e.labels, l->twin->record.bytes, RECORD));
+}
+
+/* Byte by byte also where the model is too small: what close does can be told from the bytes alone. */
+static uint64_t list_close(struct list *l, uint64_t process) {
+    static uint8_t record[RECORD], window[WINDOW_MOST];
+    struct twin *t = l->twin;
+    if (!l->wide) return twin_close(t, process);
+    note("close process %llu window %zu\n", (unsigned long long)process, t->window.length);
+    memcpy(record, t->record.bytes, RECORD);
+    memcpy(window, t->window.bytes, t->window.length);
+    uint64_t expected = bytes_close(process, record, RECORD, window, t->window.length);
+    uint64_t reply = watch_close(process, t->record.bytes, RECORD, t->window.bytes, t->window.length);
+    compare_replies(tally(CLOSE, reply), expected);
+    compare_bytes("record", t->record.bytes, record, RECORD);
+    compare_bytes("window", t->window.bytes, window, t->window.length);
+    return reply;
 }
 
 static void list_open(struct list *l, const uint8_t *text, size_t length, unsigned k, uint64_t labels, size_t window_length) {
@@ -77,9 +107,25 @@ static bool list_drain(struct list *l) {
     }
 }
 
-/* Offers an event until it is accepted; false if 32 are pending and none of them can be taken. */
-static bool list_accept(struct list *l, struct sent e) {
-    while (list_offer(l, e) == 33) {
+static void count_left(struct list *l, const struct sent *e, unsigned n, int step) {
+    for (unsigned i = 0; i < n; i++)
+        for (unsigned p = 0; p < PROCESSES; p++)
+            if (e[i].mask >> p & 1) l->left[p] += (unsigned)step;
+}
+
+/* Sends an event that was to come; those with 42 are kept apart, the others go behind the n of a row. */
+static uint64_t list_send(struct list *l, struct sent e, struct sent *row, unsigned *n) {
+    uint64_t reply = list_offer(l, e);
+    if (reply == 33) return reply;
+    count_left(l, &e, 1, -1);
+    if (reply == 42) l->named[l->named_number++] = e;
+    else row[(*n)++] = e;
+    return reply;
+}
+
+/* The same until it is accepted; false if 32 are pending and none of them can be taken. */
+static bool list_accept(struct list *l, struct sent e, struct sent *row, unsigned *n) {
+    while (list_send(l, e, row, n) == 33) {
         uint64_t reply = list_take(l);
         if (reply == 0 || (reply == 36 && !lend_more(l))) return false;
     }
@@ -97,27 +143,61 @@ static void list_repeat(struct list *l) {
     compare_bytes("record (sent once more)", record, before, RECORD);
 }
 
-/* What two lists accept. */
-struct events {
-    unsigned n, wrong_number;
-    struct sent event[EVENTS_MOST + 9], wrong[9]; /* the wrong ones, those that forget, are among the events too */
-    bool found;
-    struct sent lost; /* if found: comes when nothing is ready any more, and one that forgot in its place has left */
-};
+/* Now and then tries one of the processes that are to be closed, or a word that names none. Unless it is early, only
+ * one that no further event names, so that none is refused for it; 42 while one is pending. */
+static void list_try_close(struct list *l, const struct events *all) {
+    uint64_t process = random_process(l->source, PROCESSES);
+    if (!chance(l->source, l->early ? 10 : 50)) return;
+    if (process >= PROCESSES || (all->closing >> process & 1 && (l->early || l->left[process] == 0)))
+        list_close(l, process);
+}
+
+/* Those that are to be closed and still open, when nothing more is to come. */
+static void list_close_rest(struct list *l, const struct events *all) {
+    for (unsigned p = 0; p < PROCESSES; p++)
+        if (all->closing & ~(unsigned)l->twin->record.bytes[3] & 1u << p) list_close(l, p);
+}
 
 /* Those that forget are sent a second time at the end. False if the list does not get as far as "nothing ready". */
 static bool list_run(struct list *l, const struct events *all) {
-    unsigned habit = below(l->source, 3) * 40;
+    unsigned habit = below(l->source, 3) * 40, found = 0;
+    struct events *sent = &l->not_named;
+    count_left(l, all->event, all->n, 1);
+    count_left(l, &all->lost, all->found, 1);
+    count_left(l, all->wrong, all->wrong_number, 1);
     for (unsigned i = 0; i < all->n; i++) {
-        if (!list_accept(l, all->event[i])) return false;
+        if (!list_accept(l, all->event[i], sent->event, &sent->n)) return false;
         if (chance(l->source, 15)) list_repeat(l);
         while (chance(l->source, habit))
             if (list_take(l) == 0) break;
+        list_try_close(l, all);
     }
     if (!list_drain(l)) return false;
-    if (all->found && !(list_accept(l, all->lost) && list_drain(l))) return false;
-    for (unsigned i = 0; i < all->wrong_number; i++) list_offer(l, all->wrong[i]);
-    return list_drain(l);
+    list_try_close(l, all);
+    if (all->found && !(list_accept(l, all->lost, &sent->lost, &found) && list_drain(l))) return false;
+    sent->found = found > 0;
+    for (unsigned i = 0; i < all->wrong_number; i++) {
+        list_send(l, all->wrong[i], sent->wrong, &sent->wrong_number);
+        list_try_close(l, all);
+    }
+    if (!list_drain(l)) return false;
+    list_close_rest(l, all);
+    sent->closing = l->twin->record.bytes[3];
+    return true;
+}
+
+/* The other order is of what the first one accepted and closed. What named a closed process there has no other answer
+ * here, and neither has an event of a closed process that was taken. */
+static bool other_run(struct list *l, const struct list *first) {
+    if (!list_run(l, &first->not_named)) return false;
+    if (l->named_number != 0) differs("an event that the other order accepted names a closed process");
+    if (l->not_named.closing != first->not_named.closing) differs("a process that the other order closed stays open");
+    for (unsigned i = 0; i < first->named_number; i++)
+        if (list_offer(l, first->named[i]) != 42) differs("an event of a closed process is not answered by 42");
+    for (unsigned i = 0; i < l->not_named.n; i++)
+        if (l->not_named.event[i].mask & l->not_named.closing && list_offer(l, l->not_named.event[i]) != 42)
+            differs("an event of a closed process, sent again, is not answered by 42");
+    return true;
 }
 
 /* An event behind the last of these processes, with a clock that forgets: it shares no process and count with any
@@ -150,6 +230,7 @@ static void choose_events(struct source *s, const struct execution *x, bool lost
     for (unsigned i = 0; i < x->n; i++)
         if (i != missing) all->event[all->n++] = x->event[i];
     for (unsigned i = 0; i < all->wrong_number; i++) all->event[all->n++] = all->wrong[i];
+    if (chance(s, 60)) all->closing = (unsigned)(draw(s) | (chance(s, 30) ? 255 : 0)) & ((1u << x->k) - 1);
 }
 
 static void compare_verdicts(const struct verdicts *one, const struct verdicts *two) {
@@ -212,15 +293,16 @@ void try_orders(struct source *s, struct twin *t, struct twin *other, bool wide)
     choose_events(s, &x, lost, &all);
     size_t length = random_rule(s, k, between(s, 1, 64), text);
     uint64_t labels = random_labels(s, (1u << k) - 1);
-    one = (struct list){.source = s, .twin = t, .wide = wide};
+    one = (struct list){.source = s, .twin = t, .wide = wide, .early = chance(s, 40)};
     two = (struct list){.source = s, .twin = other, .wide = wide};
     list_open(&one, text, length, k, labels, FRONTIER * between(s, 1, 30));
     shuffle(s, all.event, all.n, false);
     bool ended = list_run(&one, &all);
     note("the other order\n");
     list_open(&two, text, length, k, labels, FRONTIER * between(s, 1, ROOM));
-    shuffle(s, all.event, all.n, chance(s, 50) && all.n <= 32);
-    if (ended && list_run(&two, &all)) compare_ends(t, other), compare_finds(t, other);
+    struct events *same = &one.not_named;
+    shuffle(s, same->event, same->n, chance(s, 50) && same->n <= 32);
+    if (ended && other_run(&two, &one)) compare_ends(t, other), compare_finds(t, other);
     compare_verdicts(&one.verdicts, &two.verdicts);
     if (!wide) compare_with_end(&one), compare_with_end(&two);
 }

@@ -61,7 +61,7 @@ uint64_t tally(enum call call, uint64_t reply) {
 }
 
 void print_tally(void) {
-    static const char *const names[CALLS] = {"open", "offer", "take", "find"};
+    static const char *const names[CALLS] = {"open", "offer", "take", "find", "close"};
     for (unsigned call = 0; call < CALLS; call++) {
         printf("  %-5s accepted %lu", names[call], tallied[call][0]);
         if (call == TAKE) printf(", nothing ready %lu", nothing_ready);
@@ -179,6 +179,16 @@ uint64_t twin_find(struct twin *t, uint64_t line) {
     note("find line %llu\n", (unsigned long long)line);
     uint64_t reply = tally(FIND, watch_find(line, t->record.bytes, t->record.length, t->window.bytes, t->window.length));
     compare_replies(reply, model_find(&t->model, line, t->record.length, t->window_length));
+    compare_watch(t);
+    return reply;
+}
+
+uint64_t twin_close(struct twin *t, uint64_t process) {
+    note("close process %llu window %zu\n", (unsigned long long)process, t->window.length);
+    uint64_t reply = watch_close(process, t->record.bytes, t->record.length, t->window.bytes, t->window.length);
+    uint64_t expected = model_close(&t->model, process, t->record_bytes, t->record.length, t->window_bytes,
+                                    t->window_length);
+    compare_replies(tally(CLOSE, reply), expected);
     compare_watch(t);
     return reply;
 }

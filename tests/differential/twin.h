@@ -26,6 +26,7 @@ uint64_t twin_open(struct twin *t, const uint8_t *rule, size_t length, uint64_t 
 uint64_t twin_offer(struct twin *t, struct sent e);
 uint64_t twin_take(struct twin *t, struct source *s, size_t scratch_length);
 uint64_t twin_find(struct twin *t, uint64_t line);
+uint64_t twin_close(struct twin *t, uint64_t process);
 
 /* The event in a pending place of a record, as it is offered. */
 struct sent pending_sent(const uint8_t *record, unsigned place);
@@ -41,7 +42,7 @@ void print_case(void);
 void differs(const char *format, ...); /* prints the case, its calls and what differs, and ends the program with 1 */
 
 /* How often each call gave each answer. */
-enum call { OPEN, OFFER, TAKE, FIND, CALLS };
+enum call { OPEN, OFFER, TAKE, FIND, CLOSE, CALLS };
 uint64_t tally(enum call call, uint64_t reply); /* returns the reply */
 void print_tally(void);
 

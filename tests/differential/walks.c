@@ -1,5 +1,6 @@
 /* Random calls on one watch: an execution's events in some order, sent again, nearly the same, twisted, with clocks
- * that forget, with numbers that are none; windows that are too short and then longer; buffers of wrong lengths. */
+ * that forget, with numbers that are none; closes anywhere among them; windows that are too short and then longer;
+ * buffers of wrong lengths. */
 #include <string.h>
 
 #include "twin.h"
@@ -38,7 +39,10 @@ static void wrong_lengths(struct source *s, struct twin *t) {
     scratch_length = choice == 3 ? FRONTIER * random_room(s) : wrong;
     if (record_length == RECORD && wrong == window_length && scratch_length == wrong) return;
     twin_lend(t, s, record_length, wrong);
-    if (wrong != window_length || record_length != RECORD) twin_find(t, below(s, 10));
+    if (wrong != window_length || record_length != RECORD) {
+        twin_find(t, below(s, 10));
+        twin_close(t, random_process(s, t->model.k));
+    }
     if (record_length != RECORD) twin_offer(t, random_sent(s, t->model.k));
     twin_take(t, s, scratch_length);
     twin_lend(t, s, RECORD, window_length);
@@ -62,6 +66,24 @@ static void random_offer(struct source *s, struct twin *t, const struct executio
     if (x->n > 0 && chance(s, 70)) e = x->event[below(s, x->n)];
     if (x->n > 0 && chance(s, 50)) e = twisted(s, x->event[below(s, x->n)], x->k);
     twin_offer(t, e);
+}
+
+/* One that is open and of which nothing more is to come in the execution; any if there is none. */
+static uint64_t finished_process(struct source *s, const struct twin *t, const struct execution *x) {
+    unsigned last[PROCESSES] = {0}, found = 0;
+    uint64_t process = below(s, x->k);
+    for (unsigned i = 0; i < x->n; i++)
+        for (unsigned p = 0; p < x->k; p++) {
+            unsigned count = x->event[i].mask >> p & 1 ? sent_count(&x->event[i], p) : 0;
+            if (count > last[p]) last[p] = count;
+        }
+    for (unsigned p = 0; p < x->k; p++)
+        if (!(t->model.closed >> p & 1) && t->model.history.taken[p] >= last[p] && below(s, ++found) == 0) process = p;
+    return process;
+}
+
+static void random_close(struct source *s, struct twin *t, const struct execution *x) {
+    twin_close(t, chance(s, 50) ? finished_process(s, t, x) : random_process(s, x->k));
 }
 
 /* Its processes' next events are this one, and it is not pending. */
@@ -118,14 +140,29 @@ static void start_watch(struct source *s, struct twin *t, unsigned k, size_t roo
     memset(t->window_bytes + window_length, 0, WINDOW_MOST - window_length);
 }
 
+/* One process after the other until none is open, or as far as the pending events let it; then each once more. What
+ * was sent before is sent in between. */
+static void close_all(struct source *s, struct twin *t, const struct execution *x) {
+    unsigned first = below(s, x->k);
+    for (unsigned i = 0; i < 2 * x->k; i++) {
+        twin_close(t, (first + i) % x->k);
+        if (x->n > 0 && chance(s, 50)) twin_offer(t, x->event[below(s, x->n)]);
+        if (chance(s, 30)) twin_take(t, s, t->window_length);
+        if (chance(s, 30)) random_find(s, t);
+        if (chance(s, 10)) wrong_lengths(s, t);
+    }
+}
+
 /* The execution's events and whatever comes between. Forgetting: percentage of clocks that forget. */
 static void walk(struct source *s, struct twin *t, struct execution *x, unsigned forgetting) {
     unsigned next = 0;
     bool hostile = chance(s, 60);
+    unsigned closing = chance(s, 40) ? 0 : between(s, 1, 12);
     if (chance(s, 70)) shuffle(s, x->event, x->n, chance(s, 60));
     while (next < x->n) {
         unsigned action = below(s, 100);
         if (chance(s, forgetting)) forgetful_offer(s, t, x);
+        else if (chance(s, closing)) random_close(s, t, x);
         else if (action < 40) twin_offer(t, x->event[next++]);
         else if (action < 65) twin_take(t, s, t->window_length);
         else if (action < 75 && hostile) random_offer(s, t, x);
@@ -138,6 +175,7 @@ static void walk(struct source *s, struct twin *t, struct execution *x, unsigned
     drain(s, t);
     for (unsigned i = 0; i < x->n; i++) twin_offer(t, x->event[i]);
     drain(s, t);
+    if (chance(s, 35)) close_all(s, t, x);
     random_find(s, t);
     damage_excursion(s, t, 4);
 }
@@ -186,7 +224,8 @@ void try_crowd(struct source *s, struct twin *t) {
         if (action < 40) twin_offer(t, x.event[next++]);
         else if (action < 85) repeated_offer(s, t, x.event, next);
         else if (action < 90) twin_take(t, s, t->window_length);
-        else if (action < 95) random_offer(s, t, &x);
+        else if (action < 93) random_offer(s, t, &x);
+        else if (action < 95) random_close(s, t, &x);
         else damage_excursion(s, t, 3);
     }
 }
@@ -201,6 +240,7 @@ void try_damage(struct source *s, struct twin *t) {
     for (unsigned i = 0; i < x.n; i++) {
         twin_offer(t, x.event[i]);
         if (chance(s, 50)) twin_take(t, s, t->window_length);
+        if (chance(s, 5)) random_close(s, t, &x);
     }
     for (unsigned i = 0; i < 12; i++) damage_excursion(s, t, 5);
 }
