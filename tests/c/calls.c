@@ -1,4 +1,4 @@
-/* The C test of the four calls, through include/watch.h. */
+/* The C test of the five calls, through include/watch.h. */
 #include "subject.h"
 
 unsigned long checks, failures;
@@ -22,6 +22,7 @@ int main(void) {
     run("tests/c/examples.c", test_examples);
     run("tests/c/messages.c", test_messages);
     run("tests/c/find.c", test_find);
+    run("tests/c/close.c", test_close);
     run("tests/c/edges.c", test_edges);
     run("tests/c/stack.c", test_stack);
     if (failures != 0) {

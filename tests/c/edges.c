@@ -24,6 +24,9 @@ static void check_null(struct subject *s) {
     CHECK_REPLY(watch_find(0, NULL, 0, window, window_len), refused(6));
     CHECK_REPLY(watch_find(0, record, record_len, NULL, 0), refused(6));
     CHECK_REPLY(watch_find(0, NULL, 0, NULL, 0), refused(6));
+    CHECK_REPLY(watch_close(0, NULL, 0, window, window_len), refused(6));
+    CHECK_REPLY(watch_close(0, record, record_len, NULL, 0), refused(6));
+    CHECK_REPLY(watch_close(0, NULL, 0, NULL, 0), refused(6));
 }
 
 /* No alignment is asked: each buffer at each of eight. */
@@ -41,6 +44,8 @@ static void check_alignment(struct subject *s) {
         CHECK(watch_take(s->record.bytes, s->record.length, s->window.bytes, 160, s->scratch.bytes, 160) == state(1, 3));
         CHECK_REPLY(try_find(s, 6), found(2));
         CHECK(lent_intact(&s->scratch));
+        CHECK_REPLY(try_close(s, 0), closed(2));
+        CHECK_REPLY(try_close(s, 1), closed(1));
     }
 }
 

@@ -35,7 +35,8 @@ static void lay_pending(struct subject *s, uint64_t mask, uint64_t low, uint64_t
 /* Process 0 has an event taken; process 1's fifth event is pending. "Again" has its place among the refusals. */
 static void order_offer(struct subject *s) {
     static const unsigned numbers[] = {6, 34, 7, 8, 9, 31, WATCH_AGAIN, 32, 33, 0};
-    for (unsigned faults = 0; faults < 512; faults++) {
+    static const unsigned when_closed[] = {6, 34, 7, 8, 9, 42, 42, 42, 42, 42};
+    for (unsigned faults = 0; faults < 1024; faults++) {
         start(s, 8, 4, RULE);
         offer(s, 1, 1, 0, 0, 0, 0);
         CHECK_REPLY(try_take(s), state(0, 2));
@@ -51,7 +52,8 @@ static void order_offer(struct subject *s) {
         CHECK(!(faults & 256) || watch_pending(s->record.bytes) == 32);
         if (faults & 1) lend_again(&s->record, 1369, 0);
         if (faults & 2) s->record.bytes[1] = 0;
-        uint64_t expected = faults == 0 ? held(2) : first_of(faults, numbers);
+        if (faults & 512) s->record.bytes[3] = 2;
+        uint64_t expected = faults == 0 ? held(2) : first_of(faults, faults & 512 ? when_closed : numbers);
         CHECK_REPLY(try_offer(s, mask, low, high, labels), expected);
     }
 }
@@ -80,11 +82,27 @@ static void order_take(struct subject *s) {
     }
 }
 
+/* Process 1 has an event pending; it may be closed already, as no call would have done it. */
+static void order_close(struct subject *s) {
+    static const unsigned numbers[] = {6, 6, 34, 41, 41, 42, 0};
+    for (unsigned faults = 0; faults < 64; faults++) {
+        start(s, 2, 2, RULE);
+        if (faults & 32) CHECK_REPLY(offer(s, 2, 0, 1, 0, 0, 0), held(1));
+        if (faults & 1) lend_again(&s->record, 1367, 0);
+        if (faults & 2) lend_again(&s->window, 81, 0);
+        if (faults & 4) s->record.bytes[1] = 65;
+        if (faults & 8) s->record.bytes[3] = 2;
+        uint64_t process = faults & 16 ? ((uint64_t)1 << 32) + 1 : 1;
+        CHECK_REPLY(try_close(s, process), faults == 0 ? closed(1) : refused(first_of(faults, numbers)));
+    }
+}
+
 void test_orders(void) {
     struct subject s = subject_new();
     order_open(&s);
     order_offer(&s);
     order_find(&s);
     order_take(&s);
+    order_close(&s);
     subject_free(&s);
 }

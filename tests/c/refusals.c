@@ -14,6 +14,7 @@ static void check_lengths(struct subject *s) {
         CHECK_REPLY(try_open(s, RULE, 2, 0), refused(6));
         CHECK_REPLY(try_take(s), refused(6));
         CHECK_REPLY(try_find(s, 0), refused(6));
+        CHECK_REPLY(try_close(s, 0), refused(6));
     }
     lend_room(s, 4);
     for (size_t i = 0; i < sizeof wrong / sizeof wrong[0]; i++) {
@@ -32,6 +33,7 @@ static void check_lengths(struct subject *s) {
         CHECK_REPLY(offer(s, 1, 1, 0, 0, 0, 1), refused(6));
         CHECK_REPLY(try_take(s), refused(6));
         CHECK_REPLY(try_find(s, 0), refused(6));
+        CHECK_REPLY(try_close(s, 0), refused(6));
     }
     static const size_t rooms[] = {1, 2, 1023, 1024};
     for (size_t i = 0; i < sizeof rooms / sizeof rooms[0]; i++) {
@@ -174,21 +176,23 @@ static void check_full(struct subject *s) {
     for (unsigned i = 0; i < 32; i++) CHECK(s->record.bytes[344 + 32 * i + 8] == 9 + i);
 }
 
-/* Sets one byte, or four, of a fresh record and tries the three calls that read one. */
-static void check_damage(struct subject *s, size_t place, uint32_t value, size_t bytes, unsigned number, unsigned offer_number) {
+/* Sets one byte, or four, of a fresh record and tries the four calls that read one. */
+static void check_damage(struct subject *s, size_t place, uint32_t value, size_t bytes, unsigned number,
+                         unsigned offer_number) {
     start(s, 2, 2, "(es (not (at 1 7)) (ey (at 0 0)))");
     CHECK(memcmp(s->record.bytes + 152, "\0\1\7\1\0\0\0\0\0\3\2\0\4\1\3", 15) == 0);
     for (size_t i = 0; i < bytes; i++) s->record.bytes[place + i] = (uint8_t)(value >> 8 * i);
     CHECK(watch_number(offer(s, 1, 1, 0, 0, 0, 0)) == offer_number);
     CHECK(watch_number(try_find(s, 0)) == number);
     if (number != 0) CHECK_REPLY(try_take(s), refused(number));
+    CHECK(watch_number(try_close(s, 1)) == number);
 }
 
 static void check_damaged(struct subject *s) {
     static const struct { size_t place; uint32_t value; size_t bytes; unsigned number; } one[] = {
         {0, 0, 1, 34}, {0, 9, 1, 34}, {0, 255, 1, 34}, {0, 1, 1, 34}, {0, 2, 1, 0}, {0, 8, 1, 0},
         {1, 0, 1, 34}, {1, 65, 1, 34}, {1, 255, 1, 34}, {1, 4, 1, 0}, {1, 1, 1, 0},
-        {2, 33, 1, 34}, {2, 255, 1, 34}, {2, 31, 1, 0}, {3, 255, 1, 0},
+        {2, 33, 1, 34}, {2, 255, 1, 34}, {2, 31, 1, 0}, {3, 252, 1, 0},
         {4, 0, 4, 34}, {4, 1025, 4, 34}, {4, 65536, 4, 34}, {4, 65537, 4, 34}, {4, 1u << 31 | 1, 4, 34}, {4, 1u << 24, 4, 34}, {4, 2, 4, 0},
         {152, 6, 1, 34}, {152, 255, 1, 34}, {153, 2, 1, 34}, {153, 0, 1, 0}, {154, 8, 1, 34}, {154, 0, 1, 0},
         {156, 1, 1, 34}, {156, 200, 1, 34}, {157, 1, 1, 34}, {162, 3, 1, 34}, {162, 1, 1, 0}, {163, 1, 1, 34},
@@ -200,10 +204,12 @@ static void check_damaged(struct subject *s) {
     check_damage(s, 4, 3, 4, 34, 0);
     check_damage(s, 4, 1024, 4, 34, 0);
     check_damage(s, 1, 6, 1, 0, 0);
+    check_damage(s, 3, 253, 1, 0, 42);
     lend(&s->record, WATCH_RECORD_BYTES, 0);
     CHECK_REPLY(try_find(s, 0), refused(34));
     CHECK_REPLY(try_take(s), refused(34));
     CHECK_REPLY(offer(s, 1, 1, 0, 0, 0, 0), refused(34));
+    CHECK_REPLY(try_close(s, 0), refused(34));
 }
 
 static void check_find(struct subject *s) {

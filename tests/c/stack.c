@@ -35,6 +35,11 @@ static void do_find(void) {
     answer = watch_find(0, at_work->record.bytes, at_work->record.length, at_work->window.bytes, at_work->window.length);
 }
 
+static void do_close(void) {
+    answer = watch_close(0, at_work->record.bytes, at_work->record.length, at_work->window.bytes,
+                         at_work->window.length);
+}
+
 /* How deep the call went into the painted stack. */
 static size_t depth(void (*call)(void)) {
     uint8_t *stack = malloc(STACK);
@@ -53,7 +58,7 @@ static size_t depth(void (*call)(void)) {
 
 void test_stack(void) {
     struct subject s = subject_new();
-    size_t nothing = depth(do_nothing), used[4];
+    size_t nothing = depth(do_nothing), used[5];
     at_work = &s;
     lend_room(&s, WATCH_ROOM);
     used[0] = depth(do_open);
@@ -68,10 +73,13 @@ void test_stack(void) {
     CHECK(watch_number(answer) == 0 && watch_value(answer) == 301);
     used[3] = depth(do_find);
     CHECK(watch_number(answer) == 0);
-    for (unsigned i = 0; i < 4; i++) {
+    used[4] = depth(do_close);
+    CHECK_REPLY(answer, closed(1));
+    for (unsigned i = 0; i < 5; i++) {
         used[i] -= nothing;
         CHECK(used[i] <= WATCH_STACK_BYTES);
     }
-    printf("stack: open %zu, offer %zu, take %zu, find %zu bytes\n", used[0], used[1], used[2], used[3]);
+    printf("stack: open %zu, offer %zu, take %zu, find %zu, close %zu bytes\n", used[0], used[1], used[2], used[3],
+           used[4]);
     subject_free(&s);
 }

@@ -105,6 +105,30 @@ uint64_t try_find(struct subject *s, uint64_t line) {
     return reply;
 }
 
+/* Of an accepted close: the process's bit, the number of frontiers kept, and what stands in their places may change. */
+static void check_closed(const struct subject *s, uint64_t process, const uint8_t *record, const uint8_t *window,
+                         uint64_t reply) {
+    const uint8_t *after = s->record.bytes;
+    size_t before = WATCH_WINDOW_BYTES(watch_kept(record)), kept = WATCH_WINDOW_BYTES(watch_kept(after));
+    CHECK(watch_flag(reply) == 0 && watch_place(reply) == 0 && watch_value(reply) == watch_kept(after));
+    CHECK(process < 8 && after[3] == (record[3] | 1u << process) && !(record[3] >> process & 1));
+    CHECK(memcmp(after, record, 3) == 0 && after[6] == 0 && after[7] == 0);
+    CHECK(memcmp(after + 8, record + 8, WATCH_RECORD_BYTES - 8) == 0);
+    CHECK(kept <= before && all_zero(s->window.bytes + kept, before - kept));
+    CHECK(memcmp(s->window.bytes + before, window + before, s->window.length - before) == 0);
+}
+
+uint64_t try_close(struct subject *s, uint64_t process) {
+    uint8_t *record = copy(&s->record), *window = copy(&s->window);
+    uint64_t reply = watch_close(process, s->record.bytes, s->record.length, s->window.bytes, s->window.length);
+    if (watch_number(reply) == 0) check_closed(s, process, record, window, reply);
+    int same_record = same(&s->record, record), same_window = same(&s->window, window);
+    CHECK(watch_number(reply) == 0 ? !same_record : same_record && same_window);
+    check_refusal(reply);
+    check_guards(s);
+    return reply;
+}
+
 void start(struct subject *s, size_t room, uint64_t k, const char *rule) {
     lend(&s->record, WATCH_RECORD_BYTES, 0);
     lend_room(s, room);

@@ -23,6 +23,7 @@ uint64_t try_open_bytes(struct subject *s, const uint8_t *rule, size_t length, u
 uint64_t try_offer(struct subject *s, uint64_t mask, uint64_t low, uint64_t high, uint64_t labels);
 uint64_t try_take(struct subject *s);
 uint64_t try_find(struct subject *s, uint64_t line);
+uint64_t try_close(struct subject *s, uint64_t process);
 
 /* A watch of k processes with this rule, labels 0, room for so many frontiers. */
 void start(struct subject *s, size_t room, uint64_t k, const char *rule);
@@ -34,6 +35,7 @@ static inline uint64_t refused(unsigned number) { return number; }
 static inline uint64_t refused_at(unsigned number, uint64_t place) { return number | place << 32; }
 static inline uint64_t state(unsigned truth, unsigned kept) { return (uint64_t)truth << 8 | (uint64_t)kept << 16; }
 static inline uint64_t held(unsigned number) { return (uint64_t)number << 16; }
+static inline uint64_t closed(unsigned kept) { return (uint64_t)kept << 16; }
 #define NOTHING_READY ((uint64_t)0)
 
 /* Find's reply: the place of a frontier, or that there is none. */
@@ -46,6 +48,7 @@ void test_orders(void);
 void test_examples(void);
 void test_messages(void);
 void test_find(void);
+void test_close(void);
 void test_edges(void);
 void test_stack(void);
 
