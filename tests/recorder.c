@@ -10,6 +10,7 @@ extern __typeof__(watch_open) __real_watch_open, __wrap_watch_open;
 extern __typeof__(watch_offer) __real_watch_offer, __wrap_watch_offer;
 extern __typeof__(watch_take) __real_watch_take, __wrap_watch_take;
 extern __typeof__(watch_find) __real_watch_find, __wrap_watch_find;
+extern __typeof__(watch_close) __real_watch_close, __wrap_watch_close;
 
 static void put(const void *bytes, size_t length) {
     static FILE *recording;
@@ -55,4 +56,11 @@ uint64_t __wrap_watch_take(uint8_t *record, size_t record_len, uint8_t *window, 
 uint64_t __wrap_watch_find(uint64_t line, const uint8_t *record, size_t record_len, const uint8_t *window,
                            size_t window_len) {
     return put_reply(__real_watch_find(line, record, record_len, window, window_len));
+}
+
+uint64_t __wrap_watch_close(uint64_t process, uint8_t *record, size_t record_len, uint8_t *window, size_t window_len) {
+    uint64_t reply = __real_watch_close(process, record, record_len, window, window_len);
+    put(record, record_len);
+    put(window, window_len);
+    return put_reply(reply);
 }
