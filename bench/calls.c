@@ -17,19 +17,22 @@
 
 enum { ROUNDS = 301, WINDOW = WATCH_FRONTIER_BYTES * WATCH_ROOM };
 
-/* One side: its four calls, its watch, and a digest of its replies. */
+/* One side: its five calls, its watch, and a digest of its replies. */
 struct side {
     uint64_t (*open)(const uint8_t *, size_t, uint64_t, uint64_t, uint8_t *, size_t, uint8_t *, size_t);
     uint64_t (*offer)(uint64_t, uint64_t, uint64_t, uint64_t, uint8_t *, size_t);
     uint64_t (*take)(uint8_t *, size_t, uint8_t *, size_t, uint8_t *, size_t);
     uint64_t (*find)(uint64_t, const uint8_t *, size_t, const uint8_t *, size_t);
+    uint64_t (*close)(uint64_t, uint8_t *, size_t, uint8_t *, size_t);
     uint8_t record[WATCH_RECORD_BYTES], window[WINDOW], scratch[WINDOW];
     uint64_t digest;
     double times[ROUNDS];
 };
 
-static struct side proved = {.open = watch_open, .offer = watch_offer, .take = watch_take, .find = watch_find};
-static struct side plain = {.open = plain_open, .offer = plain_offer, .take = plain_take, .find = plain_find};
+static struct side proved = {
+    .open = watch_open, .offer = watch_offer, .take = watch_take, .find = watch_find, .close = watch_close};
+static struct side plain = {
+    .open = plain_open, .offer = plain_offer, .take = plain_take, .find = plain_find, .close = plain_close};
 
 /* A piece of work starts each time from these bytes. */
 static struct {
@@ -299,6 +302,54 @@ static void clocks(void) {
     measure("take, eight ready, none fits", one_take, 1, ROUNDS);
 }
 
+/* ---- closes ---- */
+
+static unsigned to_close;
+
+static void one_close(struct side *s) {
+    seen(s, s->close(to_close, s->record, sizeof s->record, s->window, saved.length));
+}
+
+static void measure_close(const char *name, unsigned process) {
+    to_close = process;
+    save(&plain);
+    measure(name, one_close, 1, ROUNDS);
+}
+
+/* Only process 1 has events: process 0 keeps every frontier, and process 1 only the last. */
+static void fill_alone(void) {
+    saved.k = 2, saved.rule = RULE_8, saved.length = WINDOW;
+    start_over(&plain);
+    open_watch(&plain);
+    for (uint16_t n = 0; watch_kept(plain.record) < WATCH_ROOM; n++) {
+        offer_next(&plain, 1, (uint16_t[8]){0, n});
+        take_event(&plain);
+    }
+}
+
+/* The highest process that no event names which found no room: with that one pending it cannot be closed. */
+static unsigned last_not_named(unsigned k) {
+    const uint8_t *pending = plain.record + 344;
+    unsigned p = k - 1;
+    while (watch_pending(plain.record) > 0 && pending[0] >> p & 1) p--;
+    return p;
+}
+
+/* Wide windows, of which some part goes; then all frontiers but one; then none. */
+static void closes(void) {
+    uint16_t reached[8];
+    char name[80];
+    for (unsigned k = 2; k <= 8; k *= 2) {
+        fill(k, reached);
+        snprintf(name, sizeof name, "close, %u processes, of %u frontiers", k, watch_kept(plain.record));
+        measure_close(name, last_not_named(k));
+    }
+    fill_alone();
+    measure_close("close, of 1,024 frontiers all but one dropped", 0);
+    fill_alone();
+    measure_close("close, of 1,024 frontiers none dropped", 1);
+}
+
 int main(void) {
     printf("| work | frontiers after | proved (us a call) | plain C (us) | ratio |\n|---|---|---|---|---|\n");
     wide(2, RULE_8, "8", true);
@@ -314,5 +365,6 @@ int main(void) {
     small_pieces();
     repeats();
     clocks();
+    closes();
     return 0;
 }
