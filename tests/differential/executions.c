@@ -27,6 +27,12 @@ static uint64_t random_mask(struct source *s, unsigned k, unsigned joint) {
     return mask;
 }
 
+/* One at least takes part for ever. */
+static uint64_t one_ends(struct source *s, unsigned k, uint64_t ended) {
+    uint64_t more = ended | (uint64_t)1 << below(s, k);
+    return more == (1u << k) - 1 ? ended : more;
+}
+
 static bool takes_part(const struct sent *e, unsigned p) {
     return e->mask >> p & 1;
 }
@@ -62,9 +68,11 @@ static void read_notes(struct source *s, const struct execution *x, const unsign
 struct execution random_execution(struct source *s, struct shape shape) {
     struct execution x = {.k = shape.k};
     unsigned done[PROCESSES] = {0};
+    uint64_t ended = 0;
     done[shape.alone] = shape.before;
     while (x.n < shape.n && x.n < EVENTS_MOST) {
-        struct sent e = {.mask = random_mask(s, shape.k, shape.joint)};
+        struct sent e = {.mask = 0};
+        while (e.mask == 0) e.mask = random_mask(s, shape.k, shape.joint) & ~ended;
         unsigned clock[PROCESSES] = {0};
         size_t vectors = 1;
         for (unsigned p = 0; p < PROCESSES; p++) vectors *= done[p] + 1 + takes_part(&e, p);
@@ -78,6 +86,7 @@ struct execution random_execution(struct source *s, struct shape shape) {
         }
         e.labels = random_labels(s, e.mask);
         x.event[x.n++] = e;
+        if (chance(s, shape.ending)) ended = one_ends(s, shape.k, ended);
     }
     return x;
 }

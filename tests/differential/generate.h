@@ -33,6 +33,7 @@ struct shape {
     size_t most;              /* and at most so many vectors of counts */
     unsigned joint, messages; /* percentage of events with more than one process, and of those that know of others */
     unsigned alone, before;   /* so many events of one process by itself went before, which knew of nothing else */
+    unsigned ending;          /* percentage of events after which some process takes no part any more */
 };
 
 struct execution random_execution(struct source *s, struct shape shape); /* with true clocks */

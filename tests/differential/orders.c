@@ -289,6 +289,7 @@ void try_orders(struct source *s, struct twin *t, struct twin *other, bool wide)
     shape.n = between(s, 2, !wide ? 12 : lost ? 24 : 60);
     shape.joint = between(s, 10, 70);
     shape.messages = random_messages(s);
+    shape.ending = chance(s, 40) ? between(s, 5, 40) : 0;
     struct execution x = random_execution(s, shape);
     choose_events(s, &x, lost, &all);
     size_t length = random_rule(s, k, between(s, 1, 64), text);

@@ -153,11 +153,11 @@ static void close_all(struct source *s, struct twin *t, const struct execution *
     }
 }
 
-/* The execution's events and whatever comes between. Forgetting: percentage of clocks that forget. */
-static void walk(struct source *s, struct twin *t, struct execution *x, unsigned forgetting) {
+/* The execution's events and whatever comes between. Forgetting: percentage of clocks that forget; closing: of calls
+ * that are closes. */
+static void walk(struct source *s, struct twin *t, struct execution *x, unsigned forgetting, unsigned closing) {
     unsigned next = 0;
     bool hostile = chance(s, 60);
-    unsigned closing = chance(s, 40) ? 0 : between(s, 1, 12);
     if (chance(s, 70)) shuffle(s, x->event, x->n, chance(s, 60));
     while (next < x->n) {
         unsigned action = below(s, 100);
@@ -180,13 +180,21 @@ static void walk(struct source *s, struct twin *t, struct execution *x, unsigned
     damage_excursion(s, t, 4);
 }
 
+/* Where processes are closed, some have nothing more to do after a while: then others go on beside closed ones. */
+static unsigned random_closing(struct source *s, struct shape *shape) {
+    unsigned closing = chance(s, 40) ? 0 : between(s, 1, 15);
+    if (closing > 0 && chance(s, 60)) shape->ending = between(s, 10, 40);
+    return closing;
+}
+
 void try_walk(struct source *s, struct twin *t, unsigned events, size_t vectors) {
     struct shape shape = {.k = between(s, 1, 8), .n = events, .most = vectors};
     start_watch(s, t, shape.k, random_room(s));
     shape.joint = chance(s, 50) ? 15 : 50;
     shape.messages = random_messages(s);
+    unsigned closing = random_closing(s, &shape);
     struct execution x = random_execution(s, shape);
-    walk(s, t, &x, chance(s, 50) ? 25 : 0);
+    walk(s, t, &x, chance(s, 50) ? 25 : 0, closing);
 }
 
 void try_late(struct source *s, struct twin *t) {
@@ -195,6 +203,7 @@ void try_late(struct source *s, struct twin *t) {
     shape.alone = below(s, shape.k);
     shape.before = between(s, 253, 259);
     shape.messages = chance(s, 80) ? 60 : 0;
+    unsigned closing = random_closing(s, &shape);
     start_watch(s, t, shape.k, ROOM);
     for (unsigned i = 1; i <= shape.before; i++) {
         struct sent e = {.mask = (uint64_t)1 << shape.alone};
@@ -204,7 +213,7 @@ void try_late(struct source *s, struct twin *t) {
     }
     twin_catch_up(t);
     struct execution x = random_execution(s, shape);
-    walk(s, t, &x, 30);
+    walk(s, t, &x, 30, closing);
 }
 
 /* Every event comes after one of all processes together that does not come, so nothing is ready until others are sent
