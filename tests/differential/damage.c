@@ -1,5 +1,5 @@
-/* Calls on records and windows that no list of calls leaves. What the paper fixes there is compared, and what find
- * answers and what close does; the rest of what it leaves free is not. */
+/* Calls on records and windows that no list of calls leaves. What the paper fixes there is compared, and what find and
+ * close answer; the rest of what it leaves free is not. */
 #include <stdlib.h>
 #include <string.h>
 
@@ -211,15 +211,17 @@ static void plant_ready(struct source *s, struct damaged *d, unsigned kept_front
  * alone, of some. Mostly little is pending, so that a process can be closed. */
 static void plant_complete(struct source *s, struct damaged *d) {
     uint8_t *record = d->record.bytes;
-    if (chance(s, 50)) record[TAKEN_AT + below(s, 16)] = (uint8_t)draw(s);
+    if (chance(s, 50)) damage_byte(s, record + TAKEN_AT + below(s, 16));
     for (unsigned place = 0; place < room_of(d); place++) {
-        uint8_t one = (uint8_t)(1u << below(s, 8)), set = (uint8_t)(draw(s) & draw(s));
+        uint8_t one = (uint8_t)(1u << below(s, 8)), set = (uint8_t)(draw(s) & draw(s)), *at = frontier_at(d, place);
         unsigned way = below(s, 5);
         if (way == 0) continue;
         if (way < 4) set = way == 1 ? 255 : way == 2 ? (uint8_t)~one : one;
-        memcpy(frontier_at(d, place), record + TAKEN_AT, 16);
-        for (unsigned p = 0; p < PROCESSES; p++)
-            if (!(set >> p & 1)) frontier_at(d, place)[2 * p + below(s, 2)] ^= (uint8_t)(1u << below(s, 8));
+        memcpy(at, record + TAKEN_AT, 16);
+        for (unsigned p = 0; p < PROCESSES; p++) {
+            unsigned bit = below(s, 16);
+            if (!(set >> p & 1)) at[2 * p + bit / 8] ^= (uint8_t)(1u << bit % 8);
+        }
     }
     if (chance(s, 70)) record[2] = (uint8_t)below(s, 3);
 }

@@ -74,6 +74,7 @@ static uint64_t list_close(struct list *l, uint64_t process) {
     compare_replies(tally(CLOSE, reply), expected);
     compare_bytes("record", t->record.bytes, record, RECORD);
     compare_bytes("window", t->window.bytes, window, t->window.length);
+    if (!lent_intact(&t->record) || !lent_intact(&t->window)) differs("a byte outside the buffers changed");
     return reply;
 }
 
@@ -230,7 +231,8 @@ static void choose_events(struct source *s, const struct execution *x, bool lost
     for (unsigned i = 0; i < x->n; i++)
         if (i != missing) all->event[all->n++] = x->event[i];
     for (unsigned i = 0; i < all->wrong_number; i++) all->event[all->n++] = all->wrong[i];
-    if (chance(s, 60)) all->closing = (unsigned)(draw(s) | (chance(s, 30) ? 255 : 0)) & ((1u << x->k) - 1);
+    uint64_t some = draw(s), every = chance(s, 30) ? 255 : 0;
+    if (chance(s, 60)) all->closing = (unsigned)(some | every) & ((1u << x->k) - 1);
 }
 
 static void compare_verdicts(const struct verdicts *one, const struct verdicts *two) {

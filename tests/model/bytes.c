@@ -1,6 +1,6 @@
 /* Records and windows of any bytes, as no list of calls may have left them: refusals, "again" and "nothing ready" are
  * exact there too, and so is what an accepted offer writes; whether a window fits, and what take writes when an event
- * leaves, are free. What find answers, and what close does, would be free as well, but the library promises more: see
+ * leaves, are free. What an accepted find or close answers would be free as well, but the library promises more: see
  * model.h. */
 #include <string.h>
 

@@ -146,8 +146,8 @@ struct possible {
 struct possible bytes_take(const uint8_t *record, size_t record_len, const uint8_t *window, size_t window_len,
                            size_t scratch_len);
 
-/* The reply of close, and what it writes. That is free on such bytes by the scope; the library promises the bytes'
- * own meaning, see bytes.c, and is held to that. */
+/* The reply of close, and what it writes. Which frontiers stay is told by the bytes of record and window alone; what is
+ * answered then the scope leaves free, and the library promises how many these are. */
 uint64_t bytes_close(uint64_t process, uint8_t *record, size_t record_len, uint8_t *window, size_t window_len);
 
 #endif
