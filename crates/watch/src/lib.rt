@@ -64,8 +64,10 @@ pub extern "C" fn watch_find(line: u64, record: &[u8], window: &[u8]) -> u64
 #[no_mangle]
 pub extern "C" fn watch_close(process: u64, record: &mut [u8], window: &mut [u8]) -> u64
     ensures reply { λ r. ⌜ r ≡ replyWord (closeCall 2 process (now («record» .entry)) (now (window .entry)) .answer) ⌝ }
-    ensures bytes { λ r. ⌜ now («record» .exit) ≡ closeCall 2 process (now («record» .entry)) (now (window .entry)) .bytes ⌝ }
-    ensures window { λ r. ⌜ now (window .exit) ≡ closeCall 2 process (now («record» .entry)) (now (window .entry)) .window ⌝ }
+    ensures bytes { λ r. ⌜ now («record» .exit)
+        ≡ closeCall 2 process (now («record» .entry)) (now (window .entry)) .bytes ⌝ }
+    ensures window { λ r. ⌜ now (window .exit)
+        ≡ closeCall 2 process (now («record» .entry)) (now (window .entry)) .window ⌝ }
 {
     call_close::close(2, process, record, window)
 }

@@ -88,8 +88,8 @@ returns c =
     let mask = closed .ensures .0 ∙ ap (λ (m : ℕ). closing m (a .p)) (masked .before .closed-mask .ensures .0) in
     let law =
     closed-by (a .w) (a .p) (now (a .«record»)) (now (a .window)) (kept .kept-count .result) (k .result)
-    (closed .result) (d .drop-others .result) (counts .taken-counts .result) (kept .kept-count .ensures) (k .ensures .0) mask
-    (counts .taken-counts .ensures) (d .drop-others .ensures .1 .0) in
+    (closed .result) (d .drop-others .result) (counts .taken-counts .result) (kept .kept-count .ensures) (k .ensures .0)
+    mask (counts .taken-counts .ensures) (d .drop-others .ensures .1 .0) in
     (law .0, (c .before .before .set-closed .ensures ∙ law .1, d .drop-others .ensures .1 .1 ∙ law .2))
 
 pub close-process-spec : {M : Type 1} → statement M
