@@ -54,7 +54,8 @@ module _ {A : Type 0} (f : A → List ℕ) where
   pub block-between : (xs : List A) (i : ℕ) (d : A) → i < length xs
       → blocks f xs ≡ blocks f (take i xs) ++ (f (getD xs i d) ++ blocks f (drop (suc i) xs))
   unfolding blocks
-  block-between xs i d l = rw (blocks-split xs i) (ap (λ (ys : List A). blocks f (take i xs) ++ blocks f ys) (drop-cons xs i d l))
+  block-between xs i d l =
+      rw (blocks-split xs i) (ap (λ (ys : List A). blocks f (take i xs) ++ blocks f ys) (drop-cons xs i d l))
 
   -- The same with a list before and one behind.
   pub block-apart : (xs : List A) (i : ℕ) (d : A) → i < length xs → (a c : List ℕ)
@@ -70,24 +71,29 @@ module _ {A : Type 0} (f : A → List ℕ) where
     unfolding blocks
     length-blocks [] h = sym (zero-mul n)
     length-blocks (x ∷ xs) h =
-        rw (length-append, h x (List·Memᴰ·head refl), length-blocks xs (λ y m. h y (List·Memᴰ·tail m)), suc-mul) (omega arith)
+        rw (length-append, h x (List·Memᴰ·head refl), length-blocks xs (λ y m. h y (List·Memᴰ·tail m)), suc-mul)
+        (omega arith)
 
     -- The first i are the first i blocks, whatever stands behind; what is left are the others.
     pub length-first : (xs : List A) → Even f n xs → (i : ℕ) → i ≤ length xs → length (blocks f (take i xs)) ≡ i * n
     length-first xs h i l =
         length-blocks (take i xs) (λ y m. h y (member-take i xs y m)) ∙ ap (λ (k : ℕ). k * n) (length-take-le i xs l)
 
-    pub length-before : (xs : List A) → Even f n xs → (i : ℕ) → i ≤ length xs → (a : List ℕ) (m : ℕ) → length a ≡ m → length (a ++ blocks f (take i xs)) ≡ m + i * n
+    pub length-before : (xs : List A) → Even f n xs → (i : ℕ) → i ≤ length xs → (a : List ℕ) (m : ℕ) → length a ≡ m
+        → length (a ++ blocks f (take i xs)) ≡ m + i * n
     length-before xs h i l a m long = rw (length-append, long, length-first xs h i l)
 
-    pub take-blocks : (xs : List A) → Even f n xs → (rest : List ℕ) (i : ℕ) → i ≤ length xs → take (i * n) (blocks f xs ++ rest) ≡ blocks f (take i xs)
+    pub take-blocks : (xs : List A) → Even f n xs → (rest : List ℕ) (i : ℕ) → i ≤ length xs
+        → take (i * n) (blocks f xs ++ rest) ≡ blocks f (take i xs)
     take-blocks xs h rest i l =
-        rw (blocks-split xs i, append-assoc) (take-at (blocks f (take i xs)) (blocks f (drop i xs) ++ rest) (i * n) (length-first xs h i l))
+        rw (blocks-split xs i, append-assoc)
+        (take-at (blocks f (take i xs)) (blocks f (drop i xs) ++ rest) (i * n) (length-first xs h i l))
 
     pub drop-blocks : (xs : List A) → Even f n xs → (rest : List ℕ) (i : ℕ) → i ≤ length xs
         → drop (i * n) (blocks f xs ++ rest) ≡ blocks f (drop i xs) ++ rest
     drop-blocks xs h rest i l =
-        rw (blocks-split xs i, append-assoc) (drop-at (blocks f (take i xs)) (blocks f (drop i xs) ++ rest) (i * n) (length-first xs h i l))
+        rw (blocks-split xs i, append-assoc)
+        (drop-at (blocks f (take i xs)) (blocks f (drop i xs) ++ rest) (i * n) (length-first xs h i l))
 
     -- One block stored anew.
     pub blocks-set : (xs : List A) → Even f n xs → (i : ℕ) (x : A) → i < length xs → length (f x) ≡ n
@@ -95,4 +101,5 @@ module _ {A : Type 0} (f : A → List ℕ) where
     unfolding blocks
     blocks-set xs h i x l e =
         rw (block-between xs i x l, set-split xs i x l, blocks-append (take i xs) (x ∷ drop (suc i) xs))
-        (sets-over (blocks f (take i xs)) (f (getD xs i x)) (blocks f (drop (suc i) xs)) (i * n) (length-first xs h i (omega arith)) (f x) (e ∙ sym (h (getD xs i x) (place-member xs i x l))))
+        (sets-over (blocks f (take i xs)) (f (getD xs i x)) (blocks f (drop (suc i) xs)) (i * n)
+        (length-first xs h i (omega arith)) (f x) (e ∙ sym (h (getD xs i x) (place-member xs i x l))))

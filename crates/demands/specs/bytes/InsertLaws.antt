@@ -20,15 +20,18 @@ module _ {A : Type 0} where
   pub length-insertAt : (i : ℕ) (x : A) (xs : List A) → length (insertAt i x xs) ≡ length xs + 1
   unfolding insertAt
   length-insertAt i x xs =
-      rw (length-append (take i xs) (x ∷ drop i xs)) (omega (arith, length-append (take i xs) (drop i xs), ap length (take-append-drop i xs)))
+      rw (length-append (take i xs) (x ∷ drop i xs))
+      (omega (arith, length-append (take i xs) (drop i xs), ap length (take-append-drop i xs)))
 
-  pub member-insertAt : (i : ℕ) (x : A) (xs : List A) (z : A) → List·Memᴰ z (insertAt i x xs) ↔ ((z ≡ x) ⊎ List·Memᴰ z xs)
+  pub member-insertAt : (i : ℕ) (x : A) (xs : List A) (z : A)
+      → List·Memᴰ z (insertAt i x xs) ↔ ((z ≡ x) ⊎ List·Memᴰ z xs)
   unfolding insertAt
   member-insertAt i x xs z = (out, into)
     where
       out : List·Memᴰ z (take i xs ++ (x ∷ drop i xs)) → (z ≡ x) ⊎ List·Memᴰ z xs
       out m =
-          ⊎-elim (λ k. inr (member-take i xs z k)) (λ k. ⊎-elim (λ e. inl e) (λ j. inr (member-drop i xs z j)) (List·Memᴰ·cases-cons k))
+          ⊎-elim (λ k. inr (member-take i xs z k))
+          (λ k. ⊎-elim (λ e. inl e) (λ j. inr (member-drop i xs z j)) (List·Memᴰ·cases-cons k))
           (List·Memᴰ·append-cases (take i xs) m)
 
       split : List·Memᴰ z xs → List·Memᴰ z (take i xs) ⊎ List·Memᴰ z (drop i xs)
@@ -37,9 +40,11 @@ module _ {A : Type 0} where
       into : (z ≡ x) ⊎ List·Memᴰ z xs → List·Memᴰ z (take i xs ++ (x ∷ drop i xs))
       into (inl e) = Memᴰ·append-right (take i xs) (List·Memᴰ·head e)
       into (inr m) =
-          ⊎-elim (λ k. Memᴰ·append-left (x ∷ drop i xs) k) (λ k. Memᴰ·append-right (take i xs) (List·Memᴰ·tail k)) (split m)
+          ⊎-elim (λ k. Memᴰ·append-left (x ∷ drop i xs) k) (λ k. Memᴰ·append-right (take i xs) (List·Memᴰ·tail k))
+          (split m)
 
-  pub getD-insertAt-before : (i : ℕ) (x : A) (xs : List A) (j : ℕ) (d : A) → i ≤ length xs → j < i → getD (insertAt i x xs) j d ≡ getD xs j d
+  pub getD-insertAt-before : (i : ℕ) (x : A) (xs : List A) (j : ℕ) (d : A) → i ≤ length xs → j < i
+      → getD (insertAt i x xs) j d ≡ getD xs j d
   unfolding insertAt
   getD-insertAt-before zero x xs j d h l = absurd (omega arith)
   getD-insertAt-before (suc i) x [] j d h l = absurd (omega arith)
@@ -50,7 +55,8 @@ module _ {A : Type 0} where
   unfolding insertAt
   getD-insertAt-same i x xs d h = getD-at (take i xs) x (drop i xs) d i (length-take-le i xs h)
 
-  pub getD-insertAt-after : (i : ℕ) (x : A) (xs : List A) (j : ℕ) (d : A) → i ≤ length xs → i ≤ j → getD (insertAt i x xs) (suc j) d ≡ getD xs j d
+  pub getD-insertAt-after : (i : ℕ) (x : A) (xs : List A) (j : ℕ) (d : A) → i ≤ length xs → i ≤ j
+      → getD (insertAt i x xs) (suc j) d ≡ getD xs j d
   unfolding insertAt
   getD-insertAt-after zero x xs j d h l = refl
   getD-insertAt-after (suc i) x [] j d h l = absurd (omega arith)
@@ -61,16 +67,19 @@ module _ {A : Type 0} where
   pub length-removeAt : (i : ℕ) (xs : List A) → i < length xs → length (removeAt i xs) ≡ length xs - 1
   unfolding removeAt
   length-removeAt i xs h =
-      rw (length-append (take i xs) (drop (suc i) xs), length-take-le i xs (omega arith), length-drop (suc i) xs) (omega arith)
+      rw (length-append (take i xs) (drop (suc i) xs), length-take-le i xs (omega arith), length-drop (suc i) xs)
+      (omega arith)
 
-  pub member-removeAt : (i : ℕ) (xs : List A) (d z : A) → i < length xs → List·Memᴰ z xs ↔ ((z ≡ getD xs i d) ⊎ List·Memᴰ z (removeAt i xs))
+  pub member-removeAt : (i : ℕ) (xs : List A) (d z : A) → i < length xs
+      → List·Memᴰ z xs ↔ ((z ≡ getD xs i d) ⊎ List·Memᴰ z (removeAt i xs))
   unfolding removeAt
   member-removeAt i xs d z h = (out, into)
     where
       whole : xs ≡ take i xs ++ (getD xs i d ∷ drop (suc i) xs)
       whole = split-at xs i d h
 
-      sort : List·Memᴰ z (take i xs ++ (getD xs i d ∷ drop (suc i) xs)) → (z ≡ getD xs i d) ⊎ List·Memᴰ z (take i xs ++ drop (suc i) xs)
+      sort : List·Memᴰ z (take i xs ++ (getD xs i d ∷ drop (suc i) xs))
+          → (z ≡ getD xs i d) ⊎ List·Memᴰ z (take i xs ++ drop (suc i) xs)
       sort m =
           ⊎-elim (λ k. inr (Memᴰ·append-left (drop (suc i) xs) k))
           (λ k. ⊎-elim (λ e. inl e) (λ j. inr (Memᴰ·append-right (take i xs) j)) (List·Memᴰ·cases-cons k))
@@ -79,23 +88,27 @@ module _ {A : Type 0} where
       out : List·Memᴰ z xs → (z ≡ getD xs i d) ⊎ List·Memᴰ z (take i xs ++ drop (suc i) xs)
       out m = sort (subst (λ (l : List A). List·Memᴰ z l) whole m)
 
-      mix : (z ≡ getD xs i d) ⊎ List·Memᴰ z (take i xs ++ drop (suc i) xs) → List·Memᴰ z (take i xs ++ (getD xs i d ∷ drop (suc i) xs))
+      mix : (z ≡ getD xs i d) ⊎ List·Memᴰ z (take i xs ++ drop (suc i) xs)
+          → List·Memᴰ z (take i xs ++ (getD xs i d ∷ drop (suc i) xs))
       mix (inl e) = Memᴰ·append-right (take i xs) (List·Memᴰ·head e)
       mix (inr m) =
-          ⊎-elim (λ k. Memᴰ·append-left (getD xs i d ∷ drop (suc i) xs) k) (λ k. Memᴰ·append-right (take i xs) (List·Memᴰ·tail k))
+          ⊎-elim (λ k. Memᴰ·append-left (getD xs i d ∷ drop (suc i) xs) k)
+          (λ k. Memᴰ·append-right (take i xs) (List·Memᴰ·tail k))
           (List·Memᴰ·append-cases (take i xs) m)
 
       into : (z ≡ getD xs i d) ⊎ List·Memᴰ z (take i xs ++ drop (suc i) xs) → List·Memᴰ z xs
       into s = subst⁻¹ (λ (l : List A). List·Memᴰ z l) whole (mix s)
 
-  pub getD-removeAt-before : (i : ℕ) (xs : List A) (j : ℕ) (d : A) → i < length xs → j < i → getD (removeAt i xs) j d ≡ getD xs j d
+  pub getD-removeAt-before : (i : ℕ) (xs : List A) (j : ℕ) (d : A) → i < length xs → j < i
+      → getD (removeAt i xs) j d ≡ getD xs j d
   unfolding removeAt
   getD-removeAt-before zero xs j d h l = absurd (omega arith)
   getD-removeAt-before (suc i) [] j d h l = absurd (omega arith)
   getD-removeAt-before (suc i) (y ∷ ys) zero d h l = refl
   getD-removeAt-before (suc i) (y ∷ ys) (suc j) d h l = getD-removeAt-before i ys j d (omega arith) (omega arith)
 
-  pub getD-removeAt-after : (i : ℕ) (xs : List A) (j : ℕ) (d : A) → i < length xs → i ≤ j → getD (removeAt i xs) j d ≡ getD xs (suc j) d
+  pub getD-removeAt-after : (i : ℕ) (xs : List A) (j : ℕ) (d : A) → i < length xs → i ≤ j
+      → getD (removeAt i xs) j d ≡ getD xs (suc j) d
   unfolding removeAt
   getD-removeAt-after zero [] j d h l = absurd (omega arith)
   getD-removeAt-after zero (y ∷ ys) j d h l = refl

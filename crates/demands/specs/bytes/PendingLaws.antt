@@ -25,12 +25,15 @@ none : Event
 none = record { mask = 0; clock = []; labels = [] }
 
 module _ (w : ℕ) (t : Status) (z : Sized w t) where
-  pub pendingAt-recordBytes : (i : ℕ) (d : Event) → i < length (t .pending) → pendingAt w (recordBytes w t) i ≡ getD (t .pending) i d
+  pub pendingAt-recordBytes : (i : ℕ) (d : Event) → i < length (t .pending)
+      → pendingAt w (recordBytes w t) i ≡ getD (t .pending) i d
   unfolding pendingAt
   pendingAt-recordBytes i d l =
       rw (recordBytes-blocks w t, pendingBytes-blocks w es, block-apart (eventBytes w) es i d l front rest)
-      (eventFrom-bytes w (getD es i d) (z .storable (getD es i d) (place-member es i d l)) (front ++ blocks (eventBytes w) (take i es)) (blocks (eventBytes w) (drop (suc i) es) ++ rest) (pendingPlace w i)
-      (length-before (eventBytes w) (eventLength w) es (even-pending w es (z .storable)) i (omega arith) front (200 + 72 * w) (length-frontBytes w t (length es) (z .short))))
+      (eventFrom-bytes w (getD es i d) (z .storable (getD es i d) (place-member es i d l))
+      (front ++ blocks (eventBytes w) (take i es)) (blocks (eventBytes w) (drop (suc i) es) ++ rest) (pendingPlace w i)
+      (length-before (eventBytes w) (eventLength w) es (even-pending w es (z .storable)) i (omega arith) front
+      (200 + 72 * w) (length-frontBytes w t (length es) (z .short))))
     where
       es : List Event
       es = t .pending
@@ -45,7 +48,9 @@ module _ (w : ℕ) (t : Status) (z : Sized w t) where
   unfolding pendingEvents
   pendingEvents-recordBytes =
       rw (pendingCount-recordBytes w t)
-      (sym (filled (length (t .pending)) (pendingAt w (recordBytes w t)) none (t .pending) refl (λ i l. sym (pendingAt-recordBytes i none l))))
+      (sym
+      (filled (length (t .pending)) (pendingAt w (recordBytes w t)) none (t .pending) refl
+      (λ i l. sym (pendingAt-recordBytes i none l))))
 
 -- ---- One put in or left out
 
@@ -68,17 +73,31 @@ module _ (w : ℕ) (t : Status) (z : Sized w t) where
 
   -- The bytes of the events from number i on.
   part-pending : (i : ℕ) → i ≤ length (t .pending)
-      → take ((length (t .pending) - i) * eventLength w) (drop (pendingPlace w i) (recordBytes w t)) ≡ blocks (eventBytes w) (drop i (t .pending))
+      → take ((length (t .pending) - i) * eventLength w) (drop (pendingPlace w i) (recordBytes w t))
+      ≡ blocks (eventBytes w) (drop i (t .pending))
   part-pending i l =
-      rw (recordBytes-blocks w t, drop-behind (frontBytes w t (length (t .pending))) (pendingBlock w (t .pending)) (200 + 72 * w) long (i * eventLength w), block-inRoom w (t .pending))
+      rw (
+        recordBytes-blocks w t,
+        drop-behind (frontBytes w t (length (t .pending))) (pendingBlock w (t .pending)) (200 + 72 * w) long
+            (i * eventLength w),
+        block-inRoom w (t .pending),
+      )
       (part-inRoom (eventBytes w) (eventLength w) 32 (t .pending) even i l)
 
   -- Bytes stored from event number i on.
   sets-pending : (i : ℕ) (xs : List ℕ) (es : List Event)
-      → sets (inRoom (eventBytes w) (eventLength w) 32 (t .pending)) (i * eventLength w) xs ≡ inRoom (eventBytes w) (eventLength w) 32 es
+      → sets (inRoom (eventBytes w) (eventLength w) 32 (t .pending)) (i * eventLength w) xs
+      ≡ inRoom (eventBytes w) (eventLength w) 32 es
       → set (sets (recordBytes w t) (pendingPlace w i) xs) 2 (length es) ≡ recordBytes w (withPending t es)
   sets-pending i xs es h =
-      rw (recordBytes-blocks w t, sets-behind (frontBytes w t (length (t .pending))) (pendingBlock w (t .pending)) (200 + 72 * w) long (i * eventLength w) xs, block-inRoom w (t .pending), h, ← block-inRoom w es)
+      rw (
+        recordBytes-blocks w t,
+        sets-behind (frontBytes w t (length (t .pending))) (pendingBlock w (t .pending)) (200 + 72 * w) long
+            (i * eventLength w) xs,
+        block-inRoom w (t .pending),
+        h,
+        ← block-inRoom w es,
+      )
       (withPending-front w t (length (t .pending)) es)
 
   pub inserted-recordBytes : (i : ℕ) (e : Event) → i ≤ length (t .pending) → length (t .pending) < 32 → Storable w e
@@ -89,9 +108,11 @@ module _ (w : ℕ) (t : Status) (z : Sized w t) where
       (sets-pending i (eventBytes w e ++ blocks (eventBytes w) (drop i (t .pending))) (insertAt i e (t .pending))
       (inserted-inRoom (eventBytes w) (eventLength w) 32 (t .pending) even i e l free (length-eventBytes w e s)))
 
-  pub removed-recordBytes : (i : ℕ) → i < length (t .pending) → removed w (recordBytes w t) i ≡ recordBytes w (withPending t (removeAt i (t .pending)))
+  pub removed-recordBytes : (i : ℕ) → i < length (t .pending)
+      → removed w (recordBytes w t) i ≡ recordBytes w (withPending t (removeAt i (t .pending)))
   unfolding removed
   removed-recordBytes i l =
       rw (pendingCount-recordBytes w t, part-pending (i + 1) (omega arith), ← length-removeAt i (t .pending) l, add-one)
-      (sets-pending i (blocks (eventBytes w) (drop (suc i) (t .pending)) ++ zeros (eventLength w)) (removeAt i (t .pending))
+      (sets-pending i (blocks (eventBytes w) (drop (suc i) (t .pending)) ++ zeros (eventLength w))
+      (removeAt i (t .pending))
       (removed-inRoom (eventBytes w) (eventLength w) 32 (t .pending) even i none l (z .few)))

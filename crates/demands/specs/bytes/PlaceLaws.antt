@@ -33,19 +33,28 @@ module _ {A : Type 0} (a b c : List A) (n : ℕ) (long : length a ≡ n) where
   -- A whole list in the middle, stored anew.
   pub sets-over : (xs : List A) → length xs ≡ length b → sets (a ++ (b ++ c)) n xs ≡ a ++ (xs ++ c)
   sets-over xs e =
-      rw (sets-eq xs (a ++ (b ++ c)) n fits, take-at a (b ++ c) n long, drop-behind a (b ++ c) n long (length xs), drop-at b c (length xs) (sym e), append-assoc)
+      rw (
+        sets-eq xs (a ++ (b ++ c)) n fits,
+        take-at a (b ++ c) n long,
+        drop-behind a (b ++ c) n long (length xs),
+        drop-at b c (length xs) (sym e),
+        append-assoc,
+      )
     where
       fits : n + length xs ≤ length (a ++ (b ++ c))
       fits = simp length-append (omega arith)
 
   -- A part of it, stored anew.
-  pub sets-inside : (i : ℕ) (xs : List A) → i + length xs ≤ length b → sets (a ++ (b ++ c)) (n + i) xs ≡ a ++ (sets b i xs ++ c)
+  pub sets-inside : (i : ℕ) (xs : List A) → i + length xs ≤ length b
+      → sets (a ++ (b ++ c)) (n + i) xs ≡ a ++ (sets b i xs ++ c)
   sets-inside i xs h =
       rw (sets-behind a (b ++ c) n long i xs)
-      (ap (λ (l : List A). a ++ l) (sym (rw (take-at b c (length b) refl, drop-at b c (length b) refl) at (sets-front (b ++ c) (length b) i xs h))))
+      (ap (λ (l : List A). a ++ l)
+      (sym (rw (take-at b c (length b) refl, drop-at b c (length b) refl) at (sets-front (b ++ c) (length b) i xs h))))
 
 -- Counts come back from their bytes, wherever they stand.
-pub numbers-countBytes : (w : ℕ) (cs a c : List ℕ) (n k : ℕ) → length a ≡ n → length cs ≡ k → ((p : ℕ) → at cs p < 256 ^ w)
+pub numbers-countBytes : (w : ℕ) (cs a c : List ℕ) (n k : ℕ) → length a ≡ n → length cs ≡ k
+    → ((p : ℕ) → at cs p < 256 ^ w)
     → listOf k (λ p. number (a ++ (countBytes w cs ++ c)) (n + p * w) w) ≡ cs
 numbers-countBytes w cs a c n k long e fit =
     sym (filled k (λ p. number (a ++ (countBytes w cs ++ c)) (n + p * w) w) 0 cs e
@@ -74,7 +83,8 @@ Bytes-zeros (suc n) (suc i) = Bytes-zeros n i
 pub Bytes-countBytes : (w : ℕ) (cs : List ℕ) → Bytes (countBytes w cs)
 unfolding countBytes
 Bytes-countBytes w [] i = lit< tt
-Bytes-countBytes w (c ∷ cs) i = Bytes-append (bytesOf w c) (countBytes w cs) (Bytes-bytesOf w c) (Bytes-countBytes w cs) i
+Bytes-countBytes w (c ∷ cs) i =
+    Bytes-append (bytesOf w c) (countBytes w cs) (Bytes-bytesOf w c) (Bytes-countBytes w cs) i
 
 -- ---- Zeros
 

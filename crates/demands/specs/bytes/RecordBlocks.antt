@@ -41,9 +41,11 @@ pendingBlock w es = pendingBytes w es ++ zeros ((32 - length es) * eventLength w
 -- What stands before the pending events, where there are so many of them.
 abbrev pub frontBytes : ℕ → Status → ℕ → List ℕ
 frontBytes w t waiting =
-    headBytes (t .processes) (length (t .table)) waiting (t .closed) (t .kept) ++ countBytes w (listOf 8 (t .counts)) ++ clockBytes w (clockRows (t .clocks)) ++ tableBlock (t .table)
+    headBytes (t .processes) (length (t .table)) waiting (t .closed) (t .kept) ++ countBytes w (listOf 8 (t .counts))
+    ++ clockBytes w (clockRows (t .clocks)) ++ tableBlock (t .table)
 
-pub recordBytes-blocks : (w : ℕ) (t : Status) → recordBytes w t ≡ frontBytes w t (length (t .pending)) ++ pendingBlock w (t .pending)
+pub recordBytes-blocks : (w : ℕ) (t : Status)
+    → recordBytes w t ≡ frontBytes w t (length (t .pending)) ++ pendingBlock w (t .pending)
 unfolding recordBytes
 recordBytes-blocks w t = refl
 
@@ -71,7 +73,9 @@ first-apart : (h c k b p : List ℕ) → h ++ c ++ k ++ b ++ p ≡ h ++ (c ++ (k
 first-apart h c k b p = simp append-assoc
 
 module _ (w : ℕ) (t : Status) where
-  pub kept-split : recordBytes w t ≡ (t .processes ∷ length (t .table) ∷ length (t .pending) ∷ t .closed ∷ []) ++ (bytesOf 4 (t .kept) ++ afterHead w t)
+  pub kept-split : recordBytes w t
+      ≡ (t .processes ∷ length (t .table) ∷ length (t .pending) ∷ t .closed ∷ [])
+      ++ (bytesOf 4 (t .kept) ++ afterHead w t)
   unfolding recordBytes
   kept-split = first-apart (headOf t) _ _ _ _
 
@@ -81,14 +85,20 @@ module _ (w : ℕ) (t : Status) where
 
   pub clocks-split : recordBytes w t ≡ beforeClocks w t ++ (clockBytes w (clockRows (t .clocks)) ++ afterClocks w t)
   unfolding recordBytes
-  clocks-split = apart (beforeClocks w t) (clockBytes w (clockRows (t .clocks))) (tableBlock (t .table)) (pendingBlock w (t .pending))
+  clocks-split =
+      apart (beforeClocks w t) (clockBytes w (clockRows (t .clocks))) (tableBlock (t .table))
+      (pendingBlock w (t .pending))
     where
       apart : (h k b p : List ℕ) → h ++ k ++ b ++ p ≡ h ++ (k ++ (b ++ p))
       apart h k b p = simp append-assoc
 
-  pub table-split : recordBytes w t ≡ beforeTable w t ++ (tableBytes (t .table) ++ (zeros (192 - 3 * length (t .table)) ++ pendingBlock w (t .pending)))
+  pub table-split : recordBytes w t
+      ≡ beforeTable w t
+      ++ (tableBytes (t .table) ++ (zeros (192 - 3 * length (t .table)) ++ pendingBlock w (t .pending)))
   unfolding recordBytes
-  table-split = apart (beforeTable w t) (tableBytes (t .table)) (zeros (192 - 3 * length (t .table))) (pendingBlock w (t .pending))
+  table-split =
+      apart (beforeTable w t) (tableBytes (t .table)) (zeros (192 - 3 * length (t .table)))
+      (pendingBlock w (t .pending))
     where
       apart : (h b z p : List ℕ) → h ++ (b ++ z) ++ p ≡ h ++ (b ++ (z ++ p))
       apart h b z p = simp append-assoc
@@ -126,7 +136,11 @@ even-clocks w g c m =
 
 pub length-clocks : (w : ℕ) (g : ℕ → Cut) → length (clockBytes w (clockRows g)) ≡ 64 * w
 length-clocks w g =
-    rw (clockBytes-blocks w (clockRows g), length-blocks (countBytes w) (8 * w) (clockRows g) (even-clocks w g), length-listOf 8 (λ p. listOf 8 (g p)))
+    rw (
+      clockBytes-blocks w (clockRows g),
+      length-blocks (countBytes w) (8 * w) (clockRows g) (even-clocks w g),
+      length-listOf 8 (λ p. listOf 8 (g p)),
+    )
     (omega arith)
 
 pub length-tableBlock : (ls : List Line) → length ls ≤ 64 → length (tableBlock ls) ≡ 192
@@ -139,18 +153,34 @@ AllStorable w es = (e : Event) → List·Memᴰ e es → Storable w e
 pub even-pending : (w : ℕ) (es : List Event) → AllStorable w es → Even (eventBytes w) (eventLength w) es
 even-pending w es h e m = length-eventBytes w e (h e m)
 
-pub length-pendingBytes : (w : ℕ) (es : List Event) → AllStorable w es → length (pendingBytes w es) ≡ length es * eventLength w
-length-pendingBytes w es h = rw (pendingBytes-blocks w es) (length-blocks (eventBytes w) (eventLength w) es (even-pending w es h))
+pub length-pendingBytes : (w : ℕ) (es : List Event) → AllStorable w es
+    → length (pendingBytes w es) ≡ length es * eventLength w
+length-pendingBytes w es h =
+    rw (pendingBytes-blocks w es) (length-blocks (eventBytes w) (eventLength w) es (even-pending w es h))
 
-pub length-pendingBlock : (w : ℕ) (es : List Event) → length es ≤ 32 → AllStorable w es → length (pendingBlock w es) ≡ 32 * eventLength w
+pub length-pendingBlock : (w : ℕ) (es : List Event) → length es ≤ 32 → AllStorable w es
+    → length (pendingBlock w es) ≡ 32 * eventLength w
 length-pendingBlock w es few h =
     let whole : length es + (32 - length es) ≡ 32 = omega arith in
-    rw (length-append, length-pendingBytes w es h, length-replicate, ← add-mul (length es) (32 - length es) (eventLength w), whole)
+    rw (
+      length-append,
+      length-pendingBytes w es h,
+      length-replicate,
+      ← add-mul (length es) (32 - length es) (eventLength w),
+      whole,
+    )
 
-pub length-frontBytes : (w : ℕ) (t : Status) (waiting : ℕ) → length (t .table) ≤ 64 → length (frontBytes w t waiting) ≡ 200 + 72 * w
+pub length-frontBytes : (w : ℕ) (t : Status) (waiting : ℕ) → length (t .table) ≤ 64
+    → length (frontBytes w t waiting) ≡ 200 + 72 * w
 length-frontBytes w t waiting short =
-    length-four (headBytes (t .processes) (length (t .table)) waiting (t .closed) (t .kept)) (countBytes w (listOf 8 (t .counts))) (clockBytes w (clockRows (t .clocks))) (tableBlock (t .table))
-    ∙ rw (length-headBytes (t .processes) (length (t .table)) waiting (t .closed) (t .kept), length-eight w (t .counts), length-clocks w (t .clocks), length-tableBlock (t .table) short)
+    length-four (headBytes (t .processes) (length (t .table)) waiting (t .closed) (t .kept))
+    (countBytes w (listOf 8 (t .counts))) (clockBytes w (clockRows (t .clocks))) (tableBlock (t .table))
+    ∙ rw (
+      length-headBytes (t .processes) (length (t .table)) waiting (t .closed) (t .kept),
+      length-eight w (t .counts),
+      length-clocks w (t .clocks),
+      length-tableBlock (t .table) short,
+    )
     (omega arith)
   where
     length-four : (h c k b : List ℕ) → length (h ++ c ++ k ++ b) ≡ length h + length c + length k + length b

@@ -43,26 +43,37 @@ module _ (w : ℕ) (t : Status) where
   tableLines-recordBytes =
       let behind : List ℕ = zeros (192 - 3 * length (t .table)) ++ pendingBlock w (t .pending) in
       let there : drop (tablePlace w) (recordBytes w t) ≡ tableBytes (t .table) ++ behind =
-      rw (table-split w t) (drop-at (beforeTable w t) (tableBytes (t .table) ++ behind) (tablePlace w) (length-beforeTable w t)) in
+      rw (table-split w t)
+      (drop-at (beforeTable w t) (tableBytes (t .table) ++ behind) (tablePlace w) (length-beforeTable w t)) in
       rw (there, lineTotal-recordBytes) (linesOf-tableBytes (t .table) behind)
 
 module _ (w : ℕ) (t : Status) (z : Sized w t) where
   pub length-recordBytes : length (recordBytes w t) ≡ recordLength w
   length-recordBytes =
-      rw (recordBytes-blocks w t, length-append, length-frontBytes w t (length (t .pending)) (z .short), length-pendingBlock w (t .pending) (z .few) (z .storable))
+      rw (
+        recordBytes-blocks w t,
+        length-append,
+        length-frontBytes w t (length (t .pending)) (z .short),
+        length-pendingBlock w (t .pending) (z .few) (z .storable),
+      )
 
   pub keptCount-recordBytes : keptCount (recordBytes w t) ≡ t .kept
   unfolding number
   keptCount-recordBytes =
       let first : List ℕ = t .processes ∷ length (t .table) ∷ length (t .pending) ∷ t .closed ∷ [] in
-      rw (kept-split w t, drop-at first (bytesOf 4 (t .kept) ++ afterHead w t) 4 refl, take-at (bytesOf 4 (t .kept)) (afterHead w t) 4 (length-bytesOf 4 (t .kept)))
+      rw (
+        kept-split w t,
+        drop-at first (bytesOf 4 (t .kept) ++ afterHead w t) 4 refl,
+        take-at (bytesOf 4 (t .kept)) (afterHead w t) 4 (length-bytesOf 4 (t .kept)),
+      )
       (valueOf-bytesOf 4 (t .kept) (z .kept-fits))
 
   pub takenCounts-recordBytes : takenCounts w (recordBytes w t) ≡ listOf 8 (t .counts)
   unfolding takenCounts
   takenCounts-recordBytes =
       rw (counts-split w t)
-      (numbers-countBytes w (listOf 8 (t .counts)) (headOf t) (afterCounts w t) 8 8 (length-headOf t) (length-listOf 8 (t .counts)) (fit-listOf w 8 (t .counts) (z .counts-fit)))
+      (numbers-countBytes w (listOf 8 (t .counts)) (headOf t) (afterCounts w t) 8 8 (length-headOf t)
+      (length-listOf 8 (t .counts)) (fit-listOf w 8 (t .counts) (z .counts-fit)))
 
   pub lastClocks-recordBytes : lastClocks w (recordBytes w t) ≡ clockRows (t .clocks)
   unfolding lastClocks
@@ -78,20 +89,26 @@ module _ (w : ℕ) (t : Status) (z : Sized w t) where
       clocks = clockRows (t .clocks)
 
       place : (p : ℕ) → p < 8
-          → s ≡ (beforeClocks w t ++ blocks (countBytes w) (take p clocks)) ++ (countBytes w (row p) ++ (blocks (countBytes w) (drop (suc p) clocks) ++ afterClocks w t))
+          → s
+          ≡ (beforeClocks w t ++ blocks (countBytes w) (take p clocks))
+          ++ (countBytes w (row p) ++ (blocks (countBytes w) (drop (suc p) clocks) ++ afterClocks w t))
       place p l =
           clocks-split w t
           ∙ rw (clockBytes-blocks w clocks, ← getD-listOf 8 row p [] l)
           (block-apart (countBytes w) clocks p [] (rw (length-listOf 8 row) l) (beforeClocks w t) (afterClocks w t))
 
-      start : (p : ℕ) → p < 8 → length (beforeClocks w t ++ blocks (countBytes w) (take p clocks)) ≡ clocksPlace w + p * (8 * w)
+      start : (p : ℕ) → p < 8
+          → length (beforeClocks w t ++ blocks (countBytes w) (take p clocks)) ≡ clocksPlace w + p * (8 * w)
       start p l =
-          length-before (countBytes w) (8 * w) clocks (even-clocks w (t .clocks)) p (rw (length-listOf 8 row) (omega arith)) (beforeClocks w t) (clocksPlace w) (length-beforeClocks w t)
+          length-before (countBytes w) (8 * w) clocks (even-clocks w (t .clocks)) p
+          (rw (length-listOf 8 row) (omega arith)) (beforeClocks w t) (clocksPlace w) (length-beforeClocks w t)
 
       one : (p : ℕ) → p < 8 → listOf 8 (λ q. number s (clocksPlace w + p * (8 * w) + q * w) w) ≡ row p
       one p l =
           rw (place p l)
-          (numbers-countBytes w (row p) (beforeClocks w t ++ blocks (countBytes w) (take p clocks)) (blocks (countBytes w) (drop (suc p) clocks) ++ afterClocks w t) (clocksPlace w + p * (8 * w)) 8 (start p l) (length-listOf 8 (t .clocks p)) (fit-listOf w 8 (t .clocks p) (z .clocks-fit p)))
+          (numbers-countBytes w (row p) (beforeClocks w t ++ blocks (countBytes w) (take p clocks))
+          (blocks (countBytes w) (drop (suc p) clocks) ++ afterClocks w t) (clocksPlace w + p * (8 * w)) 8 (start p l)
+          (length-listOf 8 (t .clocks p)) (fit-listOf w 8 (t .clocks p) (z .clocks-fit p)))
 
   pub Bytes-recordBytes : Bytes (recordBytes w t)
   unfolding recordBytes
@@ -99,11 +116,15 @@ module _ (w : ℕ) (t : Status) (z : Sized w t) where
       Bytes-append (frontBytes w t (length (t .pending))) (pendingBlock w (t .pending))
       (Bytes-append (beforeTable w t) (tableBlock (t .table))
       (Bytes-append (beforeClocks w t) (clockBytes w (clockRows (t .clocks)))
-      (Bytes-append (headOf t) (countBytes w (listOf 8 (t .counts))) Bytes-head (Bytes-countBytes w (listOf 8 (t .counts))))
-      (rw (clockBytes-blocks w (clockRows (t .clocks))) (Bytes-blocks (countBytes w) (clockRows (t .clocks)) (λ c m. Bytes-countBytes w c))))
-      (Bytes-append (tableBytes (t .table)) (zeros (192 - 3 * length (t .table))) (z .line-bytes) (Bytes-zeros (192 - 3 * length (t .table)))))
+      (Bytes-append (headOf t) (countBytes w (listOf 8 (t .counts))) Bytes-head
+      (Bytes-countBytes w (listOf 8 (t .counts))))
+      (rw (clockBytes-blocks w (clockRows (t .clocks)))
+      (Bytes-blocks (countBytes w) (clockRows (t .clocks)) (λ c m. Bytes-countBytes w c))))
+      (Bytes-append (tableBytes (t .table)) (zeros (192 - 3 * length (t .table))) (z .line-bytes)
+      (Bytes-zeros (192 - 3 * length (t .table)))))
       (Bytes-append (pendingBytes w (t .pending)) (zeros ((32 - length (t .pending)) * eventLength w))
-      (rw (pendingBytes-blocks w (t .pending)) (Bytes-blocks (eventBytes w) (t .pending) (λ e m. Bytes-eventBytes w e (z .storable e m))))
+      (rw (pendingBytes-blocks w (t .pending))
+      (Bytes-blocks (eventBytes w) (t .pending) (λ e m. Bytes-eventBytes w e (z .storable e m))))
       (Bytes-zeros ((32 - length (t .pending)) * eventLength w)))
     where
       lines-fit : length (t .table) < 256
@@ -114,6 +135,8 @@ module _ (w : ℕ) (t : Status) (z : Sized w t) where
 
       Bytes-head : Bytes (headOf t)
       Bytes-head =
-          Bytes-cons (t .processes) (length (t .table) ∷ length (t .pending) ∷ t .closed ∷ bytesOf 4 (t .kept)) (z .processes-fit)
+          Bytes-cons (t .processes) (length (t .table) ∷ length (t .pending) ∷ t .closed ∷ bytesOf 4 (t .kept))
+          (z .processes-fit)
           (Bytes-cons (length (t .table)) (length (t .pending) ∷ t .closed ∷ bytesOf 4 (t .kept)) lines-fit
-          (Bytes-cons (length (t .pending)) (t .closed ∷ bytesOf 4 (t .kept)) pending-fit (Bytes-cons (t .closed) (bytesOf 4 (t .kept)) (z .closed-fits) (Bytes-bytesOf 4 (t .kept)))))
+          (Bytes-cons (length (t .pending)) (t .closed ∷ bytesOf 4 (t .kept)) pending-fit
+          (Bytes-cons (t .closed) (bytesOf 4 (t .kept)) (z .closed-fits) (Bytes-bytesOf 4 (t .kept)))))

@@ -37,24 +37,39 @@ module _ (a b x y r : List ℕ) (n : ℕ) (long : length a ≡ n) (same : length
 
 module _ {A : Type 0} (f : A → List ℕ) (n room : ℕ) (xs : List A) (h : Even f n xs) where
   -- The blocks from number i on are what is moved.
-  pub part-inRoom : (i : ℕ) → i ≤ length xs → take ((length xs - i) * n) (drop (i * n) (inRoom f n room xs)) ≡ blocks f (drop i xs)
+  pub part-inRoom : (i : ℕ) → i ≤ length xs
+      → take ((length xs - i) * n) (drop (i * n) (inRoom f n room xs)) ≡ blocks f (drop i xs)
   part-inRoom i l =
       rw (drop-blocks f n xs h (zeros ((room - length xs) * n)) i l)
       (take-at (blocks f (drop i xs)) (zeros ((room - length xs) * n)) ((length xs - i) * n) long)
     where
       long : length (blocks f (drop i xs)) ≡ (length xs - i) * n
-      long = length-blocks f n (drop i xs) (λ y m. h y (member-drop i xs y m)) ∙ ap (λ (k : ℕ). k * n) (length-drop i xs)
+      long =
+          length-blocks f n (drop i xs) (λ y m. h y (member-drop i xs y m)) ∙ ap (λ (k : ℕ). k * n) (length-drop i xs)
 
   pub inserted-inRoom : (i : ℕ) (x : A) → i ≤ length xs → length xs < room → length (f x) ≡ n
       → sets (inRoom f n room xs) (i * n) (f x ++ blocks f (drop i xs)) ≡ inRoom f n room (insertAt i x xs)
   unfolding insertAt blocks
   inserted-inRoom i x l free e =
-      rw (length-insertAt i x xs, blocks-split f xs i, blocks-append f (take i xs) (x ∷ drop i xs), zeros-next n (room - length xs) (room - (length xs + 1)) (omega arith))
-      (shift-in (blocks f (take i xs)) (blocks f (drop i xs)) (f x) (zeros n) (zeros ((room - (length xs + 1)) * n)) (i * n) (length-first f n xs h i l) (e ∙ sym (length-replicate n 0)))
+      rw (
+        length-insertAt i x xs,
+        blocks-split f xs i,
+        blocks-append f (take i xs) (x ∷ drop i xs),
+        zeros-next n (room - length xs) (room - (length xs + 1)) (omega arith),
+      )
+      (shift-in (blocks f (take i xs)) (blocks f (drop i xs)) (f x) (zeros n) (zeros ((room - (length xs + 1)) * n))
+      (i * n) (length-first f n xs h i l) (e ∙ sym (length-replicate n 0)))
 
   pub removed-inRoom : (i : ℕ) (d : A) → i < length xs → length xs ≤ room
       → sets (inRoom f n room xs) (i * n) (blocks f (drop (suc i) xs) ++ zeros n) ≡ inRoom f n room (removeAt i xs)
   unfolding removeAt
   removed-inRoom i d l fits =
-      rw (length-removeAt i xs l, block-between f xs i d l, blocks-append f (take i xs) (drop (suc i) xs), zeros-next n (room - (length xs - 1)) (room - length xs) (omega arith))
-      (shift-out (blocks f (take i xs)) (blocks f (drop (suc i) xs)) (f (getD xs i d)) (zeros n) (zeros ((room - length xs) * n)) (i * n) (length-first f n xs h i (omega arith)) (h (getD xs i d) (place-member xs i d l) ∙ sym (length-replicate n 0)))
+      rw (
+        length-removeAt i xs l,
+        block-between f xs i d l,
+        blocks-append f (take i xs) (drop (suc i) xs),
+        zeros-next n (room - (length xs - 1)) (room - length xs) (omega arith),
+      )
+      (shift-out (blocks f (take i xs)) (blocks f (drop (suc i) xs)) (f (getD xs i d)) (zeros n)
+      (zeros ((room - length xs) * n)) (i * n) (length-first f n xs h i (omega arith))
+      (h (getD xs i d) (place-member xs i d l) ∙ sym (length-replicate n 0)))

@@ -35,8 +35,10 @@ use Rattle.demands.specs.bytes.Sized.{Sized, withClosed, withTaken, firs
 
 -- ---- Records with the same stored fields have the same bytes
 
-pub recordBytes-same : (w : ℕ) (t u : Status) → t .processes ≡ u .processes → t .table ≡ u .table → t .closed ≡ u .closed → t .kept ≡ u .kept
-    → listOf 8 (t .counts) ≡ listOf 8 (u .counts) → clockRows (t .clocks) ≡ clockRows (u .clocks) → t .pending ≡ u .pending
+pub recordBytes-same : (w : ℕ) (t u : Status) → t .processes ≡ u .processes → t .table ≡ u .table
+    → t .closed ≡ u .closed → t .kept ≡ u .kept
+    → listOf 8 (t .counts) ≡ listOf 8 (u .counts) → clockRows (t .clocks) ≡ clockRows (u .clocks)
+    → t .pending ≡ u .pending
     → recordBytes w t ≡ recordBytes w u
 unfolding recordBytes
 recordBytes-same w t u k l x f c g p = rw (k, l, x, f, c, g, p)
@@ -44,25 +46,52 @@ recordBytes-same w t u k l x f c g p = rw (k, l, x, f, c, g, p)
 -- ---- One field stored
 
 abbrev withKept : Status → ℕ → Status
-withKept t n = record { processes = t .processes; table = t .table; closed = t .closed; kept = n; counts = t .counts; clocks = t .clocks; pending = t .pending }
+withKept t n = record {
+  processes = t .processes;
+  table = t .table;
+  closed = t .closed;
+  kept = n;
+  counts = t .counts;
+  clocks = t .clocks;
+  pending = t .pending;
+}
 
 abbrev withCounts : Status → Cut → Status
-withCounts t f = record { processes = t .processes; table = t .table; closed = t .closed; kept = t .kept; counts = f; clocks = t .clocks; pending = t .pending }
+withCounts t f = record {
+  processes = t .processes;
+  table = t .table;
+  closed = t .closed;
+  kept = t .kept;
+  counts = f;
+  clocks = t .clocks;
+  pending = t .pending;
+}
 
 abbrev withClocks : Status → (ℕ → Cut) → Status
-withClocks t g = record { processes = t .processes; table = t .table; closed = t .closed; kept = t .kept; counts = t .counts; clocks = g; pending = t .pending }
+withClocks t g = record {
+  processes = t .processes;
+  table = t .table;
+  closed = t .closed;
+  kept = t .kept;
+  counts = t .counts;
+  clocks = g;
+  pending = t .pending;
+}
 
 module _ (w : ℕ) (t : Status) where
   put-kept : (n : ℕ) → put (recordBytes w t) 4 4 n ≡ recordBytes w (withKept t n)
   unfolding put
   put-kept n =
       rw (kept-split w t, kept-split w (withKept t n))
-      (sets-over (t .processes ∷ length (t .table) ∷ length (t .pending) ∷ t .closed ∷ []) (bytesOf 4 (t .kept)) (afterHead w t) 4 refl (bytesOf 4 n) (length-bytesOf 4 n ∙ sym (length-bytesOf 4 (t .kept))))
+      (sets-over (t .processes ∷ length (t .table) ∷ length (t .pending) ∷ t .closed ∷ []) (bytesOf 4 (t .kept))
+      (afterHead w t) 4 refl (bytesOf 4 n) (length-bytesOf 4 n ∙ sym (length-bytesOf 4 (t .kept))))
 
-  sets-counts : (f : Cut) → sets (recordBytes w t) takenPlace (countBytes w (listOf 8 f)) ≡ recordBytes w (withCounts t f)
+  sets-counts : (f : Cut)
+      → sets (recordBytes w t) takenPlace (countBytes w (listOf 8 f)) ≡ recordBytes w (withCounts t f)
   sets-counts f =
       rw (counts-split w t, counts-split w (withCounts t f))
-      (sets-over (headOf t) (countBytes w (listOf 8 (t .counts))) (afterCounts w t) 8 (length-headOf t) (countBytes w (listOf 8 f)) (length-eight w f ∙ sym (length-eight w (t .counts))))
+      (sets-over (headOf t) (countBytes w (listOf 8 (t .counts))) (afterCounts w t) 8 (length-headOf t)
+      (countBytes w (listOf 8 f)) (length-eight w f ∙ sym (length-eight w (t .counts))))
 
   -- The clock of process p, the others left.
   sets-clock : (p : ℕ) (c : List ℕ) (g : ℕ → Cut) → p < 8 → length c ≡ 8 → c ≡ listOf 8 (g p)
@@ -70,7 +99,8 @@ module _ (w : ℕ) (t : Status) where
       → sets (recordBytes w t) (clocksPlace w + p * (8 * w)) (countBytes w c) ≡ recordBytes w (withClocks t g)
   sets-clock p c g l eight here elsewhere =
       rw (clocks-split w t, clocks-split w (withClocks t g))
-      (sets-inside (beforeClocks w t) (clockBytes w old) (afterClocks w t) (8 + 8 * w) (length-beforeClocks w t) (p * (8 * w)) (countBytes w c) within
+      (sets-inside (beforeClocks w t) (clockBytes w old) (afterClocks w t) (8 + 8 * w) (length-beforeClocks w t)
+      (p * (8 * w)) (countBytes w c) within
       ∙ ap (λ (l : List ℕ). beforeClocks w t ++ (l ++ afterClocks w t)) inside)
     where
       old : List (List ℕ)
@@ -86,11 +116,14 @@ module _ (w : ℕ) (t : Status) where
       within = rw (length-counts w c eight, length-clocks w (t .clocks)) (omega (arith, count-within p 8 (8 * w) l))
 
       new : set old p c ≡ clockRows g
-      new = filled 8 (λ q. listOf 8 (g q)) [] (set old p c) (length-set old p c ∙ eight-old) (λ q m. go q m (ℕ-discrete q p))
+      new =
+          filled 8 (λ q. listOf 8 (g q)) [] (set old p c) (length-set old p c ∙ eight-old)
+          (λ q m. go q m (ℕ-discrete q p))
         where
           go : (q : ℕ) → q < 8 → Dec (q ≡ p) → getD (set old p c) q [] ≡ listOf 8 (g q)
           go q m (yes e) = rw e (getD-set-same old p c [] in-old ∙ here)
-          go q m (no n) = getD-set-other old p q c [] n ∙ getD-listOf 8 (λ r. listOf 8 (t .clocks r)) q [] m ∙ elsewhere q m n
+          go q m (no n) =
+              getD-set-other old p q c [] n ∙ getD-listOf 8 (λ r. listOf 8 (t .clocks r)) q [] m ∙ elsewhere q m n
 
       inside : sets (clockBytes w old) (p * (8 * w)) (countBytes w c) ≡ clockBytes w (clockRows g)
       inside =
@@ -113,7 +146,8 @@ closedSet-recordBytes w t closed kept = rw (one, put-kept w (withClosed t closed
 abbrev clocksBelow : Status → Event → ℕ → ℕ → Cut
 clocksBelow t e n q = cond (ltb q n) (cond (involved e q) (count e) (t .clocks q)) (t .clocks q)
 
-clocksBelow-within : (t : Status) (e : Event) (n q : ℕ) → q < n → clocksBelow t e n q ≡ cond (involved e q) (count e) (t .clocks q)
+clocksBelow-within : (t : Status) (e : Event) (n q : ℕ) → q < n
+    → clocksBelow t e n q ≡ cond (involved e q) (count e) (t .clocks q)
 clocksBelow-within t e n q l = rw (lt-ltb q n l)
 
 clocksBelow-beyond : (t : Status) (e : Event) (n q : ℕ) → n ≤ q → clocksBelow t e n q ≡ t .clocks q
@@ -142,7 +176,9 @@ clocksSet-recordBytes w t e eight (suc p) l =
     s : List ℕ
     s = recordBytes w (withClocks t (clocksBelow t e p))
 
-    go : (b : Bool) → involved e p ≡ b → cond b (sets s (clocksPlace w + p * (8 * w)) (countBytes w (e .clock))) s ≡ recordBytes w (withClocks t (clocksBelow t e (suc p)))
+    go : (b : Bool) → involved e p ≡ b
+        → cond b (sets s (clocksPlace w + p * (8 * w)) (countBytes w (e .clock))) s
+        ≡ recordBytes w (withClocks t (clocksBelow t e (suc p)))
     go true h =
         sets-clock w (withClocks t (clocksBelow t e p)) p (e .clock) (clocksBelow t e (suc p)) l eight
         (eight-counts-same e eight ∙ ap (listOf 8) (sym (clocksBelow-within t e (suc p) p (omega arith) ∙ rw h)))
@@ -150,7 +186,9 @@ clocksSet-recordBytes w t e eight (suc p) l =
     go false h = ap (λ (g : ℕ → Cut). recordBytes w (withClocks t g)) (fun-ext (λ q. one q (ℕ-discrete q p)))
       where
         one : (q : ℕ) → Dec (q ≡ p) → clocksBelow t e p q ≡ clocksBelow t e (suc p) q
-        one q (yes m) = rw m (clocksBelow-beyond t e p p (omega arith) ∙ sym (clocksBelow-within t e (suc p) p (omega arith) ∙ rw h))
+        one q (yes m) =
+            rw m
+            (clocksBelow-beyond t e p p (omega arith) ∙ sym (clocksBelow-within t e (suc p) p (omega arith) ∙ rw h))
         one q (no m) = clocksBelow-elsewhere t e p q m
 
 -- The counts with the event, of the stored counts and of the counts themselves.
@@ -162,9 +200,17 @@ pub counted-recordBytes : (w : ℕ) (t : Status) → Sized w t → (e : Event) (
     → counted w (recordBytes w t) e kept ≡ recordBytes w (withTaken t e kept)
 unfolding counted
 counted-recordBytes w t z e kept eight =
-    rw (takenCounts-recordBytes w t z, applied-listOf e (t .counts), put-kept w t kept, sets-counts w (withKept t kept) (apply e (t .counts)), clocksSet-recordBytes w (withCounts (withKept t kept) (apply e (t .counts))) e eight 8 (lit≤ tt))
-    (recordBytes-same w (withClocks (withCounts (withKept t kept) (apply e (t .counts))) (clocksBelow t e 8)) (withTaken t e kept) refl refl refl refl refl
-    (listOf-same 8 (λ p. listOf 8 (clocksBelow t e 8 p)) (λ p. listOf 8 (cond (involved e p) (count e) (t .clocks p))) (λ p l. ap (listOf 8) (clocksBelow-within t e 8 p l)))
+    rw (
+      takenCounts-recordBytes w t z,
+      applied-listOf e (t .counts),
+      put-kept w t kept,
+      sets-counts w (withKept t kept) (apply e (t .counts)),
+      clocksSet-recordBytes w (withCounts (withKept t kept) (apply e (t .counts))) e eight 8 (lit≤ tt),
+    )
+    (recordBytes-same w (withClocks (withCounts (withKept t kept) (apply e (t .counts))) (clocksBelow t e 8))
+    (withTaken t e kept) refl refl refl refl refl
+    (listOf-same 8 (λ p. listOf 8 (clocksBelow t e 8 p)) (λ p. listOf 8 (cond (involved e p) (count e) (t .clocks p)))
+    (λ p l. ap (listOf 8) (clocksBelow-within t e 8 p l)))
     refl)
 
 -- ---- A new watch
@@ -182,7 +228,8 @@ firstRecord-recordBytes w k ls =
     let sum : 72 * w ≡ 8 * w + 8 * (8 * w) = omega arith in
     let many : zeros (72 * w) ≡ zeros (8 * w) ++ zeros (8 * (8 * w)) = rw sum (sym (zeros-add (8 * w) (8 * (8 * w)))) in
     rw (length-tableBytes ls, many, countBytes-zeros w 8, clocks-zeros w 8)
-    (regroup (headBytes k (length ls) 0 0 1) (zeros (8 * w)) (zeros (8 * (8 * w))) (tableBytes ls) (zeros (192 - 3 * length ls)) (zeros (32 * eventLength w)))
+    (regroup (headBytes k (length ls) 0 0 1) (zeros (8 * w)) (zeros (8 * (8 * w))) (tableBytes ls)
+    (zeros (192 - 3 * length ls)) (zeros (32 * eventLength w)))
   where
     regroup : (h a b l z p : List ℕ) → h ++ (a ++ b) ++ l ++ z ++ p ≡ h ++ a ++ b ++ (l ++ z) ++ p
     regroup h a b l z p = simp append-assoc

@@ -69,4 +69,12 @@ withTaken t e kept = record {
 
 -- A new watch.
 abbrev pub firstStatus : ℕ → List Line → Status
-firstStatus k table = record { processes = k; table = table; closed = 0; kept = 1; counts = λ p. 0; clocks = λ p q. 0; pending = [] }
+firstStatus k table = record {
+  processes = k;
+  table = table;
+  closed = 0;
+  kept = 1;
+  counts = λ p. 0;
+  clocks = λ p q. 0;
+  pending = [];
+}

@@ -35,9 +35,11 @@ pub record Alike (t u : Status) : Type 0 where
 
 pub recordBytes-alike : (w : ℕ) (t u : Status) → Alike t u → recordBytes w t ≡ recordBytes w u
 recordBytes-alike w t u a =
-    recordBytes-same w t u (a .processes-same) (a .table-same) (a .closed-same) (a .kept-same) (a .counts-same) (a .clocks-same) (a .pending-same)
+    recordBytes-same w t u (a .processes-same) (a .table-same) (a .closed-same) (a .kept-same) (a .counts-same)
+    (a .clocks-same) (a .pending-same)
 
-pub recordBytes-injective : (w : ℕ) (t u : Status) → Sized w t → Sized w u → recordBytes w t ≡ recordBytes w u → Alike t u
+pub recordBytes-injective : (w : ℕ) (t u : Status) → Sized w t → Sized w u → recordBytes w t ≡ recordBytes w u
+    → Alike t u
 recordBytes-injective w t u y z e = record {
   processes-same = sym (processCount-recordBytes w t) ∙ ap processCount e ∙ processCount-recordBytes w u;
   table-same = sym (tableLines-recordBytes w t) ∙ ap (tableLines w) e ∙ tableLines-recordBytes w u;
@@ -70,7 +72,8 @@ module _ (w : ℕ) (t : Status) (z : Sized w t) where
     storable = h;
   }
 
-  pub sized-inserted : (i : ℕ) (e : Event) → length (t .pending) < 32 → Storable w e → Sized w (withPending t (insertAt i e (t .pending)))
+  pub sized-inserted : (i : ℕ) (e : Event) → length (t .pending) < 32 → Storable w e
+      → Sized w (withPending t (insertAt i e (t .pending)))
   sized-inserted i e free s =
       sized-withPending (insertAt i e (t .pending)) (omega (arith, length-insertAt i e (t .pending)))
       (λ f m. go f ((member-insertAt i e (t .pending) f) .0 m))
@@ -84,7 +87,8 @@ module _ (w : ℕ) (t : Status) (z : Sized w t) where
       sized-withPending (removeAt i (t .pending)) (omega (arith, length-removeAt i (t .pending) l, z .few))
       (λ f m. z .storable f ((member-removeAt i (t .pending) f f l) .1 (inr m)))
 
-  pub sized-taken : (e : Event) (kept : ℕ) → Storable w e → kept < 4294967296 → ((p : ℕ) → apply e (t .counts) p < 256 ^ w) → Sized w (withTaken t e kept)
+  pub sized-taken : (e : Event) (kept : ℕ) → Storable w e → kept < 4294967296
+      → ((p : ℕ) → apply e (t .counts) p < 256 ^ w) → Sized w (withTaken t e kept)
   sized-taken e kept s k fit = record {
     processes-fit = z .processes-fit;
     short = z .short;
@@ -102,7 +106,8 @@ module _ (w : ℕ) (t : Status) (z : Sized w t) where
       go p q false = z .clocks-fit p q
 
 -- A new watch.
-pub sized-first : (w k : ℕ) (ls : List Line) → k < 256 → length ls ≤ 64 → Bytes (tableBytes ls) → Sized w (firstStatus k ls)
+pub sized-first : (w k : ℕ) (ls : List Line) → k < 256 → length ls ≤ 64 → Bytes (tableBytes ls)
+    → Sized w (firstStatus k ls)
 sized-first w k ls few short h = record {
   processes-fit = few;
   short = short;

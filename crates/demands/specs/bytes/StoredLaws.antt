@@ -16,7 +16,11 @@ use Rattle.demands.specs.bytes.Sized.{Storable}
 
 -- The event whose bytes begin at a place.
 abbrev pub eventFrom : ℕ → List ℕ → ℕ → Event
-eventFrom w s n = record { mask = getD s n 0; clock = listOf 8 (λ p. number s (n + 8 + p * w) w); labels = take 8 (drop (n + 8 + 8 * w) s) }
+eventFrom w s n = record {
+  mask = getD s n 0;
+  clock = listOf 8 (λ p. number s (n + 8 + p * w) w);
+  labels = take 8 (drop (n + 8 + 8 * w) s);
+}
 
 -- Events with the same parts are the same.
 pub event-same : (e f : Event) → e .mask ≡ f .mask → e .clock ≡ f .clock → e .labels ≡ f .labels → e ≡ f
@@ -36,7 +40,8 @@ module _ (w : ℕ) (e : Event) (z : Storable w e) where
   unfolding eventBytes
   Bytes-eventBytes =
       Bytes-append ((e .mask ∷ zeros 7) ++ countBytes w (e .clock)) (e .labels)
-      (Bytes-append (e .mask ∷ zeros 7) (countBytes w (e .clock)) (Bytes-cons (e .mask) (zeros 7) (z .mask-fits) (Bytes-zeros 7)) (Bytes-countBytes w (e .clock)))
+      (Bytes-append (e .mask ∷ zeros 7) (countBytes w (e .clock))
+      (Bytes-cons (e .mask) (zeros 7) (z .mask-fits) (Bytes-zeros 7)) (Bytes-countBytes w (e .clock)))
       (z .labels-fit)
 
   -- An event comes back from its bytes, wherever they stand.
@@ -44,8 +49,11 @@ module _ (w : ℕ) (e : Event) (z : Storable w e) where
   unfolding eventBytes
   eventFrom-bytes a c n long =
       event-same (eventFrom w s n) e (getD-at a (e .mask) _ 0 n long)
-      (rw counts-split (numbers-countBytes w (e .clock) (a ++ first) (e .labels ++ c) (n + 8) 8 counts-start (z .eight-counts) (z .counts-fit)))
-      (rw (labels-split, drop-at (a ++ first ++ countBytes w (e .clock)) (e .labels ++ c) (n + 8 + 8 * w) labels-start) (take-at (e .labels) c 8 (z .eight-labels)))
+      (rw counts-split
+      (numbers-countBytes w (e .clock) (a ++ first) (e .labels ++ c) (n + 8) 8 counts-start (z .eight-counts)
+      (z .counts-fit)))
+      (rw (labels-split, drop-at (a ++ first ++ countBytes w (e .clock)) (e .labels ++ c) (n + 8 + 8 * w) labels-start)
+      (take-at (e .labels) c 8 (z .eight-labels)))
     where
       first : List ℕ
       first = e .mask ∷ zeros 7
