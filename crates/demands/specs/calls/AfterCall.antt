@@ -59,11 +59,13 @@ room-iff w n total = le-div-iff-mul-le (omega arith)
 
 module _ (w k : ℕ) (table : List Line) (start : Cut) (R : Rule w k table start) where
   -- ---- a window lent longer
-  pub lengthened : (L : Ledger) (bytes window : List ℕ) → Watching w k table start L bytes window → (zeros : ℕ) → Watching w k table start L bytes (window ++ replicate zeros 0)
+  pub lengthened : (L : Ledger) (bytes window : List ℕ) → Watching w k table start L bytes window → (zeros : ℕ)
+      → Watching w k table start L bytes (window ++ replicate zeros 0)
   lengthened L bytes window X zeros = record {
     kept = X .kept;
     bytes-are = X .bytes-are;
-    window-is = lent-longer w k table start R L bytes window X zeros ∙ ap (λ (t : ℕ). windowBytes w t (X .kept)) (sym long);
+    window-is =
+        lent-longer w k table start R L bytes window X zeros ∙ ap (λ (t : ℕ). windowBytes w t (X .kept)) (sym long);
     room = omega (arith, long, X .room);
     few = X .few;
     represents = X .represents;
@@ -81,7 +83,8 @@ module _ (w k : ℕ) (table : List Line) (start : Cut) (R : Rule w k table start
       long = length-append window (replicate zeros 0) ∙ ap (λ (n : ℕ). length window + n) (length-replicate zeros 0)
 
   -- ---- offer
-  offer-right : (W : Watch) → WatchRight w k table start W → (mask : ℕ) (clock labels : List ℕ) → Passed w (offers mask clock labels) → WatchRight w k table start (after w (offers mask clock labels) W)
+  offer-right : (W : Watch) → WatchRight w k table start W → (mask : ℕ) (clock labels : List ℕ)
+      → Passed w (offers mask clock labels) → WatchRight w k table start (after w (offers mask clock labels) W)
   unfolding after offeredLedger
   offer-right W X mask clock labels p = go (offer-case w mask clock labels (W .bytes))
     where
@@ -93,7 +96,9 @@ module _ (w k : ℕ) (table : List Line) (start : Cut) (R : Rule w k table start
       go (repeats h7 h q) = rw q X
       go (accepted h7 h8 h9 h42 h31 h32 h33 q) =
           rw (q, says-pending w k table start R (W .ledger) (W .bytes) (W .window) X)
-          (rw (says-pending w k table start R (W .ledger) (W .bytes) (W .window) X) at (accepted-watching w k table start R (W .ledger) (W .bytes) (W .window) X mask clock labels p h7 h8 h9 h42 h31 h32 h33))
+          (rw (says-pending w k table start R (W .ledger) (W .bytes)
+          (W .window) X) at (accepted-watching w k table start R (W .ledger) (W .bytes)
+          (W .window) X mask clock labels p h7 h8 h9 h42 h31 h32 h33))
 
   -- ---- close
   close-right : (W : Watch) → WatchRight w k table start W → (p : ℕ) → WatchRight w k table start (after w (closes p) W)
@@ -107,16 +112,21 @@ module _ (w k : ℕ) (table : List Line) (start : Cut) (R : Rule w k table start
           (closed-watching w k table start R (W .ledger) (W .bytes) (W .window) X p h41 h42)
 
   -- ---- take, lent a window of whatever length
-  module _ (L : Ledger) (bytes lent : List ℕ) (X : Watching w k table start L bytes lent) (cap : ℕ) (scratch : List ℕ) where
+  module _ (L : Ledger) (bytes lent : List ℕ) (X : Watching w k table start L bytes lent) (cap : ℕ)
+      (scratch : List ℕ) where
     -- 6, of the three lent buffers
     unfoldable pub badLengths : Bool
     badLengths = take.badLengths w (length bytes) (length lent) (length scratch)
 
     -- the ledger after the take
     abbrev pub ledgerThen : Ledger
-    ledgerThen = takenLedger w bytes (stoppedAt (trialOf w cap bytes lent)) L (takeCapped w cap bytes lent scratch .answer)
+    ledgerThen =
+        takenLedger w bytes (stoppedAt (trialOf w cap bytes lent)) L (takeCapped w cap bytes lent scratch .answer)
 
-    pub take-6 : badLengths ≡ true → (takeCapped w cap bytes lent scratch ≡ record { answer = turnedBack 6 0; bytes = bytes; window = lent; scratch = scratch }) × (ledgerThen ≡ L)
+    pub take-6 : badLengths ≡ true
+        → (takeCapped w cap bytes lent scratch
+        ≡ record { answer = turnedBack 6 0; bytes = bytes; window = lent; scratch = scratch })
+        × (ledgerThen ≡ L)
     unfolding takeCapped takenLedger badLengths
     take-6 h = (rw h, rw h)
 
@@ -125,17 +135,27 @@ module _ (w k : ℕ) (table : List Line) (start : Cut) (R : Rule w k table start
     decision = tried w bytes (validAmong (X .kept)) (allowedOf w cap lent) (X .kept) 0 false (L .pending)
 
     read : frontiers w lent (keptCount bytes) ≡ X .kept
-    read = ap (λ (s : List ℕ). frontiers w s (keptCount bytes)) (X .window-is) ∙ says-frontiers w k table start R L bytes lent X (length lent)
+    read =
+        ap (λ (s : List ℕ). frontiers w s (keptCount bytes)) (X .window-is)
+        ∙ says-frontiers w k table start R L bytes lent X (length lent)
 
-    pub take-else : badLengths ≡ false → (takeCapped w cap bytes lent scratch ≡ decided w bytes lent (X .kept) decision) × (ledgerThen ≡ ledgerAfter w bytes L decision)
+    pub take-else : badLengths ≡ false
+        → (takeCapped w cap bytes lent scratch ≡ decided w bytes lent (X .kept) decision)
+        × (ledgerThen ≡ ledgerAfter w bytes L decision)
     unfolding takeCapped badLengths trialOf
-    take-else h = (whole, ap₂ (λ (d : Decision) (x : Taken). takenLedger w bytes (stoppedAt d) L (x .answer)) same whole ∙ ledger-follows w bytes lent (X .kept) L decision)
+    take-else h = (
+      whole,
+      ap₂ (λ (d : Decision) (x : Taken). takenLedger w bytes (stoppedAt d) L (x .answer)) same whole
+          ∙ ledger-follows w bytes lent (X .kept) L decision,
+    )
       where
         same : trialOf w cap bytes lent ≡ decision
         same = rw (read, says-pending w k table start R L bytes lent X)
 
         n : badState w (roomOf w (length lent)) bytes ≡ false
-        n = never-34 w k table start R L bytes lent X (roomOf w (length lent)) (room-iff w (length (X .kept)) (length lent) .1 (X .room))
+        n =
+            never-34 w k table start R L bytes lent X (roomOf w (length lent))
+            (room-iff w (length (X .kept)) (length lent) .1 (X .room))
 
         whole : takeCapped w cap bytes lent scratch ≡ decided w bytes lent (X .kept) decision
         whole = rw (h, n) (within-trial w cap bytes lent ∙ ap₂ (decided w bytes lent) read same)
@@ -162,7 +182,8 @@ module _ (w k : ℕ) (table : List Line) (start : Cut) (R : Rule w k table start
       is-valid r = valid-in w k table start R L bytes lent X e formed (X .names-open e member) (is-ready r) .0
 
       is-false : T (readyIn w bytes e) → validAmong (X .kept) e ≡ false → Valid (L .history) e → ⊥
-      is-false r h t = subst T h (valid-in w k table start R L bytes lent X e formed (X .names-open e member) (is-ready r) .1 t)
+      is-false r h t =
+          subst T h (valid-in w k table start R L bytes lent X e formed (X .names-open e member) (is-ready r) .1 t)
 
       abbrev gs : List Frontier
       gs = stepped (settingOf (worldOf k (L .closed) table start) (L .history) e) (X .kept)
@@ -174,26 +195,42 @@ module _ (w k : ℕ) (table : List Line) (start : Cut) (R : Rule w k table start
           let s : Setting = settingOf (worldOf k (L .closed) table start) (L .history) e in
           let q : settingIn w bytes e ≡ s = setting-in w k table start R L bytes lent X e in
           let u : T (ltb 0 (keptAfter s (X .kept)) && leb (keptAfter s (X .kept)) (allowedOf w cap lent)) = rw q at t in
-          rw (stepped-many s (X .kept)) (leb→le (keptAfter s (X .kept)) (allowedOf w cap lent) (and-r (ltb 0 (keptAfter s (X .kept))) (leb (keptAfter s (X .kept)) (allowedOf w cap lent)) u))
+          rw (stepped-many s (X .kept))
+          (leb→le (keptAfter s (X .kept)) (allowedOf w cap lent)
+          (and-r (ltb 0 (keptAfter s (X .kept))) (leb (keptAfter s (X .kept)) (allowedOf w cap lent)) u))
 
     -- ---- the watch after it
     room-1024 : badLengths ≡ false → roomOf w (length lent) ≤ 1024
     unfolding badLengths
     room-1024 h =
-        let windows = or-false-e (badRecordLength w (length bytes)) (badWindowLength w (length lent) || not (eqb (length scratch) (length lent))) h .1 in
-        room-few w (length lent) (or-false-e (badWindowLength w (length lent)) (not (eqb (length scratch) (length lent))) windows .0)
+        let windows = or-false-e (badRecordLength w (length bytes))
+        (badWindowLength w (length lent) || not (eqb (length scratch) (length lent))) h .1 in
+        room-few w (length lent)
+        (or-false-e (badWindowLength w (length lent)) (not (eqb (length scratch) (length lent))) windows .0)
 
-    pub take-right : badLengths ≡ false → Watching w k table start (ledgerAfter w bytes L decision) (decided w bytes lent (X .kept) decision .bytes) (decided w bytes lent (X .kept) decision .window)
+    pub take-right : badLengths ≡ false
+        → Watching w k table start (ledgerAfter w bytes L decision) (decided w bytes lent (X .kept) decision .bytes)
+        (decided w bytes lent (X .kept) decision .window)
     unfolding ledgerAfter decided
     take-right h = go trial
       where
         go : Outcome w bytes (validAmong (X .kept)) (allowedOf w cap lent) (X .kept) 0 false (L .pending) noEvent
-            → Watching w k table start (ledgerAfter w bytes L decision) (decided w bytes lent (X .kept) decision .bytes) (decided w bytes lent (X .kept) decision .window)
+            → Watching w k table start (ledgerAfter w bytes L decision) (decided w bytes lent (X .kept) decision .bytes)
+            (decided w bytes lent (X .kept) decision .window)
         go (none-decides b q u o) = rw q X
         go (falsifies j l q r n x) =
             let i : 0 + j ≡ j = omega arith in
             rw (q, i, says-event w k table start R L bytes lent X j noEvent l)
-            (subst (Watching w k table start (record { history = L .history; pending = removeAt j (L .pending); falsified = getD (L .pending) j noEvent ∷ L .falsified; closed = L .closed }) (removed w bytes j)) (sym (X .window-is))
+            (subst
+            (Watching w k table start
+            (record {
+              history = L .history;
+              pending = removeAt j (L .pending);
+              falsified = getD (L .pending) j noEvent ∷ L .falsified;
+              closed = L .closed;
+            })
+            (removed w bytes j))
+            (sym (X .window-is))
             (falsified-watching w k table start R L bytes lent X j noEvent l (is-ready j l r) (is-false j l r n)
             (length lent) (omega arith)))
         go (chooses j l q r v f x) =
@@ -213,7 +250,8 @@ module _ (w k : ℕ) (table : List Line) (start : Cut) (R : Rule w k table start
             fit (le-trans many (room-1024 h)))
 
   -- ---- Theorem
-  pub after-right : (W : Watch) → WatchRight w k table start W → (c : Call) → Passed w c → WatchRight w k table start (after w c W)
+  pub after-right : (W : Watch) → WatchRight w k table start W → (c : Call) → Passed w c
+      → WatchRight w k table start (after w c W)
   unfolding after ledgerAfter
   after-right W X (offers mask clock labels) p = offer-right W X mask clock labels p
   after-right W X (finds line) p = X
@@ -232,11 +270,15 @@ module _ (w k : ℕ) (table : List Line) (start : Cut) (R : Rule w k table start
       X′ : Watching w k table start L bytes lent
       X′ = lengthened L bytes (W .window) X zeros
 
-      go : (b : Bool) → badLengths L bytes lent X′ cap scratch ≡ b → WatchRight w k table start (after w (takes cap zeros scratch) W)
+      go : (b : Bool) → badLengths L bytes lent X′ cap scratch ≡ b
+          → WatchRight w k table start (after w (takes cap zeros scratch) W)
       go true h = let t = take-6 L bytes lent X′ cap scratch h in rw (t .1, t .0) X′
-      go false h = let t = take-else L bytes lent X′ cap scratch h in rw (t .1, t .0) (take-right L bytes lent X′ cap scratch h)
+      go false h =
+          let t = take-else L bytes lent X′ cap scratch h in rw (t .1, t .0) (take-right L bytes lent X′ cap scratch h)
 
-  pub run-right : (W : Watch) → WatchRight w k table start W → (cs : List Call) → ((c : Call) → List·Memᴰ c cs → Passed w c) → WatchRight w k table start (run w cs W)
+  pub run-right : (W : Watch) → WatchRight w k table start W → (cs : List Call)
+      → ((c : Call) → List·Memᴰ c cs → Passed w c) → WatchRight w k table start (run w cs W)
   unfolding run
   run-right W X [] p = X
-  run-right W X (c ∷ cs) p = run-right (after w c W) (after-right W X c (p c (List·Memᴰ·head refl))) cs (λ d m. p d (List·Memᴰ·tail m))
+  run-right W X (c ∷ cs) p =
+      run-right (after w c W) (after-right W X c (p c (List·Memᴰ·head refl))) cs (λ d m. p d (List·Memᴰ·tail m))

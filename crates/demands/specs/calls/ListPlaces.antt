@@ -13,7 +13,8 @@ module _ {A : Type 0} where
   member-take xs zero d x m = absurd (List·Memᴰ·not-nil m)
   member-take [] (suc j) d x m = absurd (List·Memᴰ·not-nil m)
   member-take (y ∷ xs) (suc j) d x m = ⊎-elim (λ q. (0, omega arith, omega arith, sym q))
-      (λ n. let r = member-take xs j d x n in (suc (r .0), suc-le-suc (r .1), suc-le-suc (r .2), r .3)) (List·Memᴰ·cases-cons m)
+      (λ n. let r = member-take xs j d x n in (suc (r .0), suc-le-suc (r .1), suc-le-suc (r .2), r .3))
+      (List·Memᴰ·cases-cons m)
 
   -- of two places in a list, one is before the other or they are one
   pub which-first : (xs ys us vs : List A) (e f : A) → xs ++ (e ∷ ys) ≡ us ++ (f ∷ vs)

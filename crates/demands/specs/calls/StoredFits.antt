@@ -37,14 +37,20 @@ module _ (w : ℕ) (ts : List Event) (c : Causal ts) (s : (e : Event) → In e t
   pub clock-fits : (p n q : ℕ) → clockOf ts p n q < 256 ^ w
   unfolding count
   clock-fits p n q =
-      clock-cases (λ x. x < 256 ^ w) ts p n q (pow-256-pos w) (λ f h. s f (event-numbered ts p n f h .among) .counts-fit q)
+      clock-cases (λ x. x < 256 ^ w) ts p n q (pow-256-pos w)
+      (λ f h. s f (event-numbered ts p n f h .among) .counts-fit q)
 
   pub taken-fits : (p : ℕ) → taken ts p < 256 ^ w
   taken-fits p = go (decLt 0 (taken ts p))
     where
       go : Dec (0 < taken ts p) → taken ts p < 256 ^ w
       go (yes l) = let f = event-exists ts p (taken ts p) l (omega arith) in
-          omega (arith, clock-fits p (taken ts p) p, clock-some ts p (taken ts p) (f .0) (f .1) p, count-number ts c p (taken ts p) (f .0) (f .1))
+          omega (
+            arith,
+            clock-fits p (taken ts p) p,
+            clock-some ts p (taken ts p) (f .0) (f .1) p,
+            count-number ts c p (taken ts p) (f .0) (f .1),
+          )
       go (no l) = omega (arith, pow-256-pos w)
 
   -- what is read off a last event is a byte where the event's is
@@ -70,10 +76,19 @@ module _ (w : ℕ) (ts : List Event) (c : Causal ts) (s : (e : Event) → In e t
     eight-counts = length-listOf 8 S;
     counts-fit = λ p. list-fits S (256 ^ w) p (pow-256-pos w) (λ q. omega (arith, e .within q, taken-fits q));
     eight-labels = length-listOf 8 (λ p. labelOf start ts p (S p));
-    labels-fit = λ i. list-fits (λ p. labelOf start ts p (S p)) 256 i (omega arith) (λ q. view-fits (start q) (λ f. getD (f .labels) q 0) 256 q (S q) (labels q) (λ f t. t .labels-fit q));
+    labels-fit = λ i.
+        list-fits (λ p. labelOf start ts p (S p)) 256 i (omega arith)
+        (λ q. view-fits (start q) (λ f. getD (f .labels) q 0) 256 q (S q) (labels q) (λ f t. t .labels-fit q));
     eight-masks = length-listOf 8 (λ p. maskOf ts p (S p));
-    masks-fit = λ i. list-fits (λ p. maskOf ts p (S p)) 256 i (omega arith) (λ q. view-fits 0 (λ f. f .mask) 256 q (S q) (omega arith) (λ f t. t .mask-fits));
-    values-fit = omega (arith, wordOf-lt (length table) (λ j. lineTruth (modelOf (worldOf k closed table start) ts) table j S), pow-mono short);
+    masks-fit = λ i.
+        list-fits (λ p. maskOf ts p (S p)) 256 i (omega arith)
+        (λ q. view-fits 0 (λ f. f .mask) 256 q (S q) (omega arith) (λ f t. t .mask-fits));
+    values-fit =
+        omega (
+          arith,
+          wordOf-lt (length table) (λ j. lineTruth (modelOf (worldOf k closed table start) ts) table j S),
+          pow-mono short,
+        );
   }
 
   pub all-shaped : (k closed : ℕ) (table : List Line) (start : Cut) → length table ≤ 64 → ((p : ℕ) → start p < 256)
@@ -83,7 +98,8 @@ module _ (w : ℕ) (ts : List Event) (c : Causal ts) (s : (e : Event) → In e t
       rw (u .2) (frontier-shaped k closed table start short labels (u .0) (R .kept (u .0) (u .1) .consistent))
 
 -- ---- what follows from it
-module _ (w k : ℕ) (table : List Line) (start : Cut) (R : Rule w k table start) (L : Ledger) (bytes window : List ℕ) (X : Watching w k table start L bytes window) where
+module _ (w k : ℕ) (table : List Line) (start : Cut) (R : Rule w k table start) (L : Ledger) (bytes window : List ℕ)
+    (X : Watching w k table start L bytes window) where
   abbrev ts : List Event
   ts = L .history
 
@@ -94,14 +110,21 @@ module _ (w k : ℕ) (table : List Line) (start : Cut) (R : Rule w k table start
   by-history = X .right .by-rule
 
   pub proper : Proper world Valid ts
-  proper = record { some-process = R .some-process; room = R .eight-processes; rule = valid-rule k; by-rule = by-history; good = R .good }
+  proper = record {
+    some-process = R .some-process;
+    room = R .eight-processes;
+    rule = valid-rule k;
+    by-rule = by-history;
+    good = R .good;
+  }
 
   pub causal-history : Causal ts
   causal-history = history-causal k Valid (valid-rule k) ts by-history
 
   pub kept-shaped : AllShaped w (X .kept)
   kept-shaped =
-      all-shaped w ts causal-history (λ e m. X .storable e (inl m)) k (L .closed) table start (R .short) (R .labels-fit) (X .kept) (X .represents)
+      all-shaped w ts causal-history (λ e m. X .storable e (inl m)) k (L .closed) table start (R .short) (R .labels-fit)
+      (X .kept) (X .represents)
 
   pub sized : Sized w (statusOf k table (length (X .kept)) L)
   unfolding lastClock

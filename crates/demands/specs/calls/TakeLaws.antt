@@ -39,15 +39,19 @@ use Rattle.demands.specs.bytes.Sized.{Storable, withPending, Sized}
 use Rattle.demands.specs.calls.ValidRule.{valid-rule}
 
 -- an event's clock is the last one of its processes; the others' last clocks are what they were
-last-next : (e : Event) (ts : List Event) (p : ℕ) → lastClock (e ∷ ts) p ≡ cond (involved e p) (count e) (lastClock ts p)
+last-next : (e : Event) (ts : List Event) (p : ℕ)
+    → lastClock (e ∷ ts) p ≡ cond (involved e p) (count e) (lastClock ts p)
 unfolding lastClock
 last-next e ts p = go (either (involved e p))
   where
-    go : (involved e p ≡ true) ⊎ (involved e p ≡ false) → clockOf (e ∷ ts) p (taken (e ∷ ts) p) ≡ cond (involved e p) (count e) (clockOf ts p (taken ts p))
-    go (inl b) = rw (b, taken-next e ts p b) (fun-ext (clock-some (e ∷ ts) p (suc (taken ts p)) e (event-next e ts p b)))
+    go : (involved e p ≡ true) ⊎ (involved e p ≡ false)
+        → clockOf (e ∷ ts) p (taken (e ∷ ts) p) ≡ cond (involved e p) (count e) (clockOf ts p (taken ts p))
+    go (inl b) =
+        rw (b, taken-next e ts p b) (fun-ext (clock-some (e ∷ ts) p (suc (taken ts p)) e (event-next e ts p b)))
     go (inr b) = rw (b, taken-other e ts p b) (fun-ext (clock-old e ts p (taken ts p) (omega arith)))
 
-module _ (w k : ℕ) (table : List Line) (start : Cut) (R : Rule w k table start) (L : Ledger) (bytes window : List ℕ) (X : Watching w k table start L bytes window) where
+module _ (w k : ℕ) (table : List Line) (start : Cut) (R : Rule w k table start) (L : Ledger) (bytes window : List ℕ)
+    (X : Watching w k table start L bytes window) where
   abbrev ts : List Event
   ts = L .history
 
@@ -68,12 +72,21 @@ module _ (w k : ℕ) (table : List Line) (start : Cut) (R : Rule w k table start
     -- ... or gone with a false clock
     module _ (r : Ready e (taken ts)) (n : Valid ts e → ⊥) where
       abbrev without : Ledger
-      without = record { history = ts; pending = removeAt i (L .pending); falsified = e ∷ L .falsified; closed = L .closed }
+      without = record {
+        history = ts;
+        pending = removeAt i (L .pending);
+        falsified = e ∷ L .falsified;
+        closed = L .closed;
+      }
 
-      pub falsified-watching : (total : ℕ) → length window ≤ total → Watching w k table start without (removed w bytes i) (windowBytes w total (X .kept))
+      pub falsified-watching : (total : ℕ) → length window ≤ total
+          → Watching w k table start without (removed w bytes i) (windowBytes w total (X .kept))
       falsified-watching total g = record {
         kept = X .kept;
-        bytes-are = ap (λ (s : List ℕ). removed w s i) (X .bytes-are) ∙ removed-recordBytes w (statusOf k table (length (X .kept)) L) (sized w k table start R L bytes window X) i l;
+        bytes-are =
+            ap (λ (s : List ℕ). removed w s i) (X .bytes-are)
+            ∙ removed-recordBytes w (statusOf k table (length (X .kept)) L)
+            (sized w k table start R L bytes window X) i l;
         window-is = ap (λ (t : ℕ). windowBytes w t (X .kept)) (sym long);
         room = omega (arith, long, X .room);
         few = X .few;
@@ -84,7 +97,9 @@ module _ (w k : ℕ) (table : List Line) (start : Cut) (R : Rule w k table start
           untaken = λ f q. X .right .untaken f (remove-e i (L .pending) f q);
           was-ready = λ f q. ⊎-elim (λ s. rw s ([], ts, refl, r, n)) (X .right .was-ready f) (List·Memᴰ·cases-cons q);
           eight = λ f. ⊎-elim (λ q. X .right .eight f (inl q))
-              (⊎-elim (λ q. X .right .eight f (inr (inl (remove-e i (L .pending) f q)))) (λ q. ⊎-elim (λ s. rw s (X .right .eight e (inr (inl m)))) (λ o. X .right .eight f (inr (inr o))) (List·Memᴰ·cases-cons q)));
+              (⊎-elim (λ q. X .right .eight f (inr (inl (remove-e i (L .pending) f q))))
+              (λ q. ⊎-elim (λ s. rw s (X .right .eight e (inr (inl m)))) (λ o. X .right .eight f (inr (inr o)))
+              (List·Memᴰ·cases-cons q)));
         };
         ordered = remove-ordered i (L .pending) (X .ordered);
         clear = clear-remove i (L .pending) (X .clear);
@@ -96,12 +111,19 @@ module _ (w k : ℕ) (table : List Line) (start : Cut) (R : Rule w k table start
       }
         where
           long : length (windowBytes w total (X .kept)) ≡ total
-          long = length-windowBytes w total (X .kept) (kept-shaped w k table start R L bytes window X) (omega (arith, X .room))
+          long =
+              length-windowBytes w total (X .kept) (kept-shaped w k table start R L bytes window X)
+              (omega (arith, X .room))
 
     -- ---- taken
     module _ (r : Ready e (taken ts)) (j : Valid ts e) where
       abbrev with-event : Ledger
-      with-event = record { history = e ∷ ts; pending = removeAt i (L .pending); falsified = L .falsified; closed = L .closed }
+      with-event = record {
+        history = e ∷ ts;
+        pending = removeAt i (L .pending);
+        falsified = L .falsified;
+        closed = L .closed;
+      }
 
       tk : Takeable k Valid ts e
       tk = record { formed = X .right .formed e m; ready = r; true-clock = j }
@@ -116,32 +138,53 @@ module _ (w k : ℕ) (table : List Line) (start : Cut) (R : Rule w k table start
       gs = stepped (settingOf world ts e) (X .kept)
 
       pub stepped-right : Represents world (e ∷ ts) gs
-      stepped-right = step-represents world Valid ts e P tk (λ p b. rw (X .names-open e m p b) tt) (X .kept) (X .represents)
+      stepped-right =
+          step-represents world Valid ts e P tk (λ p b. rw (X .names-open e m p b) tt) (X .kept) (X .represents)
 
       pub stepped-some : 0 < length gs
-      stepped-some = some-frontier world Valid (e ∷ ts) (record { some-process = P .some-process; room = P .room; rule = P .rule; by-rule = later; good = P .good }) gs stepped-right
+      stepped-some =
+          some-frontier world Valid (e ∷ ts)
+          (record {
+            some-process = P .some-process;
+            room = P .room;
+            rule = P .rule;
+            by-rule = later;
+            good = P .good;
+          }) gs stepped-right
 
       storable-later : (f : Event) → In f (e ∷ ts) → Storable w f
-      storable-later f q = ⊎-elim (λ s. rw s (X .storable e (inr m))) (λ n. X .storable f (inl n)) (List·Memᴰ·cases-cons q)
+      storable-later f q =
+          ⊎-elim (λ s. rw s (X .storable e (inr m))) (λ n. X .storable f (inl n)) (List·Memᴰ·cases-cons q)
 
       shaped : AllShaped w gs
-      shaped = all-shaped w (e ∷ ts) causal storable-later k (L .closed) table start (R .short) (R .labels-fit) gs stepped-right
+      shaped =
+          all-shaped w (e ∷ ts) causal storable-later k (L .closed) table start (R .short)
+          (R .labels-fit) gs stepped-right
 
       -- the bytes behind the old frontiers were 0, so those behind the new ones are
-      pub taken-window : length gs * frontierLength w ≤ length window → replaced w window (length (X .kept)) gs ≡ windowBytes w (length window) gs
+      pub taken-window : length gs * frontierLength w ≤ length window
+          → replaced w window (length (X .kept)) gs ≡ windowBytes w (length window) gs
       taken-window g =
           ap (λ (v : List ℕ). replaced w v (length (X .kept)) gs) (X .window-is)
-          ∙ replaced-windowBytes w (length window) (X .kept) gs (kept-shaped w k table start R L bytes window X) shaped (X .room) g
+          ∙ replaced-windowBytes w (length window) (X .kept) gs (kept-shaped w k table start R L bytes window X) shaped
+          (X .room) g
 
       -- pending events that are left have other counts than the one taken
-      still-untaken : (f : Event) → List·Memᴰ f (removeAt i (L .pending)) → (p : ℕ) → involved f p ≡ true → taken (e ∷ ts) p < count f p
+      still-untaken : (f : Event) → List·Memᴰ f (removeAt i (L .pending)) → (p : ℕ) → involved f p ≡ true
+          → taken (e ∷ ts) p < count f p
       still-untaken f q p b = go (either (involved e p))
         where
           go : (involved e p ≡ true) ⊎ (involved e p ≡ false) → taken (e ∷ ts) p < count f p
           go (inr a) = omega (arith, taken-other e ts p a, X .right .untaken f (remove-e i (L .pending) f q) p b)
           go (inl a) =
               let n : count e p ≢ count f p = clear-other i (L .pending) d (X .clear) l f q p a b in
-              omega (arith, n, taken-next e ts p a, ready-next e (taken ts) r p a, X .right .untaken f (remove-e i (L .pending) f q) p b)
+              omega (
+                arith,
+                n,
+                taken-next e ts p a,
+                ready-next e (taken ts) r p a,
+                X .right .untaken f (remove-e i (L .pending) f q) p b,
+              )
 
       pub taken-watching : (total : ℕ) → length gs * frontierLength w ≤ total → length gs ≤ 1024
           → Watching w k table start with-event (counted w (removed w bytes i) e (length gs)) (windowBytes w total gs)
@@ -157,13 +200,20 @@ module _ (w k : ℕ) (table : List Line) (start : Cut) (R : Rule w k table start
           by-rule = later;
           formed = λ f q. X .right .formed f (remove-e i (L .pending) f q);
           untaken = still-untaken;
-          was-ready = λ f q. let u = X .right .was-ready f q in (e ∷ u .0, u .1, ap (λ (zs : List Event). e ∷ zs) (u .2), u .3, u .4);
-          eight = λ f. ⊎-elim (λ q. ⊎-elim (λ s. rw s (X .right .eight e (inr (inl m)))) (λ o. X .right .eight f (inl o)) (List·Memᴰ·cases-cons q))
-              (⊎-elim (λ q. X .right .eight f (inr (inl (remove-e i (L .pending) f q)))) (λ q. X .right .eight f (inr (inr q))));
+          was-ready = λ f q.
+              let u = X .right .was-ready f q in (e ∷ u .0, u .1, ap (λ (zs : List Event). e ∷ zs) (u .2), u .3, u .4);
+          eight = λ f.
+              ⊎-elim (λ q. ⊎-elim (λ s. rw s (X .right .eight e (inr (inl m)))) (λ o. X .right .eight f (inl o))
+              (List·Memᴰ·cases-cons q))
+              (⊎-elim (λ q. X .right .eight f (inr (inl (remove-e i (L .pending) f q))))
+              (λ q. X .right .eight f (inr (inr q))));
         };
         ordered = remove-ordered i (L .pending) (X .ordered);
         clear = clear-remove i (L .pending) (X .clear);
-        faultless = λ f. ⊎-elim (λ q. ⊎-elim (λ s. rw s (X .faultless e (inr m))) (λ n. X .faultless f (inl n)) (List·Memᴰ·cases-cons q)) (λ q. X .faultless f (inr (remove-e i (L .pending) f q)));
+        faultless = λ f.
+            ⊎-elim
+            (λ q. ⊎-elim (λ s. rw s (X .faultless e (inr m))) (λ n. X .faultless f (inl n)) (List·Memᴰ·cases-cons q))
+            (λ q. X .faultless f (inr (remove-e i (L .pending) f q)));
         storable = λ f. ⊎-elim (storable-later f) (λ q. X .storable f (inr (remove-e i (L .pending) f q)));
         many = omega (arith, X .many, length-removeAt i (L .pending) l);
         closed-below = X .closed-below;
@@ -194,9 +244,20 @@ module _ (w k : ℕ) (table : List Line) (start : Cut) (R : Rule w k table start
                 storable = λ f q. X .storable f (inr (remove-e i (L .pending) f q));
               }
 
-          bytes-right : counted w (removed w bytes i) e (length gs) ≡ recordBytes w (statusOf k table (length gs) with-event)
+          bytes-right : counted w (removed w bytes i) e (length gs)
+              ≡ recordBytes w (statusOf k table (length gs) with-event)
           bytes-right =
               ap (λ (s : List ℕ). counted w (removed w s i) e (length gs)) (X .bytes-are)
-              ∙ ap (λ (s : List ℕ). counted w s e (length gs)) (removed-recordBytes w old (sized w k table start R L bytes window X) i l)
+              ∙ ap (λ (s : List ℕ). counted w s e (length gs))
+              (removed-recordBytes w old (sized w k table start R L bytes window X) i l)
               ∙ counted-recordBytes w smaller smaller-sized e (length gs) (X .storable e (inr m) .eight-counts)
-              ∙ ap (λ (c : ℕ → Cut). recordBytes w (record { processes = k; table = table; closed = L .closed; kept = length gs; counts = taken (e ∷ ts); clocks = c; pending = removeAt i (L .pending) })) (fun-ext (λ p. sym (last-next e ts p)))
+              ∙ ap (λ (c : ℕ → Cut). recordBytes w (record {
+                processes = k;
+                table = table;
+                closed = L .closed;
+                kept = length gs;
+                counts = taken (e ∷ ts);
+                clocks = c;
+                pending = removeAt i (L .pending);
+              }))
+              (fun-ext (λ p. sym (last-next e ts p)))

@@ -16,8 +16,18 @@ use Rattle.demands.specs.Status.{removeAt}
 -- The ledger after a decision.
 unfoldable pub ledgerAfter : ℕ → List ℕ → Ledger → Decision → Ledger
 ledgerAfter w s L (undecided seen) = L
-ledgerAfter w s L (false-clock i) = record { history = L .history; pending = removeAt i (L .pending); falsified = pendingAt w s i ∷ L .falsified; closed = L .closed }
-ledgerAfter w s L (chosen i) = record { history = pendingAt w s i ∷ L .history; pending = removeAt i (L .pending); falsified = L .falsified; closed = L .closed }
+ledgerAfter w s L (false-clock i) = record {
+  history = L .history;
+  pending = removeAt i (L .pending);
+  falsified = pendingAt w s i ∷ L .falsified;
+  closed = L .closed;
+}
+ledgerAfter w s L (chosen i) = record {
+  history = pendingAt w s i ∷ L .history;
+  pending = removeAt i (L .pending);
+  falsified = L .falsified;
+  closed = L .closed;
+}
 
 -- The trial is takeWithin's own.
 pub within-trial : (w cap : ℕ) (s window : List ℕ)

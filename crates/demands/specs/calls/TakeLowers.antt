@@ -22,8 +22,8 @@ use Rattle.demands.specs.bytes.InsertLaws.{length-removeAt}
 use Rattle.demands.specs.calls.AfterCall.{noEvent, badLengths, decision, take-6, take-else, take-right, trial}
 use Rattle.demands.specs.calls.TakeLedger.{ledgerAfter}
 
-module _ (w k : ℕ) (table : List Line) (start : Cut) (R : Rule w k table start) (L : Ledger) (bytes lent : List ℕ) (X : Watching w k table start L bytes lent)
-    (cap : ℕ) (scratch : List ℕ) where
+module _ (w k : ℕ) (table : List Line) (start : Cut) (R : Rule w k table start) (L : Ledger) (bytes lent : List ℕ)
+    (X : Watching w k table start L bytes lent) (cap : ℕ) (scratch : List ℕ) where
   abbrev took : Taken
   took = takeCapped w cap bytes lent scratch
 
@@ -32,15 +32,18 @@ module _ (w k : ℕ) (table : List Line) (start : Cut) (R : Rule w k table start
   many M s window Y = ap pendingCount (Y .bytes-are) ∙ pendingCount-recordBytes w _
 
   -- ---- Theorem
-  pub take-lowers : took .answer ≢ nothingReady → took .answer ≢ turnedBack 6 0 → took .answer ≢ turnedBack 36 0 → pendingCount (took .bytes) + 1 ≡ pendingCount bytes
+  pub take-lowers : took .answer ≢ nothingReady → took .answer ≢ turnedBack 6 0 → took .answer ≢ turnedBack 36 0
+      → pendingCount (took .bytes) + 1 ≡ pendingCount bytes
   unfolding decided ledgerAfter
   take-lowers n0 n6 n36 = lengths (badLengths w k table start R L bytes lent X cap scratch) refl
     where
       D : Decision
       D = decision w k table start R L bytes lent X cap scratch
 
-      lengths : (b : Bool) → badLengths w k table start R L bytes lent X cap scratch ≡ b → pendingCount (took .bytes) + 1 ≡ pendingCount bytes
-      lengths true h = absurd (n6 (ap (λ (x : Taken). x .answer) (take-6 w k table start R L bytes lent X cap scratch h .0)))
+      lengths : (b : Bool) → badLengths w k table start R L bytes lent X cap scratch ≡ b
+          → pendingCount (took .bytes) + 1 ≡ pendingCount bytes
+      lengths true h =
+          absurd (n6 (ap (λ (x : Taken). x .answer) (take-6 w k table start R L bytes lent X cap scratch h .0)))
       lengths false h = go (trial w k table start R L bytes lent X cap scratch)
         where
           t : took ≡ decided w bytes lent (X .kept) D
@@ -50,12 +53,16 @@ module _ (w k : ℕ) (table : List Line) (start : Cut) (R : Rule w k table start
           answered d q = ap (λ (x : Taken). x .answer) (t ∙ ap (decided w bytes lent (X .kept)) q)
 
           after : pendingCount (took .bytes) ≡ length (ledgerAfter w bytes L D .pending)
-          after = ap (λ (x : Taken). pendingCount (x .bytes)) t ∙ many (ledgerAfter w bytes L D) _ _ (take-right w k table start R L bytes lent X cap scratch h)
+          after =
+              ap (λ (x : Taken). pendingCount (x .bytes)) t
+              ∙ many (ledgerAfter w bytes L D) _ _ (take-right w k table start R L bytes lent X cap scratch h)
 
           -- event j is no longer there
-          without : (j : ℕ) → j < length (L .pending) → ledgerAfter w bytes L D .pending ≡ removeAt (0 + j) (L .pending) → pendingCount (took .bytes) + 1 ≡ pendingCount bytes
+          without : (j : ℕ) → j < length (L .pending) → ledgerAfter w bytes L D .pending ≡ removeAt (0 + j) (L .pending)
+              → pendingCount (took .bytes) + 1 ≡ pendingCount bytes
           without j l q =
-              let u : length (ledgerAfter w bytes L D .pending) ≡ length (removeAt (0 + j) (L .pending)) = ap length q in
+              let u : length (ledgerAfter w bytes L D .pending) ≡ length (removeAt (0 + j) (L .pending)) =
+              ap length q in
               let v = length-removeAt (0 + j) (L .pending) (omega arith) in
               omega (arith, after, u, v, many L bytes lent X)
 

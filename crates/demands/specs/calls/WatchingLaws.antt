@@ -37,7 +37,8 @@ use Rattle.demands.specs.calls.StoredFits.{proper, sized, kept-shaped}
 use Rattle.demands.specs.World.{worldOf, statusOf, Valid, Open}
 use Rattle.demands.specs.bytes.Sized.{Sized}
 
-module _ (w k : ℕ) (table : List Line) (start : Cut) (R : Rule w k table start) (L : Ledger) (bytes window : List ℕ) (X : Watching w k table start L bytes window) where
+module _ (w k : ℕ) (table : List Line) (start : Cut) (R : Rule w k table start) (L : Ledger) (bytes window : List ℕ)
+    (X : Watching w k table start L bytes window) where
   abbrev ts : List Event
   ts = L .history
 
@@ -92,7 +93,8 @@ module _ (w k : ℕ) (table : List Line) (start : Cut) (R : Rule w k table start
   pub says-clocks : (p q : ℕ) → p < 8 → q < 8 → rows (lastClocks w bytes) p q ≡ lastClock ts p q
   says-clocks p q l j =
       ap (λ (cs : List (List ℕ)). rows cs p q) (ap (lastClocks w) (X .bytes-are) ∙ lastClocks-recordBytes w status z)
-      ∙ ap (λ (c : List ℕ). at c q) (getD-listOf 8 (λ x. listOf 8 (lastClock ts x)) p [] l) ∙ at-listOf 8 (lastClock ts p) q j
+      ∙ ap (λ (c : List ℕ). at c q) (getD-listOf 8 (λ x. listOf 8 (lastClock ts x)) p [] l)
+      ∙ at-listOf 8 (lastClock ts p) q j
 
   -- ---- 34 never comes
   pub never-34 : (room : ℕ) → length (X .kept) ≤ room → badState w room bytes ≡ false
@@ -151,11 +153,15 @@ module _ (w k : ℕ) (table : List Line) (start : Cut) (R : Rule w k table start
   lent-longer more =
       let n : length (X .kept) * frontierLength w ≤ length window = X .room in
       ap (λ (s : List ℕ). s ++ replicate more 0) (X .window-is)
-      ∙ append-assoc (framed w (X .kept)) (replicate (length window - length (X .kept) * frontierLength w) 0) (replicate more 0)
-      ∙ ap (λ (s : List ℕ). framed w (X .kept) ++ s) (replicate-append-replicate (length window - length (X .kept) * frontierLength w) more 0 ∙ ap (λ (m : ℕ). replicate m 0) (sums (length window) more (length (X .kept) * frontierLength w) n))
+      ∙ append-assoc (framed w (X .kept)) (replicate (length window - length (X .kept) * frontierLength w) 0)
+      (replicate more 0)
+      ∙ ap (λ (s : List ℕ). framed w (X .kept) ++ s)
+      (replicate-append-replicate (length window - length (X .kept) * frontierLength w) more 0
+      ∙ ap (λ (m : ℕ). replicate m 0) (sums (length window) more (length (X .kept) * frontierLength w) n))
     where
       sums : (a b c : ℕ) → c ≤ a → a - c + b ≡ a + b - c
       sums a b c l = omega arith
 
   pub says-frontiers : (total : ℕ) → frontiers w (windowBytes w total (X .kept)) (keptCount bytes) ≡ X .kept
-  says-frontiers total = rw says-kept (frontiers-windowBytes w total (X .kept) (kept-shaped w k table start R L bytes window X))
+  says-frontiers total =
+      rw says-kept (frontiers-windowBytes w total (X .kept) (kept-shaped w k table start R L bytes window X))
