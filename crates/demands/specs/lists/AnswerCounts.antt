@@ -48,16 +48,23 @@ plain L es answers Y a x y z = record {
 
 -- ---- offer
 offer-said : (w : ℕ) (W : Watch) → Said (W .ledger) (W .accepted) (W .answers) → (mask : ℕ) (clock labels : List ℕ)
-    → Said (after w (offers mask clock labels) W .ledger) (after w (offers mask clock labels) W .accepted) (after w (offers mask clock labels) W .answers)
+    → Said (after w (offers mask clock labels) W .ledger) (after w (offers mask clock labels) W .accepted)
+    (after w (offers mask clock labels) W .answers)
 unfolding after offeredLedger acceptedBy number
 offer-said w W Y mask clock labels = go (offer-case w mask clock labels (W .bytes))
   where
     go : OfferCase w mask clock labels (W .bytes)
-        → Said (after w (offers mask clock labels) W .ledger) (after w (offers mask clock labels) W .accepted) (after w (offers mask clock labels) W .answers)
-    go (turned n some small other q) = rw q (plain (W .ledger) (W .accepted) (W .answers) Y (turnedBack n 0) refl refl other)
+        → Said (after w (offers mask clock labels) W .ledger) (after w (offers mask clock labels) W .accepted)
+        (after w (offers mask clock labels) W .answers)
+    go (turned n some small other q) =
+        rw q (plain (W .ledger) (W .accepted) (W .answers) Y (turnedBack n 0) refl refl other)
     go (repeats h7 h q) = rw q (plain (W .ledger) (W .accepted) (W .answers) Y again refl refl refl)
     go (accepted h7 h8 h9 h42 h31 h32 h33 q) =
-        rw q (record { accepted-said = omega (arith, Y .accepted-said); taken-said = omega (arith, Y .taken-said); falsified-said = omega (arith, Y .falsified-said) })
+        rw q (record {
+          accepted-said = omega (arith, Y .accepted-said);
+          taken-said = omega (arith, Y .taken-said);
+          falsified-said = omega (arith, Y .falsified-said);
+        })
 
 -- ---- find
 find-from-said : (line i : ℕ) (fs : List Frontier) (L : Ledger) (es : List Event) (answers : List Answer)
@@ -76,10 +83,13 @@ find-said : (w line : ℕ) (s window : List ℕ) (L : Ledger) (es : List Event) 
     → Said L es answers → Said L es (findCall w line s window ∷ answers)
 unfolding findCall
 find-said w line s window L es answers Y =
-    go (badRecordLength w (length s) || badWindowLength w (length window)) (badState w (roomOf w (length window)) s) (leb (lineTotal s) line)
+    go (badRecordLength w (length s) || badWindowLength w (length window)) (badState w (roomOf w (length window)) s)
+    (leb (lineTotal s) line)
   where
     go : (a b c : Bool)
-        → Said L es (cond a (turnedBack 6 0) (cond b (turnedBack 34 0) (cond c (turnedBack 11 0) (findFrom line 0 (frontiers w window (keptCount s))))) ∷ answers)
+        → Said L es (cond a (turnedBack 6 0)
+        (cond b (turnedBack 34 0) (cond c (turnedBack 11 0) (findFrom line 0 (frontiers w window (keptCount s)))))
+        ∷ answers)
     go true b c = plain L es answers Y (turnedBack 6 0) refl refl refl
     go false true c = plain L es answers Y (turnedBack 34 0) refl refl refl
     go false false true = plain L es answers Y (turnedBack 11 0) refl refl refl
@@ -106,15 +116,32 @@ decided-said : (w : ℕ) (s window : List ℕ) (fs : List Frontier) (L : Ledger)
     → Said L es answers → (d : Decision)
     → Said (ledgerAfter w s L d) es (decided w s window fs d .answer ∷ answers)
 unfolding decided ledgerAfter stateOf number
-decided-said w s window fs L es answers Y (undecided true) = record { accepted-said = omega (arith, Y .accepted-said); taken-said = omega (arith, Y .taken-said); falsified-said = omega (arith, Y .falsified-said) }
-decided-said w s window fs L es answers Y (undecided false) = record { accepted-said = omega (arith, Y .accepted-said); taken-said = omega (arith, Y .taken-said); falsified-said = omega (arith, Y .falsified-said) }
-decided-said w s window fs L es answers Y (false-clock i) = record { accepted-said = omega (arith, Y .accepted-said); taken-said = omega (arith, Y .taken-said); falsified-said = omega (arith, Y .falsified-said) }
-decided-said w s window fs L es answers Y (chosen i) = record { accepted-said = omega (arith, Y .accepted-said); taken-said = omega (arith, Y .taken-said); falsified-said = omega (arith, Y .falsified-said) }
+decided-said w s window fs L es answers Y (undecided true) = record {
+  accepted-said = omega (arith, Y .accepted-said);
+  taken-said = omega (arith, Y .taken-said);
+  falsified-said = omega (arith, Y .falsified-said);
+}
+decided-said w s window fs L es answers Y (undecided false) = record {
+  accepted-said = omega (arith, Y .accepted-said);
+  taken-said = omega (arith, Y .taken-said);
+  falsified-said = omega (arith, Y .falsified-said);
+}
+decided-said w s window fs L es answers Y (false-clock i) = record {
+  accepted-said = omega (arith, Y .accepted-said);
+  taken-said = omega (arith, Y .taken-said);
+  falsified-said = omega (arith, Y .falsified-said);
+}
+decided-said w s window fs L es answers Y (chosen i) = record {
+  accepted-said = omega (arith, Y .accepted-said);
+  taken-said = omega (arith, Y .taken-said);
+  falsified-said = omega (arith, Y .falsified-said);
+}
 
 module _ (w k : ℕ) (table : List Line) (start : Cut) (R : Rule w k table start) where
   take-said : (W : Watch) → WatchRight w k table start W → Said (W .ledger) (W .accepted) (W .answers)
       → (cap more : ℕ) (scratch : List ℕ)
-      → Said (after w (takes cap more scratch) W .ledger) (after w (takes cap more scratch) W .accepted) (after w (takes cap more scratch) W .answers)
+      → Said (after w (takes cap more scratch) W .ledger) (after w (takes cap more scratch) W .accepted)
+      (after w (takes cap more scratch) W .answers)
   unfolding after
   take-said W X Y cap more scratch = go (badLengths w k table start R L bytes lent X′ cap scratch) refl
     where
@@ -131,10 +158,15 @@ module _ (w k : ℕ) (table : List Line) (start : Cut) (R : Rule w k table start
       X′ = lengthened w k table start R L bytes (W .window) X more
 
       go : (b : Bool) → badLengths w k table start R L bytes lent X′ cap scratch ≡ b
-          → Said (after w (takes cap more scratch) W .ledger) (after w (takes cap more scratch) W .accepted) (after w (takes cap more scratch) W .answers)
-      go true h = let t = take-6 w k table start R L bytes lent X′ cap scratch h in rw (t .1, t .0) (plain L (W .accepted) (W .answers) Y (turnedBack 6 0) refl refl refl)
+          → Said (after w (takes cap more scratch) W .ledger) (after w (takes cap more scratch) W .accepted)
+          (after w (takes cap more scratch) W .answers)
+      go true h =
+          let t = take-6 w k table start R L bytes lent X′ cap scratch h in
+          rw (t .1, t .0) (plain L (W .accepted) (W .answers) Y (turnedBack 6 0) refl refl refl)
       go false h = let t = take-else w k table start R L bytes lent X′ cap scratch h in
-          rw (t .1, t .0) (decided-said w bytes lent (X′ .kept) L (W .accepted) (W .answers) Y (decision w k table start R L bytes lent X′ cap scratch))
+          rw (t .1, t .0)
+          (decided-said w bytes lent (X′ .kept) L (W .accepted) (W .answers) Y
+          (decision w k table start R L bytes lent X′ cap scratch))
 
   pub after-said : (W : Watch) → WatchRight w k table start W → Said (W .ledger) (W .accepted) (W .answers) → (c : Call)
       → Said (after w c W .ledger) (after w c W .accepted) (after w c W .answers)

@@ -14,10 +14,12 @@ use Rattle.demands.specs.lists.SoundRun.{Sound, every-list}
 
 balanced-of : (w k : ℕ) (f : Formula) (start : Cut) (Z : Watch) → Sound w k f start Z → AnswersBalanced Z
 balanced-of w k f start Z S =
-    let many : pendingCount (Z .bytes) ≡ length (Z .ledger .pending) = says-many w k (linesAt 0 f) start (S .rule) (Z .ledger) (Z .bytes) (Z .window) (S .right) in
+    let many : pendingCount (Z .bytes) ≡ length (Z .ledger .pending) =
+    says-many w k (linesAt 0 f) start (S .rule) (Z .ledger) (Z .bytes) (Z .window) (S .right) in
     record {
       some-state = omega (arith, S .said .taken-said);
-      balance = omega (arith, S .said .accepted-said, S .said .taken-said, S .said .falsified-said, many, S .balanced .total);
+      balance =
+          omega (arith, S .said .accepted-said, S .said .taken-said, S .said .falsified-said, many, S .balanced .total);
       accepted-said = S .said .accepted-said;
       taken-said = S .said .taken-said;
       falsified-said = S .said .falsified-said;

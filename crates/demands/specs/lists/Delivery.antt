@@ -34,32 +34,40 @@ occurs-i e (f ∷ fs) m = ⊎-elim
     (λ k. omega (arith, occurs-i e fs k))
     (List·Memᴰ·cases-cons m)
 
-pub occurs-e : (e : Event) (fs : List Event) → Eight e → ((f : Event) → List·Memᴰ f fs → Eight f) → 0 < occurrences e fs → List·Memᴰ e fs
+pub occurs-e : (e : Event) (fs : List Event) → Eight e → ((f : Event) → List·Memᴰ f fs → Eight f) → 0 < occurrences e fs
+    → List·Memᴰ e fs
 unfolding occurrences
 occurs-e e [] x h l = absurd (omega arith)
 occurs-e e (f ∷ fs) x h l = go (sameEvent e f) refl (occurs-e e fs x (λ g m. h g (List·Memᴰ·tail m)))
   where
     go : (b : Bool) → sameEvent e f ≡ b → (0 < occurrences e fs → List·Memᴰ e fs) → List·Memᴰ e (f ∷ fs)
-    go true b r = let y = h f (List·Memᴰ·head refl) in List·Memᴰ·head (same-equal e f (x .counts) (y .counts) (x .labels) (y .labels) (true-T b))
+    go true b r =
+        let y = h f (List·Memᴰ·head refl) in
+        List·Memᴰ·head (same-equal e f (x .counts) (y .counts) (x .labels) (y .labels) (true-T b))
     go false b r = List·Memᴰ·tail (r (let z : one (sameEvent e f) ≡ 0 = rw b in omega arith))
 
 -- ---- a history within another
 -- events of one history that are all in another come to no more there
 module _ (ts us : List Event) (c : Causal ts) (d : Causal us) (h : (f : Event) → In f ts → In f us) where
   event-within : (p n : ℕ) (f : Event) → event ts p n ≡ some f → event us p n ≡ some f
-  event-within p n f q = let w = event-numbered ts p n f q in rw (count-number ts c p n f q) at (number-of us d f (h f (w .among)) p (w .takes))
+  event-within p n f q =
+      let w = event-numbered ts p n f q in
+      rw (count-number ts c p n f q) at (number-of us d f (h f (w .among)) p (w .takes))
 
   taken-within : (p : ℕ) → taken ts p ≤ taken us p
   taken-within p = go (decLt 0 (taken ts p))
     where
       go : Dec (0 < taken ts p) → taken ts p ≤ taken us p
-      go (yes l) = let f = event-exists ts p (taken ts p) l (omega arith) in event-numbered us p (taken ts p) (f .0) (event-within p (taken ts p) (f .0) (f .1)) .within
+      go (yes l) =
+          let f = event-exists ts p (taken ts p) l (omega arith) in
+          event-numbered us p (taken ts p) (f .0) (event-within p (taken ts p) (f .0) (f .1)) .within
       go (no l) = omega arith
 
 -- an earlier history has the same events by number
 event-earlier : (us ts : List Event) (p n : ℕ) → n ≤ taken ts p → event (us ++ ts) p n ≡ event ts p n
 event-earlier [] ts p n l = refl
-event-earlier (e ∷ us) ts p n l = event-old e (us ++ ts) p n (le-trans l (taken-later us ts p)) ∙ event-earlier us ts p n l
+event-earlier (e ∷ us) ts p n l =
+    event-old e (us ++ ts) p n (le-trans l (taken-later us ts p)) ∙ event-earlier us ts p n l
 
 -- ---- one ledger's taken events are taken in the other
 module _ (k : ℕ) (valid : List Event → Event → Type 0) (r : ClockRule k valid) where
@@ -71,14 +79,16 @@ module _ (k : ℕ) (valid : List Event → Event → Type 0) (r : ClockRule k va
   earlier (e ∷ us) ts h = earlier us ts (h .1)
 
   -- a pending event whose past is all taken is ready
-  pending-ready : (L : Ledger) → Kept-right k valid L → (e : Event) → List·Memᴰ e (L .pending) → (ts : List Event) → Ready e (taken ts)
+  pending-ready : (L : Ledger) → Kept-right k valid L → (e : Event) → List·Memᴰ e (L .pending) → (ts : List Event)
+      → Ready e (taken ts)
       → ((p : ℕ) → taken ts p ≤ taken (L .history) p) → Ready e (taken (L .history))
   pending-ready L K e m ts q w = ready-i e (taken (L .history))
       (λ p b. omega (arith, ready-next e (taken ts) q p b, w p, K .untaken e m p b))
       (λ p b. omega (arith, ready-known e (taken ts) q p b, w p))
 
   -- an event that could be taken after some of the taken events did not leave with a false clock
-  never-falsified : (L : Ledger) → Kept-right k valid L → (ts : List Event) → History k valid ts → ((f : Event) → In f ts → In f (L .history))
+  never-falsified : (L : Ledger) → Kept-right k valid L → (ts : List Event) → History k valid ts
+      → ((f : Event) → In f ts → In f (L .history))
       → (e : Event) → Takeable k valid ts e → List·Memᴰ e (L .falsified) → ⊥
   never-falsified L K ts h s e t m =
       let w = K .was-ready e m in
@@ -86,32 +96,42 @@ module _ (k : ℕ) (valid : List Event → Event → Type 0) (r : ClockRule k va
       let vs : List Event = w .1 in
       let q : Ready e (taken vs) = w .3 in
       let past : History k valid vs = earlier us vs (rw (w .2) at (K .by-rule)) in
-      w .4 (r .local ts vs e h past (t .ready) q (record { events = λ p n l. agree us vs (w .2) q past p n l }) (t .true-clock))
+      w .4 (r .local ts vs e h past (t .ready) q (record { events = λ p n l. agree us vs (w .2) q past p n l })
+      (t .true-clock))
     where
-      agree : (us vs : List Event) → L .history ≡ us ++ vs → Ready e (taken vs) → History k valid vs → (p n : ℕ) → n ≤ lowered e p → event ts p n ≡ event vs p n
+      agree : (us vs : List Event) → L .history ≡ us ++ vs → Ready e (taken vs) → History k valid vs → (p n : ℕ)
+          → n ≤ lowered e p → event ts p n ≡ event vs p n
       agree us vs g q past p n l = go (decLt 0 n)
         where
           go : Dec (0 < n) → event ts p n ≡ event vs p n
           go (no z) = let o : n ≡ 0 = omega arith in rw o (event-zero ts p ∙ sym (event-zero vs p))
           go (yes z) =
               let f = event-exists ts p n z (le-trans l (lowered-ready e (taken ts) (t .ready) p)) in
-              let x : event (L .history) p n ≡ some (f .0) = event-within ts (L .history) (causal ts h) (causal (L .history) (K .by-rule)) s p n (f .0) (f .1) in
-              let y : event (L .history) p n ≡ event vs p n = ap (λ (zs : List Event). event zs p n) g ∙ event-earlier us vs p n (le-trans l (lowered-ready e (taken vs) q p)) in
+              let x : event (L .history) p n ≡ some (f .0) =
+              event-within ts (L .history) (causal ts h) (causal (L .history) (K .by-rule)) s p n (f .0) (f .1) in
+              let y : event (L .history) p n ≡ event vs p n = ap (λ (zs : List Event). event zs p n) g
+              ∙ event-earlier us vs p n (le-trans l (lowered-ready e (taken vs) q p)) in
               f .1 ∙ sym x ∙ y
 
   -- ---- by induction from the oldest event on
-  module _ (L M : Ledger) (K : Kept-right k valid L) (N : Kept-right k valid M) (S : Settled M) (b : (e : Event) → accounted e L ≡ accounted e M) where
+  module _ (L M : Ledger) (K : Kept-right k valid L) (N : Kept-right k valid M) (S : Settled M)
+      (b : (e : Event) → accounted e L ≡ accounted e M) where
     -- every event that one ledger accounts for is somewhere in the other
-    somewhere : (e : Event) → List·Memᴰ e (L .history) → List·Memᴰ e (M .history) ⊎ (List·Memᴰ e (M .pending) ⊎ List·Memᴰ e (M .falsified))
+    somewhere : (e : Event) → List·Memᴰ e (L .history)
+        → List·Memᴰ e (M .history) ⊎ (List·Memᴰ e (M .pending) ⊎ List·Memᴰ e (M .falsified))
     somewhere e m = go (decLt 0 (occurrences e (M .history))) (decLt 0 (occurrences e (M .pending)))
       where
         x : Eight e
         x = K .eight e (inl m)
 
-        go : Dec (0 < occurrences e (M .history)) → Dec (0 < occurrences e (M .pending)) → List·Memᴰ e (M .history) ⊎ (List·Memᴰ e (M .pending) ⊎ List·Memᴰ e (M .falsified))
+        go : Dec (0 < occurrences e (M .history)) → Dec (0 < occurrences e (M .pending))
+            → List·Memᴰ e (M .history) ⊎ (List·Memᴰ e (M .pending) ⊎ List·Memᴰ e (M .falsified))
         go (yes l) d = inl (occurs-e e (M .history) x (λ f n. N .eight f (inl n)) l)
         go (no l) (yes j) = inr (inl (occurs-e e (M .pending) x (λ f n. N .eight f (inr (inl n))) j))
-        go (no l) (no j) = inr (inr (occurs-e e (M .falsified) x (λ f n. N .eight f (inr (inr n))) (omega (arith, b e, occurs-i e (L .history) m))))
+        go (no l) (no j) =
+            inr (inr
+            (occurs-e e (M .falsified) x (λ f n. N .eight f (inr (inr n)))
+            (omega (arith, b e, occurs-i e (L .history) m))))
 
     taken-there : (us ts : List Event) → L .history ≡ us ++ ts → (f : Event) → In f ts → In f (M .history)
     taken-there us [] g f m = absurd (List·Memᴰ·not-nil m)
@@ -129,7 +149,9 @@ module _ (k : ℕ) (valid : List Event → Event → Type 0) (r : ClockRule k va
             this : In e (M .history)
             this = ⊎-elim (λ x. x)
                 (⊎-elim
-                (λ x. absurd (S e x (pending-ready M N e x ts (past .0 .ready) (taken-within ts (M .history) (causal ts (past .1)) (causal (M .history) (N .by-rule)) rest))))
+                (λ x. absurd (S e x
+                (pending-ready M N e x ts (past .0 .ready)
+                (taken-within ts (M .history) (causal ts (past .1)) (causal (M .history) (N .by-rule)) rest))))
                 (λ x. absurd (never-falsified M N ts (past .1) rest e (past .0) x)))
                 (somewhere e here)
 
@@ -137,14 +159,19 @@ module _ (k : ℕ) (valid : List Event → Event → Type 0) (r : ClockRule k va
     all-taken = taken-there [] (L .history) refl
 
 -- ---- Theorem
-module _ (k : ℕ) (valid : List Event → Event → Type 0) (r : ClockRule k valid) (L M : Ledger) (K : Kept-right k valid L) (N : Kept-right k valid M)
-    (S : Settled L) (U : Settled M) (b : (e : Event) → accounted e L ≡ accounted e M) where
+module _ (k : ℕ) (valid : List Event → Event → Type 0) (r : ClockRule k valid) (L M : Ledger) (K : Kept-right k valid L)
+    (N : Kept-right k valid M) (S : Settled L) (U : Settled M) (b : (e : Event) → accounted e L ≡ accounted e M) where
   pub same-taken-events : Same (L .history) (M .history)
-  same-taken-events = record { there = all-taken k valid r L M K N U b; back = all-taken k valid r M L N K S (λ e. sym (b e)) }
+  same-taken-events = record {
+    there = all-taken k valid r L M K N U b;
+    back = all-taken k valid r M L N K S (λ e. sym (b e));
+  }
 
 -- a pending event of one is not among those falsified in the other, so it is pending there
-pending-there : (k : ℕ) (valid : List Event → Event → Type 0) → ClockRule k valid → (L M : Ledger) → Kept-right k valid L → Kept-right k valid M → Settled L
-    → Same (L .history) (M .history) → ((e : Event) → accounted e L ≡ accounted e M) → (e : Event) → List·Memᴰ e (L .pending) → List·Memᴰ e (M .pending)
+pending-there : (k : ℕ) (valid : List Event → Event → Type 0) → ClockRule k valid → (L M : Ledger)
+    → Kept-right k valid L → Kept-right k valid M → Settled L
+    → Same (L .history) (M .history) → ((e : Event) → accounted e L ≡ accounted e M) → (e : Event)
+    → List·Memᴰ e (L .pending) → List·Memᴰ e (M .pending)
 pending-there k valid r L M K N S s b e m = occurs-e e (M .pending) x (λ f n. N .eight f (inr (inl n))) enough
   where
     x : Eight e
@@ -177,12 +204,18 @@ pending-there k valid r L M K N S s b e m = occurs-e e (M .pending) x (λ f n. N
         go (yes l) =
             let w = N .was-ready e (occurs-e e (M .falsified) x (λ f n. N .eight f (inr (inr n))) l) in
             absurd (S e m (pending-ready k valid r L K e m (w .1) (w .3)
-            (λ p. omega (arith, ap (λ (C : Cut). C p) (same-taken (L .history) (M .history) c d s), ap (λ (zs : List Event). taken zs p) (w .2), taken-later (w .0) (w .1) p))))
+            (λ p. omega (
+              arith,
+              ap (λ (C : Cut). C p) (same-taken (L .history) (M .history) c d s),
+              ap (λ (zs : List Event). taken zs p) (w .2),
+              taken-later (w .0) (w .1) p,
+            ))))
 
     enough : 0 < occurrences e (M .pending)
     enough = omega (arith, b e, occurs-i e (L .pending) m, none-taken, none-falsified)
 
-pub same-pending : (k : ℕ) (valid : List Event → Event → Type 0) → ClockRule k valid → (L M : Ledger) → Kept-right k valid L → Kept-right k valid M → Settled L → Settled M
+pub same-pending : (k : ℕ) (valid : List Event → Event → Type 0) → ClockRule k valid → (L M : Ledger)
+    → Kept-right k valid L → Kept-right k valid M → Settled L → Settled M
     → ((e : Event) → accounted e L ≡ accounted e M) → (e : Event) → List·Memᴰ e (L .pending) ↔ List·Memᴰ e (M .pending)
 same-pending k valid r L M K N S U b e =
     let s : Same (L .history) (M .history) = same-taken-events k valid r L M K N S U b in

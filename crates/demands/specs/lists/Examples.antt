@@ -129,16 +129,21 @@ sourceKeeps k ts = filtered (λ c. consistent 8 ts (at c) && not (redundant k ts
 
 -- The answers to a1, a2, b1 and to b1, a1, a2, newest first.
 abbrev pub answersAB : List Answer
-answersAB = state (eight 2 1 0) true 4 ∷ held 1 ∷ state (eight 2 0 0) false 3 ∷ held 1 ∷ state (eight 1 0 0) false 2 ∷ held 1 ∷ state (eight 0 0 0) false 1 ∷ []
+answersAB =
+    state (eight 2 1 0) true 4 ∷ held 1 ∷ state (eight 2 0 0) false 3 ∷ held 1 ∷ state (eight 1 0 0) false 2 ∷ held 1
+    ∷ state (eight 0 0 0) false 1 ∷ []
 
 abbrev pub answersBA : List Answer
-answersBA = state (eight 2 1 0) true 4 ∷ held 1 ∷ state (eight 1 1 0) true 3 ∷ held 1 ∷ state (eight 0 1 0) false 2 ∷ held 1 ∷ state (eight 0 0 0) false 1 ∷ []
+answersBA =
+    state (eight 2 1 0) true 4 ∷ held 1 ∷ state (eight 1 1 0) true 3 ∷ held 1 ∷ state (eight 0 1 0) false 2 ∷ held 1
+    ∷ state (eight 0 0 0) false 1 ∷ []
 
 pub record StarredExamples : Type 0 where
   -- a1, a2, b1 end at (2 1): yes, 4 kept. The cut (1 1), which makes it so, is one of them, though the watch never
   -- stood there.
   pub arrival : watch 2 someOrder (a1 ++ a2 ++ b1) .answers ≡ answersAB
-  pub arrival-cuts : keptCuts (watch 2 someOrder (a1 ++ a2 ++ b1)) ≡ (eight 0 1 0 ∷ eight 1 1 0 ∷ eight 2 0 0 ∷ eight 2 1 0 ∷ [])
+  pub arrival-cuts : keptCuts (watch 2 someOrder (a1 ++ a2 ++ b1))
+      ≡ (eight 0 1 0 ∷ eight 1 1 0 ∷ eight 2 0 0 ∷ eight 2 1 0 ∷ [])
   -- b1, a1, a2: no at (0 1), yes at (1 1) and (2 1), with 2, 3 and 4 kept; in the end the window is the same, byte for
   -- byte.
   pub other-order : watch 2 someOrder (b1 ++ a1 ++ a2) .answers ≡ answersBA
@@ -163,7 +168,8 @@ pub record StarredExamples : Type 0 where
   pub shuts-cuts : keptCuts (watch 2 someOrder (a1 ++ a2 ++ b1 ++ b-shuts)) ≡ (eight 2 0 0 ∷ eight 2 1 0 ∷ [])
   -- with ap for ep: no at (2 1), and at every state before.
   pub in-every-order : watch 2 everyOrder (a1 ++ a2 ++ b1) .answers
-      ≡ (state (eight 2 1 0) false 4 ∷ held 1 ∷ state (eight 2 0 0) false 3 ∷ held 1 ∷ state (eight 1 0 0) false 2 ∷ held 1 ∷ state (eight 0 0 0) false 1 ∷ [])
+      ≡ (state (eight 2 1 0) false 4 ∷ held 1 ∷ state (eight 2 0 0) false 3 ∷ held 1 ∷ state (eight 1 0 0) false 2
+      ∷ held 1 ∷ state (eight 0 0 0) false 1 ∷ [])
   -- at the start, where nothing precedes: ap is no, ay is yes.
   pub ap-start : watch 2 (ascii "(ap (at 0 0))") [] .answers ≡ state (eight 0 0 0) false 1 ∷ []
   pub ay-start : watch 2 (ascii "(ay (at 0 0))") [] .answers ≡ state (eight 0 0 0) true 1 ∷ []
@@ -175,7 +181,8 @@ pub record StarredExamples : Type 0 where
   pub three : watch 3 someOrder (comes first ++ comes second) .answers
       ≡ (state (eight 1 2 1) false 2 ∷ held 1 ∷ state (eight 1 1 0) false 2 ∷ held 1 ∷ state (eight 0 0 0) false 1 ∷ [])
   pub three-cuts : keptCuts (watch 3 someOrder (comes first ++ comes second)) ≡ (eight 1 1 0 ∷ eight 1 2 1 ∷ [])
-  pub three-source : sourceKeeps 3 (watch 3 someOrder (comes first ++ comes second) .ledger .history) ≡ (eight 0 0 0 ∷ eight 1 1 0 ∷ eight 1 2 1 ∷ [])
+  pub three-source : sourceKeeps 3 (watch 3 someOrder (comes first ++ comes second) .ledger .history)
+      ≡ (eight 0 0 0 ∷ eight 1 1 0 ∷ eight 1 2 1 ∷ [])
 
 -- ---- Theorem
 

@@ -34,13 +34,21 @@ unfolding occurrences
 occurs-append e [] ys = omega arith
 occurs-append e (x ∷ xs) ys = omega (arith, occurs-append e xs ys)
 
-pub occurs-insert : (e : Event) (i : ℕ) (x : Event) (xs : List Event) → occurrences e (insertAt i x xs) ≡ one (sameEvent e x) + occurrences e xs
+pub occurs-insert : (e : Event) (i : ℕ) (x : Event) (xs : List Event)
+    → occurrences e (insertAt i x xs) ≡ one (sameEvent e x) + occurrences e xs
 unfolding insertAt occurrences
 occurs-insert e i x xs =
-    omega (arith, occurs-append e (take i xs) (x ∷ drop i xs), occurs-append e (take i xs) (drop i xs), ap (occurrences e) (take-append-drop i xs))
+    omega (
+      arith,
+      occurs-append e (take i xs) (x ∷ drop i xs),
+      occurs-append e (take i xs) (drop i xs),
+      ap (occurrences e) (take-append-drop i xs),
+    )
 
-pub occurs-remove : (e : Event) (i : ℕ) (xs : List Event) (d : Event) → i < length xs → one (sameEvent e (getD xs i d)) + occurrences e (removeAt i xs) ≡ occurrences e xs
-occurs-remove e i xs d l = sym (occurs-insert e i (getD xs i d) (removeAt i xs)) ∙ ap (occurrences e) (insertAt-removeAt i xs d l)
+pub occurs-remove : (e : Event) (i : ℕ) (xs : List Event) (d : Event) → i < length xs
+    → one (sameEvent e (getD xs i d)) + occurrences e (removeAt i xs) ≡ occurrences e xs
+occurs-remove e i xs d l =
+    sym (occurs-insert e i (getD xs i d) (removeAt i xs)) ∙ ap (occurrences e) (insertAt-removeAt i xs d l)
 
 -- ---- The balance of a watch
 abbrev pub WatchBalanced : Watch → Type 0
@@ -48,7 +56,8 @@ WatchBalanced W = Balanced (W .ledger) (W .accepted)
 
 -- ---- Every call keeps it
 module _ (w k : ℕ) (table : List Line) (start : Cut) (R : Rule w k table start) where
-  after-offer : (W : Watch) → WatchRight w k table start W → WatchBalanced W → (mask : ℕ) (clock labels : List ℕ) → WatchBalanced (after w (offers mask clock labels) W)
+  after-offer : (W : Watch) → WatchRight w k table start W → WatchBalanced W → (mask : ℕ) (clock labels : List ℕ)
+      → WatchBalanced (after w (offers mask clock labels) W)
   unfolding after offeredLedger acceptedBy occurrences
   after-offer W X B mask clock labels = go (offer-case w mask clock labels (W .bytes))
     where
@@ -57,11 +66,24 @@ module _ (w k : ℕ) (table : List Line) (start : Cut) (R : Rule w k table start
       go (repeats h7 h q) = rw q B
       go (accepted h7 h8 h9 h42 h31 h32 h33 q) = rw q
           (record {
-            each = λ e. omega (arith, B .each e, occurs-insert e (placeAmong (offeredEvent mask clock labels) (pendingEvents w (W .bytes))) (offeredEvent mask clock labels) (W .ledger .pending));
-            total = omega (arith, B .total, length-insertAt (placeAmong (offeredEvent mask clock labels) (pendingEvents w (W .bytes))) (offeredEvent mask clock labels) (W .ledger .pending));
+            each = λ e.
+                omega (
+                  arith,
+                  B .each e,
+                  occurs-insert e (placeAmong (offeredEvent mask clock labels) (pendingEvents w (W .bytes)))
+                      (offeredEvent mask clock labels) (W .ledger .pending),
+                );
+            total =
+                omega (
+                  arith,
+                  B .total,
+                  length-insertAt (placeAmong (offeredEvent mask clock labels) (pendingEvents w (W .bytes)))
+                      (offeredEvent mask clock labels) (W .ledger .pending),
+                );
           })
 
-  after-take : (W : Watch) → WatchRight w k table start W → WatchBalanced W → (cap more : ℕ) (scratch : List ℕ) → WatchBalanced (after w (takes cap more scratch) W)
+  after-take : (W : Watch) → WatchRight w k table start W → WatchBalanced W → (cap more : ℕ) (scratch : List ℕ)
+      → WatchBalanced (after w (takes cap more scratch) W)
   unfolding after ledgerAfter occurrences
   after-take W X B cap more scratch = go (badLengths w k table start R L bytes lent X′ cap scratch) refl
     where
@@ -81,7 +103,9 @@ module _ (w k : ℕ) (table : List Line) (start : Cut) (R : Rule w k table start
       event-is j l = says-event w k table start R L bytes lent X′ j noEvent l
 
       decide : Outcome w bytes (validAmong (X′ .kept)) (allowedOf w cap lent) (X′ .kept) 0 false (L .pending) noEvent
-          → ledgerThen w k table start R L bytes lent X′ cap scratch ≡ ledgerAfter w bytes L (decision w k table start R L bytes lent X′ cap scratch) → WatchBalanced (after w (takes cap more scratch) W)
+          → ledgerThen w k table start R L bytes lent X′ cap scratch
+          ≡ ledgerAfter w bytes L (decision w k table start R L bytes lent X′ cap scratch)
+          → WatchBalanced (after w (takes cap more scratch) W)
       decide (none-decides b q u o) t = rw (t, q) B
       decide (falsifies j l q r n x) t =
           let i : 0 + j ≡ j = omega arith in
@@ -98,9 +122,12 @@ module _ (w k : ℕ) (table : List Line) (start : Cut) (R : Rule w k table start
             total = omega (arith, B .total, length-removeAt j (L .pending) l);
           })
 
-      go : (b : Bool) → badLengths w k table start R L bytes lent X′ cap scratch ≡ b → WatchBalanced (after w (takes cap more scratch) W)
+      go : (b : Bool) → badLengths w k table start R L bytes lent X′ cap scratch ≡ b
+          → WatchBalanced (after w (takes cap more scratch) W)
       go true h = rw (take-6 w k table start R L bytes lent X′ cap scratch h .1) B
-      go false h = decide (trial w k table start R L bytes lent X′ cap scratch) (take-else w k table start R L bytes lent X′ cap scratch h .1)
+      go false h =
+          decide (trial w k table start R L bytes lent X′ cap scratch)
+          (take-else w k table start R L bytes lent X′ cap scratch h .1)
 
   after-close : (W : Watch) → WatchBalanced W → (p : ℕ) → WatchBalanced (after w (closes p) W)
   unfolding after closedLedger closeProcess
@@ -110,7 +137,8 @@ module _ (w k : ℕ) (table : List Line) (start : Cut) (R : Rule w k table start
       go (closing.turned n some small other q) = rw q B
       go (closing.accepted h41 h42 q) = rw q (record { each = B .each; total = B .total })
 
-  pub after-balanced : (W : Watch) → WatchRight w k table start W → WatchBalanced W → (c : Call) → WatchBalanced (after w c W)
+  pub after-balanced : (W : Watch) → WatchRight w k table start W → WatchBalanced W → (c : Call)
+      → WatchBalanced (after w c W)
   after-balanced W X B (offers mask clock labels) = after-offer W X B mask clock labels
   after-balanced W X B (takes cap more scratch) = after-take W X B cap more scratch
   after-balanced W X B (closes p) = after-close W B p

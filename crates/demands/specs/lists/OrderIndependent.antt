@@ -49,7 +49,8 @@ use Rattle.demands.specs.calls.ValidRule.{valid-rule}
 
 -- ---- Proof
 -- the texts of two formulas are the same only if the formulas are: what open reads is one
-module _ (w k : ℕ) (f : Formula) (start : Cut) (Y Z : Watch) (S : Sound w k f start Y) (T′ : Sound w k f start Z) (a : EndsQuiet Y) (b : EndsQuiet Z) (c : SameAccepted Y Z) (s : SameClosed Y Z) where
+module _ (w k : ℕ) (f : Formula) (start : Cut) (Y Z : Watch) (S : Sound w k f start Y) (T′ : Sound w k f start Z)
+    (a : EndsQuiet Y) (b : EndsQuiet Z) (c : SameAccepted Y Z) (s : SameClosed Y Z) where
   abbrev table : List Line
   table = linesAt 0 f
 
@@ -66,11 +67,14 @@ module _ (w k : ℕ) (f : Formula) (start : Cut) (Y Z : Watch) (S : Sound w k f 
   counted-alike e = S .balanced .each e ∙ c e ∙ sym (T′ .balanced .each e)
 
   same : Same (Y .ledger .history) (Z .ledger .history)
-  same = same-taken-events k Valid (valid-rule k) (Y .ledger) (Z .ledger) (S .right .right) (T′ .right .right) y z counted-alike
+  same =
+      same-taken-events k Valid (valid-rule k) (Y .ledger) (Z .ledger) (S .right .right)
+      (T′ .right .right) y z counted-alike
 
   pending-alike : Y .ledger .pending ≡ Z .ledger .pending
   pending-alike = ordered-unique (Y .ledger .pending) (Z .ledger .pending) (S .right .ordered) (T′ .right .ordered)
-      (same-pending k Valid (valid-rule k) (Y .ledger) (Z .ledger) (S .right .right) (T′ .right .right) y z counted-alike)
+      (same-pending k Valid (valid-rule k) (Y .ledger) (Z .ledger) (S .right .right)
+      (T′ .right .right) y z counted-alike)
 
   causal-y : Causal (Y .ledger .history)
   causal-y = causal-history w k table start (S .rule) (Y .ledger) (Y .bytes) (Y .window) (S .right)
@@ -90,25 +94,35 @@ module _ (w k : ℕ) (f : Formula) (start : Cut) (Y Z : Watch) (S : Sound w k f 
       (subst (λ (c : ℕ). Represents (worldOf k c table start) (Y .ledger .history) (S .right .kept)) closed-alike
       (S .right .represents)) (T′ .right .represents)
 
-  status-alike : statusOf k table (length (S .right .kept)) (Y .ledger) ≡ statusOf k table (length (T′ .right .kept)) (Z .ledger)
+  status-alike : statusOf k table (length (S .right .kept)) (Y .ledger)
+      ≡ statusOf k table (length (T′ .right .kept)) (Z .ledger)
   status-alike =
-      let t : taken (Y .ledger .history) ≡ taken (Z .ledger .history) = same-taken (Y .ledger .history) (Z .ledger .history) causal-y causal-z same in
-      let l : lastClock (Y .ledger .history) ≡ lastClock (Z .ledger .history) = fun-ext (same-last (Y .ledger .history) (Z .ledger .history) causal-y causal-z same) in
+      let t : taken (Y .ledger .history) ≡ taken (Z .ledger .history) =
+      same-taken (Y .ledger .history) (Z .ledger .history) causal-y causal-z same in
+      let l : lastClock (Y .ledger .history) ≡ lastClock (Z .ledger .history) =
+      fun-ext (same-last (Y .ledger .history) (Z .ledger .history) causal-y causal-z same) in
       rw (closed-alike, kept-alike, t, l, pending-alike)
 
   bytes-alike : Y .bytes ≡ Z .bytes
   bytes-alike = S .right .bytes-are ∙ ap (recordBytes w) status-alike ∙ sym (T′ .right .bytes-are)
 
-  read-kept : (V′ : Watch) (X : WatchRight w k table start V′) → frontiers w (V′ .window) (keptCount (V′ .bytes)) ≡ X .kept
-  read-kept V′ X = ap (λ (s : List ℕ). frontiers w s (keptCount (V′ .bytes))) (X .window-is) ∙ says-frontiers w k table start (S .rule) (V′ .ledger) (V′ .bytes) (V′ .window) X (length (V′ .window))
+  read-kept : (V′ : Watch) (X : WatchRight w k table start V′)
+      → frontiers w (V′ .window) (keptCount (V′ .bytes)) ≡ X .kept
+  read-kept V′ X =
+      ap (λ (s : List ℕ). frontiers w s (keptCount (V′ .bytes))) (X .window-is)
+      ∙ says-frontiers w k table start (S .rule) (V′ .ledger) (V′ .bytes) (V′ .window) X (length (V′ .window))
 
   -- the bytes of the kept frontiers are the first of the window
-  kept-bytes : (V′ : Watch) (X : WatchRight w k table start V′) → take (keptCount (V′ .bytes) * frontierLength w) (V′ .window) ≡ framed w (X .kept)
+  kept-bytes : (V′ : Watch) (X : WatchRight w k table start V′)
+      → take (keptCount (V′ .bytes) * frontierLength w) (V′ .window) ≡ framed w (X .kept)
   unfolding windowBytes
   kept-bytes V′ X =
-      let long : length (framed w (X .kept)) ≡ keptCount (V′ .bytes) * frontierLength w = length-framed w (X .kept) (kept-shaped w k table start (S .rule) (V′ .ledger) (V′ .bytes) (V′ .window) X)
-      ∙ ap (λ (n : ℕ). n * frontierLength w) (sym (says-kept w k table start (S .rule) (V′ .ledger) (V′ .bytes) (V′ .window) X)) in
-      ap (take (keptCount (V′ .bytes) * frontierLength w)) (X .window-is) ∙ rw (← long) (take-append-seam (framed w (X .kept)) _)
+      let long : length (framed w (X .kept)) ≡ keptCount (V′ .bytes) * frontierLength w =
+      length-framed w (X .kept) (kept-shaped w k table start (S .rule) (V′ .ledger) (V′ .bytes) (V′ .window) X)
+      ∙ ap (λ (n : ℕ). n * frontierLength w)
+      (sym (says-kept w k table start (S .rule) (V′ .ledger) (V′ .bytes) (V′ .window) X)) in
+      ap (take (keptCount (V′ .bytes) * frontierLength w)) (X .window-is)
+      ∙ rw (← long) (take-append-seam (framed w (X .kept)) _)
 
   frontiers-alike : frontiers w (Y .window) (keptCount (Y .bytes)) ≡ frontiers w (Z .window) (keptCount (Z .bytes))
   frontiers-alike = read-kept Y (S .right) ∙ kept-alike ∙ sym (read-kept Z (T′ .right))
@@ -122,15 +136,23 @@ module _ (w k : ℕ) (f : Formula) (start : Cut) (Y Z : Watch) (S : Sound w k f 
       ∙ sym (searched w k f start Z T′ h′ line)
 
   -- a cut that both reported: PaCTL's truth there is the same in both histories
-  verdict-alike : (counts : List ℕ) (t u : Bool) → TrueVerdict k f start (Y .ledger .history) counts t → TrueVerdict k f start (Z .ledger .history) counts u → t ≡ u
+  verdict-alike : (counts : List ℕ) (t u : Bool) → TrueVerdict k f start (Y .ledger .history) counts t
+      → TrueVerdict k f start (Z .ledger .history) counts u → t ≡ u
   verdict-alike counts t u p q =
-      let s : p .cut ≡ q .cut = listOf-injective 8 (p .cut) (q .cut) (silent (Y .ledger) (Y .bytes) (Y .window) (S .right) (p .cut) (p .consistent)) (silent (Z .ledger) (Z .bytes) (Z .window) (T′ .right) (q .cut) (q .consistent)) (sym (p .counts-are) ∙ q .counts-are) in
+      let s : p .cut ≡ q .cut = listOf-injective 8 (p .cut) (q .cut)
+      (silent (Y .ledger) (Y .bytes) (Y .window) (S .right) (p .cut) (p .consistent))
+      (silent (Z .ledger) (Z .bytes) (Z .window) (T′ .right) (q .cut) (q .consistent))
+      (sym (p .counts-are) ∙ q .counts-are) in
       p .truth-is
-      ∙ holds-local k start Valid (valid-rule k) (Y .ledger .history) (Z .ledger .history) (S .right .right .by-rule) (T′ .right .right .by-rule) (meaning f) (p .cut) (p .consistent) (same-agree (Y .ledger .history) (Z .ledger .history) causal-y causal-z same (p .cut))
+      ∙ holds-local k start Valid (valid-rule k) (Y .ledger .history) (Z .ledger .history) (S .right .right .by-rule)
+      (T′ .right .right .by-rule) (meaning f) (p .cut) (p .consistent)
+      (same-agree (Y .ledger .history) (Z .ledger .history) causal-y causal-z same (p .cut))
       ∙ ap (holds (modelOf world (Z .ledger .history)) (meaning f)) s ∙ sym (q .truth-is)
     where
-      silent : (L : Ledger) (bytes window : List ℕ) → Watching w k table start L bytes window → (C : Cut) → Consistent (L .history) C → (p : ℕ) → 8 ≤ p → C p ≡ 0
-      silent L bytes window X C d p l = consistent-silent k Valid (L .history) (X .right .by-rule) C d p (omega (arith, S .rule .eight-processes))
+      silent : (L : Ledger) (bytes window : List ℕ) → Watching w k table start L bytes window → (C : Cut)
+          → Consistent (L .history) C → (p : ℕ) → 8 ≤ p → C p ≡ 0
+      silent L bytes window X C d p l =
+          consistent-silent k Valid (L .history) (X .right .by-rule) C d p (omega (arith, S .rule .eight-processes))
 
   pub alike : Alike w k f start Y Z
   alike = record {
@@ -145,7 +167,8 @@ module _ (w k : ℕ) (f : Formula) (start : Cut) (Y Z : Watch) (S : Sound w k f 
     none-allowed = (y, z);
     first-truthful = S .reporting .truthful;
     second-truthful = T′ .reporting .truthful;
-    one-verdict = λ counts t u m n i j. verdict-alike counts t u (S .reporting .truthful counts t m i) (T′ .reporting .truthful counts u n j);
+    one-verdict = λ counts t u m n i j.
+        verdict-alike counts t u (S .reporting .truthful counts t m i) (T′ .reporting .truthful counts u n j);
   }
 
 -- ---- Theorem
@@ -160,5 +183,6 @@ order-independent w pos text k labels eight s window a cs p s′ window′ a′ 
       x .2,
       reader-accepts text k (x .1) (x .0) .0 (x .2) .0,
       alike w k (x .0) (at labels) (atEnd w text k labels s window cs) (atEnd w text k labels s′ window′ cs′) (x .3)
-          (subst (λ (g : Formula). Sound w k g (at labels) (atEnd w text k labels s′ window′ cs′)) (sym e) (y .3)) q q′ same shut,
+          (subst (λ (g : Formula). Sound w k g (at labels) (atEnd w text k labels s′ window′ cs′)) (sym e) (y .3)) q q′
+          same shut,
     )

@@ -32,7 +32,8 @@ pub record Sound (w k : ℕ) (f : Formula) (start : Cut) (Z : Watch) : Type 0 wh
   pub reporting : Reporting w k f start rule (Z .ledger) (Z .answers)
 
 -- From any sound watch on.
-pub run-sound : (w k : ℕ) (f : Formula) (start : Cut) (cs : List Call) (W : Watch) → AllPassed w cs → Sound w k f start W
+pub run-sound : (w k : ℕ) (f : Formula) (start : Cut) (cs : List Call) (W : Watch) → AllPassed w cs
+    → Sound w k f start W
     → Sound w k f start (run w cs W)
 unfolding run
 run-sound w k f start [] W p S = S
@@ -49,18 +50,23 @@ run-sound w k f start (c ∷ cs) W p S = run-sound w k f start cs (after w c W) 
 -- the form is the one that the reader reads, whose text was opened (ReaderAccepts: reader-accepts)
 pub sound-run : (w : ℕ) → 0 < w → (text : List ℕ) (k : ℕ) (labels : List ℕ) → EightBytes labels → (s window : List ℕ)
     → Accepts w text k labels s window
-    → (cs : List Call) → AllPassed w cs → (f : Formula) × (i : ℕ) × (readRule text k ≡ formed i f) × Sound w k f (at labels) (atEnd w text k labels s window cs)
+    → (cs : List Call) → AllPassed w cs
+    → (f : Formula) × (i : ℕ) × (readRule text k ≡ formed i f)
+    × Sound w k f (at labels) (atEnd w text k labels s window cs)
 unfolding openTable occurrences
 sound-run w pos text k labels eight s window a cs p = go (open-case w text k labels s window)
   where
     go : OpenCase w text k labels s window
-        → (f : Formula) × (i : ℕ) × (readRule text k ≡ formed i f) × Sound w k f (at labels) (atEnd w text k labels s window cs)
+        → (f : Formula) × (i : ℕ) × (readRule text k ≡ formed i f)
+        × Sound w k f (at labels) (atEnd w text k labels s window cs)
     go (turned-back n i q) =
         let x : turnedBack n i ≡ state (a .0) (a .1) (a .2) = sym (ap (λ (o : Opened). o .answer) q) ∙ a .3 in
         let z : _≡_ {A = ℕ} 0 1 = cc in absurd (omega arith)
     go (opens f i h6 h5 h9 h q) =
-        let R : Rule w k (linesAt 0 f) (at labels) = opened-rule w text k labels window pos (eight .0) (eight .1) f i h6 h5 h in
-        let X : WatchRight w k (linesAt 0 f) (at labels) (opened (openTable w (linesAt 0 f) k labels (length window))) = opened-right w text k labels window pos (eight .0) (eight .1) f i h6 h5 h in (
+        let R : Rule w k (linesAt 0 f) (at labels) =
+        opened-rule w text k labels window pos (eight .0) (eight .1) f i h6 h5 h in
+        let X : WatchRight w k (linesAt 0 f) (at labels) (opened (openTable w (linesAt 0 f) k labels (length window))) =
+        opened-right w text k labels window pos (eight .0) (eight .1) f i h6 h5 h in (
           f,
           i,
           h,
@@ -70,7 +76,9 @@ sound-run w pos text k labels eight s window a cs p = go (open-case w text k lab
                 right = X;
                 balanced = record { each = λ e. refl; total = refl };
                 said = open-said (length (linesAt 0 f)) (replicate 8 0) (startFrontier 8 labels (linesAt 0 f) ∷ []);
-                reporting = open-reporting w k f (at labels) R (startFrontier 8 labels (linesAt 0 f) ∷ []) (opened-start w text k labels window pos (eight .0) (eight .1) f i h6 h5 h);
+                reporting =
+                    open-reporting w k f (at labels) R (startFrontier 8 labels (linesAt 0 f) ∷ [])
+                    (opened-start w text k labels window pos (eight .0) (eight .1) f i h6 h5 h);
               })),
         )
 

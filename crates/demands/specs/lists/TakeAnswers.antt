@@ -35,8 +35,9 @@ use Rattle.demands.specs.lists.SoundRun.{Sound, every-list}
 use Rattle.demands.specs.lists.TakeCases.{stops-pending, one-stop, false-stopping, takes-stopping, not-both, Answered, answered, nothing, full, falsified, took}
 
 -- ---- Each answer exactly if
-module _ (w k : ℕ) (f : Formula) (start : Cut) (R : Rule w k (linesAt 0 f) start) (L : Ledger) (bytes lent : List ℕ) (X : Watching w k (linesAt 0 f) start L bytes lent)
-    (cap : ℕ) (scratch : List ℕ) (h : badLengths w k (linesAt 0 f) start R L bytes lent X cap scratch ≡ false) where
+module _ (w k : ℕ) (f : Formula) (start : Cut) (R : Rule w k (linesAt 0 f) start) (L : Ledger) (bytes lent : List ℕ)
+    (X : Watching w k (linesAt 0 f) start L bytes lent) (cap : ℕ) (scratch : List ℕ)
+    (h : badLengths w k (linesAt 0 f) start R L bytes lent X cap scratch ≡ false) where
   abbrev allowed : ℕ
   allowed = allowedOf w cap lent
 
@@ -63,7 +64,8 @@ module _ (w k : ℕ) (f : Formula) (start : Cut) (R : Rule w k (linesAt 0 f) sta
       back (nothing a x) s = a
       back (full a x) s = absurd (s (x .0 .0) (x .0 .1) (x .0 .2))
       back (falsified a x o) s = absurd (s (x .0) (stops-pending k allowed L (x .0) (x .1)) (x .1 .ready))
-      back (took c t n a x o) s = absurd (s (x .event) (stops-pending k allowed L (x .event) (x .stops)) (x .stops .ready))
+      back (took c t n a x o) s =
+          absurd (s (x .event) (stops-pending k allowed L (x .event) (x .stops)) (x .stops .ready))
 
   pub no-room-exactly : (takeCapped w cap bytes lent scratch .answer ≡ turnedBack 36 0) ↔ NoRoom k allowed L
   no-room-exactly = (there cases, back cases)
@@ -77,9 +79,11 @@ module _ (w k : ℕ) (f : Formula) (start : Cut) (R : Rule w k (linesAt 0 f) sta
       back : Cases → NoRoom k allowed L → takeCapped w cap bytes lent scratch .answer ≡ turnedBack 36 0
       back (nothing a s) y = absurd (s (y .0 .0) (y .0 .1) (y .0 .2))
       back (full a x) y = a
-      back (falsified a x o) y = absurd (false-stopping k allowed L x (y .1 (x .0) (stops-pending k allowed L (x .0) (x .1))))
+      back (falsified a x o) y =
+          absurd (false-stopping k allowed L x (y .1 (x .0) (stops-pending k allowed L (x .0) (x .1))))
       back (took c t n a x o) y =
-          absurd (takes-stopping k allowed L f start c t n x (y .1 (x .event) (stops-pending k allowed L (x .event) (x .stops))))
+          absurd (takes-stopping k allowed L f start c t n x
+          (y .1 (x .event) (stops-pending k allowed L (x .event) (x .stops))))
 
   pub false-clock-exactly : (takeCapped w cap bytes lent scratch .answer ≡ turnedBack 35 0) ↔ FalseClock k allowed L
   false-clock-exactly = (there cases, back cases)
@@ -97,7 +101,8 @@ module _ (w k : ℕ) (f : Formula) (start : Cut) (R : Rule w k (linesAt 0 f) sta
       back (took c t n a x o) y = absurd (not-both k allowed L f start c t n x y)
 
   pub takes-exactly : (counts : List ℕ) (truth : Bool) (kept : ℕ)
-      → (takeCapped w cap bytes lent scratch .answer ≡ state counts truth kept) ↔ Takes k allowed f start L counts truth kept
+      → (takeCapped w cap bytes lent scratch .answer ≡ state counts truth kept)
+      ↔ Takes k allowed f start L counts truth kept
   takes-exactly counts truth kept = (there cases, back cases)
     where
       there : Cases → takeCapped w cap bytes lent scratch .answer ≡ state counts truth kept
@@ -115,13 +120,22 @@ module _ (w k : ℕ) (f : Formula) (start : Cut) (R : Rule w k (linesAt 0 f) sta
           → takeCapped w cap bytes lent scratch .answer ≡ state counts truth kept
       back (nothing a s) y = absurd (s (y .event) (stops-pending k allowed L (y .event) (y .stops)) (y .stops .ready))
       back (full a x) y =
-          absurd (takes-stopping k allowed L f start counts truth kept y (x .1 (y .event) (stops-pending k allowed L (y .event) (y .stops))))
+          absurd (takes-stopping k allowed L f start counts truth kept y
+          (x .1 (y .event) (stops-pending k allowed L (y .event) (y .stops))))
       back (falsified a x o) y = absurd (not-both k allowed L f start counts truth kept y x)
       back (took c t n a x o) y =
-          let e : x .event ≡ y .event = one-stop k allowed L (x .event) (y .event) (x .stops) (takes-stopping k allowed L f start c t n x) (y .stops) (takes-stopping k allowed L f start counts truth kept y) .1 in
-          let i : c ≡ counts = x .counts-are ∙ ap (λ (d : Event). listOf 8 (taken (d ∷ L .history))) e ∙ sym (y .counts-are) in
-          let j : t ≡ truth = x .truth-is ∙ ap (λ (d : Event). holds (modelOf (worldOf k 0 (linesAt 0 f) start) (d ∷ L .history)) (meaning f) (taken (d ∷ L .history))) e ∙ sym (y .truth-is) in
-          let m : n ≡ kept = number-unique k (L .closed) (y .event ∷ L .history) n kept (rw (← e) (x .kept-are)) (y .kept-are) in
+          let e : x .event ≡ y .event =
+          one-stop k allowed L (x .event) (y .event) (x .stops) (takes-stopping k allowed L f start c t n x) (y .stops)
+          (takes-stopping k allowed L f start counts truth kept y) .1 in
+          let i : c ≡ counts =
+          x .counts-are ∙ ap (λ (d : Event). listOf 8 (taken (d ∷ L .history))) e ∙ sym (y .counts-are) in
+          let j : t ≡ truth = x .truth-is
+          ∙ ap (λ (d : Event). holds (modelOf (worldOf k 0 (linesAt 0 f) start) (d ∷ L .history)) (meaning f)
+          (taken (d ∷ L .history)))
+          e
+          ∙ sym (y .truth-is) in
+          let m : n ≡ kept =
+          number-unique k (L .closed) (y .event ∷ L .history) n kept (rw (← e) (x .kept-are)) (y .kept-are) in
           a ∙ rw (i, j, m)
 
   pub false-ledger : (x : FalseClock k allowed L) → then ≡ falsifiedLedger L (x .0) (x .1 .before ++ x .1 .behind)
@@ -130,7 +144,10 @@ module _ (w k : ℕ) (f : Formula) (start : Cut) (R : Rule w k (linesAt 0 f) sta
       go : Cases → then ≡ falsifiedLedger L (y .0) (y .1 .before ++ y .1 .behind)
       go (nothing a s) = absurd (s (y .0) (stops-pending k allowed L (y .0) (y .1)) (y .1 .ready))
       go (full a x) = absurd (false-stopping k allowed L y (x .1 (y .0) (stops-pending k allowed L (y .0) (y .1))))
-      go (falsified a x o) = let u = one-stop k allowed L (x .0) (y .0) (x .1) (false-stopping k allowed L x) (y .1) (false-stopping k allowed L y) in o ∙ rw (u .0, u .1, u .2)
+      go (falsified a x o) =
+          let u = one-stop k allowed L (x .0) (y .0) (x .1) (false-stopping k allowed L x) (y .1)
+          (false-stopping k allowed L y) in
+          o ∙ rw (u .0, u .1, u .2)
       go (took c t n a x o) = absurd (not-both k allowed L f start c t n x y)
 
   pub state-ledger : (counts : List ℕ) (truth : Bool) (kept : ℕ) (x : Takes k allowed f start L counts truth kept)
@@ -140,22 +157,26 @@ module _ (w k : ℕ) (f : Formula) (start : Cut) (R : Rule w k (linesAt 0 f) sta
       go : Cases → then ≡ chosenLedger L (y .event) (y .stops .before ++ y .stops .behind)
       go (nothing a s) = absurd (s (y .event) (stops-pending k allowed L (y .event) (y .stops)) (y .stops .ready))
       go (full a x) =
-          absurd (takes-stopping k allowed L f start counts truth kept y (x .1 (y .event) (stops-pending k allowed L (y .event) (y .stops))))
+          absurd (takes-stopping k allowed L f start counts truth kept y
+          (x .1 (y .event) (stops-pending k allowed L (y .event) (y .stops))))
       go (falsified a x o) = absurd (not-both k allowed L f start counts truth kept y x)
       go (took c t n a x o) =
-          let u = one-stop k allowed L (x .event) (y .event) (x .stops) (takes-stopping k allowed L f start c t n x) (y .stops) (takes-stopping k allowed L f start counts truth kept y) in
+          let u = one-stop k allowed L (x .event) (y .event) (x .stops) (takes-stopping k allowed L f start c t n x)
+          (y .stops) (takes-stopping k allowed L f start counts truth kept y) in
           o ∙ rw (u .0, u .1, u .2)
 
   pub no-other-answer : (takeCapped w cap bytes lent scratch .answer ≡ nothingReady)
       ⊎ ((takeCapped w cap bytes lent scratch .answer ≡ turnedBack 36 0)
       ⊎ ((takeCapped w cap bytes lent scratch .answer ≡ turnedBack 35 0)
-      ⊎ ((counts : List ℕ) × (truth : Bool) × (kept : ℕ) × (takeCapped w cap bytes lent scratch .answer ≡ state counts truth kept))))
+      ⊎ ((counts : List ℕ) × (truth : Bool) × (kept : ℕ)
+      × (takeCapped w cap bytes lent scratch .answer ≡ state counts truth kept))))
   no-other-answer = go cases
     where
       go : Cases → (takeCapped w cap bytes lent scratch .answer ≡ nothingReady)
           ⊎ ((takeCapped w cap bytes lent scratch .answer ≡ turnedBack 36 0)
           ⊎ ((takeCapped w cap bytes lent scratch .answer ≡ turnedBack 35 0)
-          ⊎ ((counts : List ℕ) × (truth : Bool) × (kept : ℕ) × (takeCapped w cap bytes lent scratch .answer ≡ state counts truth kept))))
+          ⊎ ((counts : List ℕ) × (truth : Bool) × (kept : ℕ)
+          × (takeCapped w cap bytes lent scratch .answer ≡ state counts truth kept))))
       go (nothing a s) = inl a
       go (full a x) = inr (inl a)
       go (falsified a x o) = inr (inr (inl a))
@@ -172,7 +193,8 @@ module _ (w k : ℕ) (f : Formula) (start : Cut) (R : Rule w k (linesAt 0 f) sta
       go (took c t n a x o) = let z : _≡_ {A = ℕ} 0 1 = cc in absurd (omega arith)
 
 -- ---- After a list of calls
-module _ (w k : ℕ) (f : Formula) (start : Cut) (Z : Watch) (S : Sound w k f start Z) (cap more : ℕ) (scratch : List ℕ) where
+module _ (w k : ℕ) (f : Formula) (start : Cut) (Z : Watch) (S : Sound w k f start Z) (cap more : ℕ)
+    (scratch : List ℕ) where
   abbrev lent : List ℕ
   lent = lentWindow Z more
 
@@ -202,11 +224,13 @@ module _ (w k : ℕ) (f : Formula) (start : Cut) (Z : Watch) (S : Sound w k f st
 
   abbrev six : wrong ≡ true → nextTake w Z cap more scratch .answer ≡ turnedBack 6 0
   six b =
-      ap (λ (x : Taken). x .answer) (take-6 w k (linesAt 0 f) start (S .rule) (Z .ledger) (Z .bytes) lent longer cap scratch b .0)
+      ap (λ (x : Taken). x .answer)
+      (take-6 w k (linesAt 0 f) start (S .rule) (Z .ledger) (Z .bytes) lent longer cap scratch b .0)
 
   pub six-exactly : (nextTake w Z cap more scratch .answer ≡ turnedBack 6 0) ↔ (RightLengths w Z more scratch → ⊥)
   six-exactly = (
-    (λ q r. other-number w k f start (S .rule) (Z .ledger) (Z .bytes) lent longer cap scratch (lengths-right r) 6 (λ z. omega arith) (λ z. omega arith) q),
+    (λ q r. other-number w k f start (S .rule) (Z .ledger) (Z .bytes) lent longer cap scratch (lengths-right r) 6
+        (λ z. omega arith) (λ z. omega arith) q),
     λ n. go n wrong refl,
   )
     where
@@ -221,11 +245,13 @@ module _ (w k : ℕ) (f : Formula) (start : Cut) (Z : Watch) (S : Sound w k f st
       go : (b : Bool) → wrong ≡ b → ⊥
       go true b = let z : _≡_ {A = ℕ} 6 34 = (let y = six b in cc) in absurd (omega arith)
       go false b =
-          other-number w k f start (S .rule) (Z .ledger) (Z .bytes) lent longer cap scratch b 34 (λ z. omega arith) (λ z. omega arith) q
+          other-number w k f start (S .rule) (Z .ledger) (Z .bytes) lent longer cap scratch b 34 (λ z. omega arith)
+          (λ z. omega arith) q
 
   pub nothing-after : RightLengths w Z more scratch
       → (nextTake w Z cap more scratch .answer ≡ nothingReady) ↔ Settled (Z .ledger)
-  nothing-after h = nothing-exactly w k f start (S .rule) (Z .ledger) (Z .bytes) lent longer cap scratch (lengths-right h)
+  nothing-after h =
+      nothing-exactly w k f start (S .rule) (Z .ledger) (Z .bytes) lent longer cap scratch (lengths-right h)
 
   answers-exact : RightLengths w Z more scratch → AnswersExact w k f start Z cap more scratch
   unfolding after

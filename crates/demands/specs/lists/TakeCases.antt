@@ -59,19 +59,26 @@ module _ (k allowed : ℕ) (L : Ledger) where
   pub false-stopping : (x : FalseClock k allowed L) → Stopping (x .0)
   false-stopping x p = x .2 (p (x .1 .ready) .0)
 
-  module _ (f : Formula) (start : Cut) (counts : List ℕ) (truth : Bool) (kept : ℕ) (x : Takes k allowed f start L counts truth kept) where
+  module _ (f : Formula) (start : Cut) (counts : List ℕ) (truth : Bool) (kept : ℕ)
+      (x : Takes k allowed f start L counts truth kept) where
     pub takes-stopping : Stopping (x .event)
     takes-stopping p =
         let n = p (x .stops .ready) .1 in
-        omega (arith, n .2, x .fits, number-unique k (L .closed) (x .event ∷ L .history) (n .0) kept (n .1) (x .kept-are))
+        omega (
+          arith,
+          n .2,
+          x .fits,
+          number-unique k (L .closed) (x .event ∷ L .history) (n .0) kept (n .1) (x .kept-are),
+        )
 
     pub not-both : FalseClock k allowed L → ⊥
     not-both y =
         y .2 (rw (one-stop (y .0) (x .event) (y .1) (false-stopping y) (x .stops) takes-stopping .1) (x .true-clock))
 
 -- ---- What the trial comes to
-module _ (w k : ℕ) (f : Formula) (start : Cut) (R : Rule w k (linesAt 0 f) start) (L : Ledger) (bytes lent : List ℕ) (X : Watching w k (linesAt 0 f) start L bytes lent)
-    (cap : ℕ) (scratch : List ℕ) (h : badLengths w k (linesAt 0 f) start R L bytes lent X cap scratch ≡ false) where
+module _ (w k : ℕ) (f : Formula) (start : Cut) (R : Rule w k (linesAt 0 f) start) (L : Ledger) (bytes lent : List ℕ)
+    (X : Watching w k (linesAt 0 f) start L bytes lent) (cap : ℕ) (scratch : List ℕ)
+    (h : badLengths w k (linesAt 0 f) start R L bytes lent X cap scratch ≡ false) where
   abbrev pub table : List Line
   table = linesAt 0 f
 
@@ -102,7 +109,8 @@ module _ (w k : ℕ) (f : Formula) (start : Cut) (R : Rule w k (linesAt 0 f) sta
   ready-at : (j : ℕ) → j < length (L .pending)
       → T (readyIn w bytes (pendingEvent j)) ↔ Ready (pendingEvent j) (taken (L .history))
   ready-at j l =
-      ready-in w k table start R L bytes lent X (pendingEvent j) (X .right .formed (pendingEvent j) (place-member (L .pending) j noEvent l))
+      ready-in w k table start R L bytes lent X (pendingEvent j)
+      (X .right .formed (pendingEvent j) (place-member (L .pending) j noEvent l))
 
   valid-at : (j : ℕ) → j < length (L .pending) → Ready (pendingEvent j) (taken (L .history))
       → T (validAmong (X .kept) (pendingEvent j)) ↔ Valid (L .history) (pendingEvent j)
@@ -112,31 +120,52 @@ module _ (w k : ℕ) (f : Formula) (start : Cut) (R : Rule w k (linesAt 0 f) sta
       valid-in w k table start R L bytes lent X e (X .right .formed e m) (X .names-open e m)
 
   -- of a ready pending event with a true clock
-  module _ (j : ℕ) (l : j < length (L .pending)) (r : Ready (pendingEvent j) (taken (L .history))) (v : Valid (L .history) (pendingEvent j)) where
-    kept-right : Represents (worldOf k (L .closed) table start) (pendingEvent j ∷ L .history) (keptWith (pendingEvent j))
+  module _ (j : ℕ) (l : j < length (L .pending)) (r : Ready (pendingEvent j) (taken (L .history)))
+      (v : Valid (L .history) (pendingEvent j)) where
+    kept-right : Represents (worldOf k (L .closed) table start) (pendingEvent j ∷ L .history)
+        (keptWith (pendingEvent j))
     kept-right = stepped-right w k table start R L bytes lent X j noEvent l r v
 
     kept-number : KeptNumber k (L .closed) (pendingEvent j ∷ L .history) (length (keptWith (pendingEvent j)))
     kept-number =
-        represented-number k (L .closed) (pendingEvent j ∷ L .history) table start (keptWith (pendingEvent j)) kept-right
+        represented-number k (L .closed) (pendingEvent j ∷ L .history) table start
+        (keptWith (pendingEvent j)) kept-right
 
     later : History k Valid (pendingEvent j ∷ L .history)
-    later =
-        (record { formed = X .right .formed (pendingEvent j) (place-member (L .pending) j noEvent l); ready = r; true-clock = v }, X .right .by-rule)
+    later = (
+      record {
+        formed = X .right .formed (pendingEvent j) (place-member (L .pending) j noEvent l);
+        ready = r;
+        true-clock = v;
+      },
+      X .right .by-rule,
+    )
 
     -- some cut is kept then, so it fits exactly if there is room
-    fits-is : fits (settingIn w bytes (pendingEvent j)) allowed (X .kept) ≡ leb (length (keptWith (pendingEvent j))) allowed
+    fits-is : fits (settingIn w bytes (pendingEvent j)) allowed (X .kept)
+        ≡ leb (length (keptWith (pendingEvent j))) allowed
     unfolding fits
     fits-is =
         let s : Setting = settingOf (worldOf k (L .closed) table start) (L .history) (pendingEvent j) in
-        rw (setting-in w k table start R L bytes lent X (pendingEvent j), ← stepped-many s (X .kept), lt-ltb 0 (length (keptWith (pendingEvent j))) (stepped-some w k table start R L bytes lent X j noEvent l r v))
+        rw (
+          setting-in w k table start R L bytes lent X (pendingEvent j),
+          ← stepped-many s (X .kept),
+          lt-ltb 0 (length (keptWith (pendingEvent j))) (stepped-some w k table start R L bytes lent X j noEvent l r v),
+        )
 
-  over : (j : ℕ) → j < length (L .pending) → Indecisive w bytes (validAmong (X .kept)) allowed (X .kept) (pendingEvent j)
+  over : (j : ℕ) → j < length (L .pending)
+      → Indecisive w bytes (validAmong (X .kept)) allowed (X .kept) (pendingEvent j)
       → PassedOver k (L .closed) allowed (L .history) (pendingEvent j)
   over j l d r =
       let x = d (ready-at j l .1 r) in
-      let v : Valid (L .history) (pendingEvent j) = valid-at j l r .0 (x .0) in
-      (v, (length (keptWith (pendingEvent j)), kept-number j l r v, leb-false (length (keptWith (pendingEvent j))) allowed (sym (fits-is j l r v) ∙ x .1)))
+      let v : Valid (L .history) (pendingEvent j) = valid-at j l r .0 (x .0) in (
+        v,
+        (
+          length (keptWith (pendingEvent j)),
+          kept-number j l r v,
+          leb-false (length (keptWith (pendingEvent j))) allowed (sym (fits-is j l r v) ∙ x .1),
+        ),
+      )
 
   over-member : (e : Event) → List·Memᴰ e (L .pending) → Indecisive w bytes (validAmong (X .kept)) allowed (X .kept) e
       → PassedOver k (L .closed) allowed (L .history) e
@@ -155,28 +184,37 @@ module _ (w k : ℕ) (f : Formula) (start : Cut) (R : Rule w k (linesAt 0 f) sta
     behind = drop (suc j) (L .pending);
     pending-are = split-at (L .pending) j noEvent l;
     ready = r;
-    passed = λ e m. let p = member-take (L .pending) j noEvent e m in subst (PassedOver k (L .closed) allowed (L .history)) (p .3) (over (p .0) (p .2) (u (p .0) (p .1)));
+    passed = λ e m.
+        let p = member-take (L .pending) j noEvent e m in
+        subst (PassedOver k (L .closed) allowed (L .history)) (p .3) (over (p .0) (p .2) (u (p .0) (p .1)));
   }
 
   pub answered : Answered
   unfolding decided stateOf taken apply ledgerAfter removeAt stops
   answered = go (trial w k table start R L bytes lent X cap scratch)
     where
-      t : takeCapped w cap bytes lent scratch ≡ decided w bytes lent (X .kept) (decision w k table start R L bytes lent X cap scratch)
+      t : takeCapped w cap bytes lent scratch
+          ≡ decided w bytes lent (X .kept) (decision w k table start R L bytes lent X cap scratch)
       t = take-else w k table start R L bytes lent X cap scratch h .0
 
       answers : (d : Decision) → decision w k table start R L bytes lent X cap scratch ≡ d
           → takeCapped w cap bytes lent scratch .answer ≡ decided w bytes lent (X .kept) d .answer
       answers d q = ap (λ (x : Taken). x .answer) (t ∙ ap (decided w bytes lent (X .kept)) q)
 
-      ledgers : (d : Decision) → decision w k table start R L bytes lent X cap scratch ≡ d → then ≡ ledgerAfter w bytes L d
+      ledgers : (d : Decision) → decision w k table start R L bytes lent X cap scratch ≡ d
+          → then ≡ ledgerAfter w bytes L d
       ledgers d q = take-else w k table start R L bytes lent X cap scratch h .1 ∙ ap (ledgerAfter w bytes L) q
 
       go : Outcome w bytes (validAmong (X .kept)) allowed (X .kept) 0 false (L .pending) noEvent → Answered
       go (none-decides false q u o) =
-          nothing (answers (undecided false) q) (λ e m r. o .1 (inr (e, m, ready-in w k table start R L bytes lent X e (X .right .formed e m) .1 r)))
+          nothing (answers (undecided false) q)
+          (λ e m r. o .1 (inr (e, m, ready-in w k table start R L bytes lent X e (X .right .formed e m) .1 r)))
       go (none-decides true q u o) = ⊎-elim (λ x. absurd x)
-          (λ x. full (answers (undecided true) q) ((x .0, x .1, ready-in w k table start R L bytes lent X (x .0) (X .right .formed (x .0) (x .1)) .0 (x .2)), λ e m. over-member e m (u e m))) (o .0 tt)
+          (λ x. full (answers (undecided true) q) (
+            (x .0, x .1, ready-in w k table start R L bytes lent X (x .0) (X .right .formed (x .0) (x .1)) .0 (x .2)),
+            λ e m. over-member e m (u e m),
+          ))
+          (o .0 tt)
       go (falsifies j l q r n u) =
           let i : 0 + j ≡ j = omega arith in
           falsified (answers (false-clock (0 + j)) q)
@@ -187,8 +225,17 @@ module _ (w k : ℕ) (f : Formula) (start : Cut) (R : Rule w k (linesAt 0 f) sta
           let e : Event = pendingEvent j in
           let R′ : Ready e (taken (L .history)) = ready-at j l .0 r in
           let J : Valid (L .history) e = valid-at j l R′ .0 v in
-          took (listOf 8 (taken (e ∷ L .history))) (bit (getD (map (λ g. g .values) (keptWith e)) (length (keptWith e) - 1) 0) (length table - 1)) (length (keptWith e))
-          (answers (chosen (0 + j)) q ∙ rw (i, says-event w k table start R L bytes lent X j noEvent l, setting-in w k table start R L bytes lent X e, says-lines w k table start R L bytes lent X, says-taken w k table start R L bytes lent X))
+          took (listOf 8 (taken (e ∷ L .history)))
+          (bit (getD (map (λ g. g .values) (keptWith e)) (length (keptWith e) - 1) 0) (length table - 1))
+          (length (keptWith e))
+          (answers (chosen (0 + j)) q
+          ∙ rw (
+            i,
+            says-event w k table start R L bytes lent X j noEvent l,
+            setting-in w k table start R L bytes lent X e,
+            says-lines w k table start R L bytes lent X,
+            says-taken w k table start R L bytes lent X,
+          ))
           (record {
             event = e;
             stops = stops j l R′ u;
@@ -196,6 +243,8 @@ module _ (w k : ℕ) (f : Formula) (start : Cut) (R : Rule w k (linesAt 0 f) sta
             kept-are = kept-number j l R′ J;
             fits = leb→le (length (keptWith e)) allowed (rw (fits-is j l R′ J) at g);
             counts-are = refl;
-            truth-is = state-holds k f start w (L .closed) R (e ∷ L .history) (later j l R′ J) (keptWith e) (kept-right j l R′ J);
+            truth-is =
+                state-holds k f start w (L .closed) R (e ∷ L .history) (later j l R′ J) (keptWith e)
+                (kept-right j l R′ J);
           })
           (ledgers (chosen (0 + j)) q ∙ rw (i, says-event w k table start R L bytes lent X j noEvent l))

@@ -39,16 +39,26 @@ module _ (k : ℕ) (f : Formula) (start : Cut) where
     cut = v .cut;
     consistent = consistent-old e ts (v .cut) (v .consistent);
     counts-are = v .counts-are;
-    truth-is = v .truth-is ∙ holds-local k start Valid (valid-rule k) ts (e ∷ ts) (h .1) h (meaning f) (v .cut) (v .consistent) (agree-old e ts (v .cut) (v .consistent .within));
+    truth-is =
+        v .truth-is
+        ∙ holds-local k start Valid (valid-rule k) ts (e ∷ ts) (h .1) h (meaning f) (v .cut) (v .consistent)
+        (agree-old e ts (v .cut) (v .consistent .within));
   }
 
   -- ---- the answer of a window that holds the kept cuts
   module _ (w closed : ℕ) (R : Rule w k (linesAt 0 f) start) (ts : List Event) (h : History k Valid ts)
       (fs : List Frontier) (r : Represents (worldOf k closed (linesAt 0 f) start) ts fs) where
-    pub state-holds : bit (getD (map (λ g. g .values) fs) (length fs - 1) 0) (length (linesAt 0 f) - 1) ≡ holds (modelOf (worldOf k closed (linesAt 0 f) start) ts) (meaning f) (taken ts)
+    pub state-holds : bit (getD (map (λ g. g .values) fs) (length fs - 1) 0) (length (linesAt 0 f) - 1)
+        ≡ holds (modelOf (worldOf k closed (linesAt 0 f) start) ts) (meaning f) (taken ts)
     state-holds =
         let W : World = worldOf k closed (linesAt 0 f) start in
-        let P : Proper W Valid ts = record { some-process = R .some-process; room = R .eight-processes; rule = valid-rule k; by-rule = h; good = R .good } in
+        let P : Proper W Valid ts = record {
+          some-process = R .some-process;
+          room = R .eight-processes;
+          rule = valid-rule k;
+          by-rule = h;
+          good = R .good;
+        } in
         let n : 0 < length fs = some-frontier W Valid ts P fs r in
         let last : ℕ = length (linesAt 0 f) - 1 in
         let d : Frontier = frontierOf W ts (taken ts) in
@@ -58,7 +68,8 @@ module _ (k : ℕ) (f : Formula) (start : Cut) where
         ∙ ap (λ (q : Property). q (taken ts)) (rule-means (modelOf W ts) f)
 
     pub state-true : (counts : List ℕ) → counts ≡ listOf 8 (taken ts)
-        → TrueVerdict k f start ts counts (bit (getD (map (λ g. g .values) fs) (length fs - 1) 0) (length (linesAt 0 f) - 1))
+        → TrueVerdict k f start ts counts
+        (bit (getD (map (λ g. g .values) fs) (length fs - 1) 0) (length (linesAt 0 f) - 1))
     state-true counts c = record {
       cut = taken ts;
       consistent = taken-consistent ts (history-causal k Valid (valid-rule k) ts h);

@@ -49,7 +49,9 @@ module _ (w k : ℕ) (f : Formula) (start : Cut) (Z : Watch) (S : Sound w k f st
         cuts = X .represents .cuts;
         record-is = X .bytes-are;
         window-is = X .window-is;
-        read-back = ap (λ (s : List ℕ). frontiers w s (keptCount (Z .bytes))) (X .window-is) ∙ says-frontiers w k table start (S .rule) (Z .ledger) (Z .bytes) (Z .window) X (length (Z .window));
+        read-back =
+            ap (λ (s : List ℕ). frontiers w s (keptCount (Z .bytes))) (X .window-is)
+            ∙ says-frontiers w k table start (S .rule) (Z .ledger) (Z .bytes) (Z .window) X (length (Z .window));
         cuts-are = represented-cuts k (Z .ledger .closed) ts table start (X .kept) (X .represents);
         none-closed = λ q C.
             let kept = represented-cuts k (Z .ledger .closed) ts table start (X .kept) (X .represents) .exactly C in
@@ -59,7 +61,9 @@ module _ (w k : ℕ) (f : Formula) (start : Cut) (Z : Watch) (S : Sound w k f st
             );
         frontiers-are = X .represents .are;
         line-true = λ C i l. bit-wordOf (length table) (λ j. lineTruth (modelOf W ts) table j C) i l;
-        no-more-bits = λ C i l. bit-above (wordOf (length table) (λ j. lineTruth (modelOf W ts) table j C)) (length table) i (wordOf-lt (length table) (λ j. lineTruth (modelOf W ts) table j C)) l;
+        no-more-bits = λ C i l.
+            bit-above (wordOf (length table) (λ j. lineTruth (modelOf W ts) table j C)) (length table) i
+            (wordOf-lt (length table) (λ j. lineTruth (modelOf W ts) table j C)) l;
         rule-true = rule-means (modelOf W ts) f;
         history-true = X .right .by-rule;
         pending-ordered = X .ordered;
