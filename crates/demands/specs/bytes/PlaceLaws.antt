@@ -32,14 +32,13 @@ number-behind a b n long i k = rw (drop-behind a b n long i)
 module _ {A : Type 0} (a b c : List A) (n : ℕ) (long : length a ≡ n) where
   -- A whole list in the middle, stored anew.
   pub sets-over : (xs : List A) → length xs ≡ length b → sets (a ++ (b ++ c)) n xs ≡ a ++ (xs ++ c)
-  sets-over xs e =
-      rw (
-        sets-eq xs (a ++ (b ++ c)) n fits,
-        take-at a (b ++ c) n long,
-        drop-behind a (b ++ c) n long (length xs),
-        drop-at b c (length xs) (sym e),
-        append-assoc,
-      )
+  sets-over xs e = rw (
+    sets-eq xs (a ++ (b ++ c)) n fits,
+    take-at a (b ++ c) n long,
+    drop-behind a (b ++ c) n long (length xs),
+    drop-at b c (length xs) (sym e),
+    append-assoc,
+  )
     where
       fits : n + length xs ≤ length (a ++ (b ++ c))
       fits = simp length-append (omega arith)

@@ -49,13 +49,12 @@ module _ (w : ℕ) (t : Status) where
 
 module _ (w : ℕ) (t : Status) (z : Sized w t) where
   pub length-recordBytes : length (recordBytes w t) ≡ recordLength w
-  length-recordBytes =
-      rw (
-        recordBytes-blocks w t,
-        length-append,
-        length-frontBytes w t (length (t .pending)) (z .short),
-        length-pendingBlock w (t .pending) (z .few) (z .storable),
-      )
+  length-recordBytes = rw (
+    recordBytes-blocks w t,
+    length-append,
+    length-frontBytes w t (length (t .pending)) (z .short),
+    length-pendingBlock w (t .pending) (z .few) (z .storable),
+  )
 
   pub keptCount-recordBytes : keptCount (recordBytes w t) ≡ t .kept
   unfolding number

@@ -189,14 +189,13 @@ module _ (w : ℕ) (text : List ℕ) (k : ℕ) (labels window : List ℕ) (some-
   }
     where
       one-frontier : 1 * frontierLength w ≤ length window
-      one-frontier =
-          omega (
-            arith,
-            ltb-false (length window) (frontierLength w)
-                (or-false-e (ltb (length window) (frontierLength w))
-                (ltb (1024 * frontierLength w) (length window) || not (eqb (length window % frontierLength w) 0))
-                h6 .0),
-          )
+      one-frontier = omega (
+        arith,
+        ltb-false (length window) (frontierLength w)
+            (or-false-e (ltb (length window) (frontierLength w))
+            (ltb (1024 * frontierLength w) (length window) || not (eqb (length window % frontierLength w) 0))
+            h6 .0),
+      )
 
       no-counts : _≡_ {A = Cut} (λ p. 0) (taken [])
       no-counts = fun-ext (λ p. refl)

@@ -83,12 +83,11 @@ module _ (w : ℕ) (ts : List Event) (c : Causal ts) (s : (e : Event) → In e t
     masks-fit = λ i.
         list-fits (λ p. maskOf ts p (S p)) 256 i (omega arith)
         (λ q. view-fits 0 (λ f. f .mask) 256 q (S q) (omega arith) (λ f t. t .mask-fits));
-    values-fit =
-        omega (
-          arith,
-          wordOf-lt (length table) (λ j. lineTruth (modelOf (worldOf k closed table start) ts) table j S),
-          pow-mono short,
-        );
+    values-fit = omega (
+      arith,
+      wordOf-lt (length table) (λ j. lineTruth (modelOf (worldOf k closed table start) ts) table j S),
+      pow-mono short,
+    );
   }
 
   pub all-shaped : (k closed : ℕ) (table : List Line) (start : Cut) → length table ≤ 64 → ((p : ℕ) → start p < 256)

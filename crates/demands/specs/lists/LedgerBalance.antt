@@ -37,13 +37,12 @@ occurs-append e (x ∷ xs) ys = omega (arith, occurs-append e xs ys)
 pub occurs-insert : (e : Event) (i : ℕ) (x : Event) (xs : List Event)
     → occurrences e (insertAt i x xs) ≡ one (sameEvent e x) + occurrences e xs
 unfolding insertAt occurrences
-occurs-insert e i x xs =
-    omega (
-      arith,
-      occurs-append e (take i xs) (x ∷ drop i xs),
-      occurs-append e (take i xs) (drop i xs),
-      ap (occurrences e) (take-append-drop i xs),
-    )
+occurs-insert e i x xs = omega (
+  arith,
+  occurs-append e (take i xs) (x ∷ drop i xs),
+  occurs-append e (take i xs) (drop i xs),
+  ap (occurrences e) (take-append-drop i xs),
+)
 
 pub occurs-remove : (e : Event) (i : ℕ) (xs : List Event) (d : Event) → i < length xs
     → one (sameEvent e (getD xs i d)) + occurrences e (removeAt i xs) ≡ occurrences e xs
@@ -73,13 +72,12 @@ module _ (w k : ℕ) (table : List Line) (start : Cut) (R : Rule w k table start
                   occurs-insert e (placeAmong (offeredEvent mask clock labels) (pendingEvents w (W .bytes)))
                       (offeredEvent mask clock labels) (W .ledger .pending),
                 );
-            total =
-                omega (
-                  arith,
-                  B .total,
-                  length-insertAt (placeAmong (offeredEvent mask clock labels) (pendingEvents w (W .bytes)))
-                      (offeredEvent mask clock labels) (W .ledger .pending),
-                );
+            total = omega (
+              arith,
+              B .total,
+              length-insertAt (placeAmong (offeredEvent mask clock labels) (pendingEvents w (W .bytes)))
+                  (offeredEvent mask clock labels) (W .ledger .pending),
+            );
           })
 
   after-take : (W : Watch) → WatchRight w k table start W → WatchBalanced W → (cap more : ℕ) (scratch : List ℕ)
