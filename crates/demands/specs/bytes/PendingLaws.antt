@@ -48,8 +48,7 @@ module _ (w : ℕ) (t : Status) (z : Sized w t) where
   unfolding pendingEvents
   pendingEvents-recordBytes =
       rw (pendingCount-recordBytes w t)
-      (sym
-      (filled (length (t .pending)) (pendingAt w (recordBytes w t)) none (t .pending) refl
+      (sym (filled (length (t .pending)) (pendingAt w (recordBytes w t)) none (t .pending) refl
       (λ i l. sym (pendingAt-recordBytes i none l))))
 
 -- ---- One put in or left out

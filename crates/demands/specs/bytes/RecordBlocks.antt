@@ -41,8 +41,8 @@ pendingBlock w es = pendingBytes w es ++ zeros ((32 - length es) * eventLength w
 -- What stands before the pending events, where there are so many of them.
 abbrev pub frontBytes : ℕ → Status → ℕ → List ℕ
 frontBytes w t waiting =
-    headBytes (t .processes) (length (t .table)) waiting (t .closed) (t .kept) ++ countBytes w (listOf 8 (t .counts))
-    ++ clockBytes w (clockRows (t .clocks)) ++ tableBlock (t .table)
+    headBytes (t .processes) (length (t .table)) waiting (t .closed) (t .kept)
+    ++ countBytes w (listOf 8 (t .counts)) ++ clockBytes w (clockRows (t .clocks)) ++ tableBlock (t .table)
 
 pub recordBytes-blocks : (w : ℕ) (t : Status)
     → recordBytes w t ≡ frontBytes w t (length (t .pending)) ++ pendingBlock w (t .pending)
@@ -73,8 +73,7 @@ first-apart : (h c k b p : List ℕ) → h ++ c ++ k ++ b ++ p ≡ h ++ (c ++ (k
 first-apart h c k b p = simp append-assoc
 
 module _ (w : ℕ) (t : Status) where
-  pub kept-split : recordBytes w t
-      ≡ (t .processes ∷ length (t .table) ∷ length (t .pending) ∷ t .closed ∷ [])
+  pub kept-split : recordBytes w t ≡ (t .processes ∷ length (t .table) ∷ length (t .pending) ∷ t .closed ∷ [])
       ++ (bytesOf 4 (t .kept) ++ afterHead w t)
   unfolding recordBytes
   kept-split = first-apart (headOf t) _ _ _ _
@@ -92,8 +91,7 @@ module _ (w : ℕ) (t : Status) where
       apart : (h k b p : List ℕ) → h ++ k ++ b ++ p ≡ h ++ (k ++ (b ++ p))
       apart h k b p = simp append-assoc
 
-  pub table-split : recordBytes w t
-      ≡ beforeTable w t
+  pub table-split : recordBytes w t ≡ beforeTable w t
       ++ (tableBytes (t .table) ++ (zeros (192 - 3 * length (t .table)) ++ pendingBlock w (t .pending)))
   unfolding recordBytes
   table-split =

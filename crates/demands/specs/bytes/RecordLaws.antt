@@ -88,8 +88,7 @@ module _ (w : ℕ) (t : Status) (z : Sized w t) where
       clocks = clockRows (t .clocks)
 
       place : (p : ℕ) → p < 8
-          → s
-          ≡ (beforeClocks w t ++ blocks (countBytes w) (take p clocks))
+          → s ≡ (beforeClocks w t ++ blocks (countBytes w) (take p clocks))
           ++ (countBytes w (row p) ++ (blocks (countBytes w) (drop (suc p) clocks) ++ afterClocks w t))
       place p l =
           clocks-split w t
@@ -134,8 +133,8 @@ module _ (w : ℕ) (t : Status) (z : Sized w t) where
 
       Bytes-head : Bytes (headOf t)
       Bytes-head =
-          Bytes-cons (t .processes) (length (t .table) ∷ length (t .pending) ∷ t .closed ∷ bytesOf 4 (t .kept))
-          (z .processes-fit)
+          Bytes-cons (t .processes)
+          (length (t .table) ∷ length (t .pending) ∷ t .closed ∷ bytesOf 4 (t .kept)) (z .processes-fit)
           (Bytes-cons (length (t .table)) (length (t .pending) ∷ t .closed ∷ bytesOf 4 (t .kept)) lines-fit
           (Bytes-cons (length (t .pending)) (t .closed ∷ bytesOf 4 (t .kept)) pending-fit
           (Bytes-cons (t .closed) (bytesOf 4 (t .kept)) (z .closed-fits) (Bytes-bytesOf 4 (t .kept)))))

@@ -35,11 +35,10 @@ use Rattle.demands.specs.bytes.Sized.{Sized, withClosed, withTaken, firs
 
 -- ---- Records with the same stored fields have the same bytes
 
-pub recordBytes-same : (w : ℕ) (t u : Status) → t .processes ≡ u .processes → t .table ≡ u .table
-    → t .closed ≡ u .closed → t .kept ≡ u .kept
+pub recordBytes-same : (w : ℕ) (t u : Status)
+    → t .processes ≡ u .processes → t .table ≡ u .table → t .closed ≡ u .closed → t .kept ≡ u .kept
     → listOf 8 (t .counts) ≡ listOf 8 (u .counts) → clockRows (t .clocks) ≡ clockRows (u .clocks)
-    → t .pending ≡ u .pending
-    → recordBytes w t ≡ recordBytes w u
+    → t .pending ≡ u .pending → recordBytes w t ≡ recordBytes w u
 unfolding recordBytes
 recordBytes-same w t u k l x f c g p = rw (k, l, x, f, c, g, p)
 
@@ -186,8 +185,7 @@ clocksSet-recordBytes w t e eight (suc p) l =
     go false h = ap (λ (g : ℕ → Cut). recordBytes w (withClocks t g)) (fun-ext (λ q. one q (ℕ-discrete q p)))
       where
         one : (q : ℕ) → Dec (q ≡ p) → clocksBelow t e p q ≡ clocksBelow t e (suc p) q
-        one q (yes m) =
-            rw m
+        one q (yes m) = rw m
             (clocksBelow-beyond t e p p (omega arith) ∙ sym (clocksBelow-within t e (suc p) p (omega arith) ∙ rw h))
         one q (no m) = clocksBelow-elsewhere t e p q m
 
@@ -210,8 +208,7 @@ counted-recordBytes w t z e kept eight =
     (recordBytes-same w (withClocks (withCounts (withKept t kept) (apply e (t .counts))) (clocksBelow t e 8))
     (withTaken t e kept) refl refl refl refl refl
     (listOf-same 8 (λ p. listOf 8 (clocksBelow t e 8 p)) (λ p. listOf 8 (cond (involved e p) (count e) (t .clocks p)))
-    (λ p l. ap (listOf 8) (clocksBelow-within t e 8 p l)))
-    refl)
+    (λ p l. ap (listOf 8) (clocksBelow-within t e 8 p l))) refl)
 
 -- ---- A new watch
 

@@ -41,8 +41,8 @@ module _ (w : ℕ) (e : Event) (z : Storable w e) where
   Bytes-eventBytes =
       Bytes-append ((e .mask ∷ zeros 7) ++ countBytes w (e .clock)) (e .labels)
       (Bytes-append (e .mask ∷ zeros 7) (countBytes w (e .clock))
-      (Bytes-cons (e .mask) (zeros 7) (z .mask-fits) (Bytes-zeros 7)) (Bytes-countBytes w (e .clock)))
-      (z .labels-fit)
+      (Bytes-cons (e .mask) (zeros 7) (z .mask-fits) (Bytes-zeros 7))
+      (Bytes-countBytes w (e .clock))) (z .labels-fit)
 
   -- An event comes back from its bytes, wherever they stand.
   pub eventFrom-bytes : (a c : List ℕ) (n : ℕ) → length a ≡ n → eventFrom w (a ++ (eventBytes w e ++ c)) n ≡ e

@@ -95,10 +95,10 @@ module _ (w k : ℕ) (table : List Line) (start : Cut) (R : Rule w k table start
       go (turned n some small other q) = rw q X
       go (repeats h7 h q) = rw q X
       go (accepted h7 h8 h9 h42 h31 h32 h33 q) =
-          rw (q, says-pending w k table start R (W .ledger) (W .bytes) (W .window) X)
-          (rw (says-pending w k table start R (W .ledger) (W .bytes)
-          (W .window) X) at (accepted-watching w k table start R (W .ledger) (W .bytes)
-          (W .window) X mask clock labels p h7 h8 h9 h42 h31 h32 h33))
+          let says = says-pending w k table start R (W .ledger) (W .bytes) (W .window) X in
+          let watched = accepted-watching w k table start R (W .ledger) (W .bytes) (W .window) X mask clock labels p
+          h7 h8 h9 h42 h31 h32 h33 in
+          rw (q, says) (rw says at watched)
 
   -- ---- close
   close-right : (W : Watch) → WatchRight w k table start W → (p : ℕ) → WatchRight w k table start (after w (closes p) W)
@@ -125,8 +125,7 @@ module _ (w k : ℕ) (table : List Line) (start : Cut) (R : Rule w k table start
 
     pub take-6 : badLengths ≡ true
         → (takeCapped w cap bytes lent scratch
-        ≡ record { answer = turnedBack 6 0; bytes = bytes; window = lent; scratch = scratch })
-        × (ledgerThen ≡ L)
+        ≡ record { answer = turnedBack 6 0; bytes = bytes; window = lent; scratch = scratch }) × (ledgerThen ≡ L)
     unfolding takeCapped takenLedger badLengths
     take-6 h = (rw h, rw h)
 
@@ -203,10 +202,9 @@ module _ (w k : ℕ) (table : List Line) (start : Cut) (R : Rule w k table start
     room-1024 : badLengths ≡ false → roomOf w (length lent) ≤ 1024
     unfolding badLengths
     room-1024 h =
-        let windows = or-false-e (badRecordLength w (length bytes))
-        (badWindowLength w (length lent) || not (eqb (length scratch) (length lent))) h .1 in
-        room-few w (length lent)
-        (or-false-e (badWindowLength w (length lent)) (not (eqb (length scratch) (length lent))) windows .0)
+        let uneven : Bool = not (eqb (length scratch) (length lent)) in
+        let windows = or-false-e (badRecordLength w (length bytes)) (badWindowLength w (length lent) || uneven) h .1 in
+        room-few w (length lent) (or-false-e (badWindowLength w (length lent)) uneven windows .0)
 
     pub take-right : badLengths ≡ false
         → Watching w k table start (ledgerAfter w bytes L decision) (decided w bytes lent (X .kept) decision .bytes)
@@ -220,17 +218,14 @@ module _ (w k : ℕ) (table : List Line) (start : Cut) (R : Rule w k table start
         go (none-decides b q u o) = rw q X
         go (falsifies j l q r n x) =
             let i : 0 + j ≡ j = omega arith in
-            rw (q, i, says-event w k table start R L bytes lent X j noEvent l)
-            (subst
-            (Watching w k table start
-            (record {
+            let without : Ledger = record {
               history = L .history;
               pending = removeAt j (L .pending);
               falsified = getD (L .pending) j noEvent ∷ L .falsified;
               closed = L .closed;
-            })
-            (removed w bytes j))
-            (sym (X .window-is))
+            } in
+            rw (q, i, says-event w k table start R L bytes lent X j noEvent l)
+            (subst (Watching w k table start without (removed w bytes j)) (sym (X .window-is))
             (falsified-watching w k table start R L bytes lent X j noEvent l (is-ready j l r) (is-false j l r n)
             (length lent) (omega arith)))
         go (chooses j l q r v f x) =
@@ -246,8 +241,7 @@ module _ (w k : ℕ) (table : List Line) (start : Cut) (R : Rule w k table start
               taken-window w k table start R L bytes lent X j noEvent l (is-ready j l r) (is-valid j l r v) fit,
             )
             (taken-watching w k table start R L bytes lent X j noEvent l (is-ready j l r) (is-valid j l r v)
-            (length lent)
-            fit (le-trans many (room-1024 h)))
+            (length lent) fit (le-trans many (room-1024 h)))
 
   -- ---- Theorem
   pub after-right : (W : Watch) → WatchRight w k table start W → (c : Call) → Passed w c
@@ -274,7 +268,8 @@ module _ (w k : ℕ) (table : List Line) (start : Cut) (R : Rule w k table start
           → WatchRight w k table start (after w (takes cap zeros scratch) W)
       go true h = let t = take-6 L bytes lent X′ cap scratch h in rw (t .1, t .0) X′
       go false h =
-          let t = take-else L bytes lent X′ cap scratch h in rw (t .1, t .0) (take-right L bytes lent X′ cap scratch h)
+          let t = take-else L bytes lent X′ cap scratch h in
+          rw (t .1, t .0) (take-right L bytes lent X′ cap scratch h)
 
   pub run-right : (W : Watch) → WatchRight w k table start W → (cs : List Call)
       → ((c : Call) → List·Memᴰ c cs → Passed w c) → WatchRight w k table start (run w cs W)

@@ -174,8 +174,7 @@ module _ (w k : ℕ) (table : List Line) (start : Cut) (R : Rule w k table start
         was-ready = X .right .was-ready;
         eight = λ f.
             ⊎-elim (λ m. X .right .eight f (inl m))
-            (⊎-elim
-            (λ m. ⊎-elim (λ q. rw q eight-e) (λ n. X .right .eight f (inr (inl n)))
+            (⊎-elim (λ m. ⊎-elim (λ q. rw q eight-e) (λ n. X .right .eight f (inr (inl n)))
             (member-insertAt i e (L .pending) f .0 m))
             (λ m. X .right .eight f (inr (inr m))));
       };

@@ -57,8 +57,8 @@ open-case w text k labels s window =
     go (badRecordLength w (length s) || badWindowLength w (length window)) refl (badProcesses k) refl
     (badStart k labels) refl (readRule text k) refl
   where
-    go : (a : Bool) → badRecordLength w (length s) || badWindowLength w (length window) ≡ a → (b : Bool)
-        → badProcesses k ≡ b → (c : Bool) → badStart k labels ≡ c
+    go : (a : Bool) → badRecordLength w (length s) || badWindowLength w (length window) ≡ a
+        → (b : Bool) → badProcesses k ≡ b → (c : Bool) → badStart k labels ≡ c
         → (r : Reading) → readRule text k ≡ r → OpenCase w text k labels s window
     go true h6 b h5 c h9 r h = turned-back 6 0 (rw h6)
     go false h6 true h5 c h9 r h = turned-back 5 0 (rw (h6, h5))
@@ -193,8 +193,7 @@ module _ (w : ℕ) (text : List ℕ) (k : ℕ) (labels window : List ℕ) (some-
         arith,
         ltb-false (length window) (frontierLength w)
             (or-false-e (ltb (length window) (frontierLength w))
-            (ltb (1024 * frontierLength w) (length window) || not (eqb (length window % frontierLength w) 0))
-            h6 .0),
+            (ltb (1024 * frontierLength w) (length window) || not (eqb (length window % frontierLength w) 0)) h6 .0),
       )
 
       no-counts : _≡_ {A = Cut} (λ p. 0) (taken [])
@@ -207,5 +206,4 @@ module _ (w : ℕ) (text : List ℕ) (k : ℕ) (labels window : List ℕ) (some-
       long =
           length-windowBytes w (length window) (startFrontier 8 labels table ∷ [])
           (all-shaped w [] tt (λ e m. absurd (List·Memᴰ·not-nil m)) k 0 table (at labels) (opened-rule .short) bytes
-          (startFrontier 8 labels table ∷ []) opened-start)
-          one-frontier
+          (startFrontier 8 labels table ∷ []) opened-start) one-frontier

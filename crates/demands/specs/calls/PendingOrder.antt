@@ -38,8 +38,8 @@ unfolding placeAmong insertAt
 insert-here e f fs b = rw b
 
 -- an event whose key is no pending one's goes in in order
-pub insert-ordered : (e : Event) (fs : List Event) → Ordered fs → ((f : Event) → List·Memᴰ f fs → keyOf f ≡ keyOf e → ⊥)
-    → Ordered (insertAt (placeAmong e fs) e fs)
+pub insert-ordered : (e : Event) (fs : List Event) → Ordered fs
+    → ((f : Event) → List·Memᴰ f fs → keyOf f ≡ keyOf e → ⊥) → Ordered (insertAt (placeAmong e fs) e fs)
 insert-ordered e [] o h = unfold placeAmong insertAt in ((λ f m. absurd (List·Memᴰ·not-nil m)), tt)
 insert-ordered e (f ∷ fs) o h =
     go (keyBefore (keyOf f) (keyOf e)) refl (insert-ordered e fs (o .1) (λ g m. h g (List·Memᴰ·tail m)))
@@ -75,8 +75,8 @@ remove-ordered (suc i) (f ∷ fs) o =
     ((λ g m. o .0 g (remove-e i fs g (unfold removeAt in m))), remove-ordered i fs (o .1))
 
 -- ---- ordered lists with the same members are one
-pub ordered-unique : (xs ys : List Event) → Ordered xs → Ordered ys → ((z : Event) → List·Memᴰ z xs ↔ List·Memᴰ z ys)
-    → xs ≡ ys
+pub ordered-unique : (xs ys : List Event) → Ordered xs → Ordered ys
+    → ((z : Event) → List·Memᴰ z xs ↔ List·Memᴰ z ys) → xs ≡ ys
 ordered-unique [] [] s t h = refl
 ordered-unique [] (y ∷ ys) s t h = absurd (List·Memᴰ·not-nil (h y .1 (List·Memᴰ·head refl)))
 ordered-unique (x ∷ xs) [] s t h = absurd (List·Memᴰ·not-nil (h x .0 (List·Memᴰ·head refl)))
@@ -86,13 +86,15 @@ ordered-unique (x ∷ xs) (y ∷ ys) s t h =
   where
     same : x ≡ y
     same = ⊎-elim (λ q. q)
-        (λ m. ⊎-elim sym (λ n. absurd
-        (before-irreflexive (keyOf x) (before-transitive (keyOf x) (keyOf y) (keyOf x) (s .0 y n) (t .0 x m))))
+        (λ m. ⊎-elim sym
+        (λ n. absurd (before-irreflexive (keyOf x)
+        (before-transitive (keyOf x) (keyOf y) (keyOf x) (s .0 y n) (t .0 x m))))
         (List·Memᴰ·cases-cons (h y .1 (List·Memᴰ·head refl))))
         (List·Memᴰ·cases-cons (h x .0 (List·Memᴰ·head refl)))
 
     tails : (a b : Event) (as′ bs : List Event) → Ordered (a ∷ as′) → a ≡ b
-        → ((z : Event) → List·Memᴰ z (a ∷ as′) → List·Memᴰ z (b ∷ bs)) → (z : Event) → List·Memᴰ z as′ → List·Memᴰ z bs
+        → ((z : Event) → List·Memᴰ z (a ∷ as′) → List·Memᴰ z (b ∷ bs))
+        → (z : Event) → List·Memᴰ z as′ → List·Memᴰ z bs
     tails a b as′ bs o q g z m = ⊎-elim
         (λ p. absurd (before-irreflexive (keyOf a)
         (subst (λ (c : Event). T (keyBefore (keyOf a) (keyOf c))) (p ∙ sym q) (o .0 z m))))

@@ -143,14 +143,14 @@ module _ (w k : ℕ) (table : List Line) (start : Cut) (R : Rule w k table start
 
       pub stepped-some : 0 < length gs
       stepped-some =
-          some-frontier world Valid (e ∷ ts)
-          (record {
+          let Q : Proper world Valid (e ∷ ts) = record {
             some-process = P .some-process;
             room = P .room;
             rule = P .rule;
             by-rule = later;
             good = P .good;
-          }) gs stepped-right
+          } in
+          some-frontier world Valid (e ∷ ts) Q gs stepped-right
 
       storable-later : (f : Event) → In f (e ∷ ts) → Storable w f
       storable-later f q =
@@ -158,8 +158,8 @@ module _ (w k : ℕ) (table : List Line) (start : Cut) (R : Rule w k table start
 
       shaped : AllShaped w gs
       shaped =
-          all-shaped w (e ∷ ts) causal storable-later k (L .closed) table start (R .short)
-          (R .labels-fit) gs stepped-right
+          all-shaped w (e ∷ ts) causal storable-later k (L .closed) table start (R .short) (R .labels-fit)
+          gs stepped-right
 
       -- the bytes behind the old frontiers were 0, so those behind the new ones are
       pub taken-window : length gs * frontierLength w ≤ length window
@@ -201,7 +201,8 @@ module _ (w k : ℕ) (table : List Line) (start : Cut) (R : Rule w k table start
           formed = λ f q. X .right .formed f (remove-e i (L .pending) f q);
           untaken = still-untaken;
           was-ready = λ f q.
-              let u = X .right .was-ready f q in (e ∷ u .0, u .1, ap (λ (zs : List Event). e ∷ zs) (u .2), u .3, u .4);
+              let u = X .right .was-ready f q in
+              (e ∷ u .0, u .1, ap (λ (zs : List Event). e ∷ zs) (u .2), u .3, u .4);
           eight = λ f.
               ⊎-elim (λ q. ⊎-elim (λ s. rw s (X .right .eight e (inr (inl m)))) (λ o. X .right .eight f (inl o))
               (List·Memᴰ·cases-cons q))
@@ -211,8 +212,8 @@ module _ (w k : ℕ) (table : List Line) (start : Cut) (R : Rule w k table start
         ordered = remove-ordered i (L .pending) (X .ordered);
         clear = clear-remove i (L .pending) (X .clear);
         faultless = λ f.
-            ⊎-elim
-            (λ q. ⊎-elim (λ s. rw s (X .faultless e (inr m))) (λ n. X .faultless f (inl n)) (List·Memᴰ·cases-cons q))
+            ⊎-elim (λ q. ⊎-elim (λ s. rw s (X .faultless e (inr m))) (λ n. X .faultless f (inl n))
+            (List·Memᴰ·cases-cons q))
             (λ q. X .faultless f (inr (remove-e i (L .pending) f q)));
         storable = λ f. ⊎-elim (storable-later f) (λ q. X .storable f (inr (remove-e i (L .pending) f q)));
         many = omega (arith, X .many, length-removeAt i (L .pending) l);

@@ -59,12 +59,11 @@ offer-said w W Y mask clock labels = go (offer-case w mask clock labels (W .byte
     go (turned n some small other q) =
         rw q (plain (W .ledger) (W .accepted) (W .answers) Y (turnedBack n 0) refl refl other)
     go (repeats h7 h q) = rw q (plain (W .ledger) (W .accepted) (W .answers) Y again refl refl refl)
-    go (accepted h7 h8 h9 h42 h31 h32 h33 q) =
-        rw q (record {
-          accepted-said = omega (arith, Y .accepted-said);
-          taken-said = omega (arith, Y .taken-said);
-          falsified-said = omega (arith, Y .falsified-said);
-        })
+    go (accepted h7 h8 h9 h42 h31 h32 h33 q) = rw q (record {
+      accepted-said = omega (arith, Y .accepted-said);
+      taken-said = omega (arith, Y .taken-said);
+      falsified-said = omega (arith, Y .falsified-said);
+    })
 
 -- ---- find
 find-from-said : (line i : ℕ) (fs : List Frontier) (L : Ledger) (es : List Event) (answers : List Answer)
@@ -87,9 +86,8 @@ find-said w line s window L es answers Y =
     (leb (lineTotal s) line)
   where
     go : (a b c : Bool)
-        → Said L es (cond a (turnedBack 6 0)
-        (cond b (turnedBack 34 0) (cond c (turnedBack 11 0) (findFrom line 0 (frontiers w window (keptCount s)))))
-        ∷ answers)
+        → Said L es (cond a (turnedBack 6 0) (cond b (turnedBack 34 0)
+        (cond c (turnedBack 11 0) (findFrom line 0 (frontiers w window (keptCount s))))) ∷ answers)
     go true b c = plain L es answers Y (turnedBack 6 0) refl refl refl
     go false true c = plain L es answers Y (turnedBack 34 0) refl refl refl
     go false false true = plain L es answers Y (turnedBack 11 0) refl refl refl
@@ -163,7 +161,8 @@ module _ (w k : ℕ) (table : List Line) (start : Cut) (R : Rule w k table start
       go true h =
           let t = take-6 w k table start R L bytes lent X′ cap scratch h in
           rw (t .1, t .0) (plain L (W .accepted) (W .answers) Y (turnedBack 6 0) refl refl refl)
-      go false h = let t = take-else w k table start R L bytes lent X′ cap scratch h in
+      go false h =
+          let t = take-else w k table start R L bytes lent X′ cap scratch h in
           rw (t .1, t .0)
           (decided-said w bytes lent (X′ .kept) L (W .accepted) (W .answers) Y
           (decision w k table start R L bytes lent X′ cap scratch))

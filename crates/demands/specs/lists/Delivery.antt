@@ -34,8 +34,8 @@ occurs-i e (f ∷ fs) m = ⊎-elim
     (λ k. omega (arith, occurs-i e fs k))
     (List·Memᴰ·cases-cons m)
 
-pub occurs-e : (e : Event) (fs : List Event) → Eight e → ((f : Event) → List·Memᴰ f fs → Eight f) → 0 < occurrences e fs
-    → List·Memᴰ e fs
+pub occurs-e : (e : Event) (fs : List Event) → Eight e → ((f : Event) → List·Memᴰ f fs → Eight f)
+    → 0 < occurrences e fs → List·Memᴰ e fs
 unfolding occurrences
 occurs-e e [] x h l = absurd (omega arith)
 occurs-e e (f ∷ fs) x h l = go (sameEvent e f) refl (occurs-e e fs x (λ g m. h g (List·Memᴰ·tail m)))
@@ -129,9 +129,8 @@ module _ (k : ℕ) (valid : List Event → Event → Type 0) (r : ClockRule k va
         go (yes l) d = inl (occurs-e e (M .history) x (λ f n. N .eight f (inl n)) l)
         go (no l) (yes j) = inr (inl (occurs-e e (M .pending) x (λ f n. N .eight f (inr (inl n))) j))
         go (no l) (no j) =
-            inr (inr
-            (occurs-e e (M .falsified) x (λ f n. N .eight f (inr (inr n)))
-            (omega (arith, b e, occurs-i e (L .history) m))))
+            let left : 0 < occurrences e (M .falsified) = omega (arith, b e, occurs-i e (L .history) m) in
+            inr (inr (occurs-e e (M .falsified) x (λ f n. N .eight f (inr (inr n))) left))
 
     taken-there : (us ts : List Event) → L .history ≡ us ++ ts → (f : Event) → In f ts → In f (M .history)
     taken-there us [] g f m = absurd (List·Memᴰ·not-nil m)
@@ -148,9 +147,7 @@ module _ (k : ℕ) (valid : List Event → Event → Type 0) (r : ClockRule k va
           where
             this : In e (M .history)
             this = ⊎-elim (λ x. x)
-                (⊎-elim
-                (λ x. absurd (S e x
-                (pending-ready M N e x ts (past .0 .ready)
+                (⊎-elim (λ x. absurd (S e x (pending-ready M N e x ts (past .0 .ready)
                 (taken-within ts (M .history) (causal ts (past .1)) (causal (M .history) (N .by-rule)) rest))))
                 (λ x. absurd (never-falsified M N ts (past .1) rest e (past .0) x)))
                 (somewhere e here)
@@ -159,8 +156,9 @@ module _ (k : ℕ) (valid : List Event → Event → Type 0) (r : ClockRule k va
     all-taken = taken-there [] (L .history) refl
 
 -- ---- Theorem
-module _ (k : ℕ) (valid : List Event → Event → Type 0) (r : ClockRule k valid) (L M : Ledger) (K : Kept-right k valid L)
-    (N : Kept-right k valid M) (S : Settled L) (U : Settled M) (b : (e : Event) → accounted e L ≡ accounted e M) where
+module _ (k : ℕ) (valid : List Event → Event → Type 0) (r : ClockRule k valid) (L M : Ledger)
+    (K : Kept-right k valid L) (N : Kept-right k valid M) (S : Settled L) (U : Settled M)
+    (b : (e : Event) → accounted e L ≡ accounted e M) where
   pub same-taken-events : Same (L .history) (M .history)
   same-taken-events = record {
     there = all-taken k valid r L M K N U b;
@@ -170,8 +168,8 @@ module _ (k : ℕ) (valid : List Event → Event → Type 0) (r : ClockRule k va
 -- a pending event of one is not among those falsified in the other, so it is pending there
 pending-there : (k : ℕ) (valid : List Event → Event → Type 0) → ClockRule k valid → (L M : Ledger)
     → Kept-right k valid L → Kept-right k valid M → Settled L
-    → Same (L .history) (M .history) → ((e : Event) → accounted e L ≡ accounted e M) → (e : Event)
-    → List·Memᴰ e (L .pending) → List·Memᴰ e (M .pending)
+    → Same (L .history) (M .history) → ((e : Event) → accounted e L ≡ accounted e M)
+    → (e : Event) → List·Memᴰ e (L .pending) → List·Memᴰ e (M .pending)
 pending-there k valid r L M K N S s b e m = occurs-e e (M .pending) x (λ f n. N .eight f (inr (inl n))) enough
   where
     x : Eight e

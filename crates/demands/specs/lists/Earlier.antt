@@ -93,8 +93,7 @@ module _ (w k : ℕ) (table : List Line) (start : Cut) (R : Rule w k table start
           let one : earlierTake w cap bytes lent scratch ≡ decided w bytes lent fs (earlierTrial w cap bytes lent) =
           unfold earlierTake in (rw (h, never-bad)) in
           let two : takeCapped w cap bytes lent scratch ≡ decided w bytes lent fs (trialOf w cap bytes lent) =
-          unfold takeCapped in
-          (unfold takeWithin in (unfold trialOf in (rw (h, never-bad)))) in
+          unfold takeCapped in (unfold takeWithin in (unfold trialOf in (rw (h, never-bad)))) in
           let same : earlierTrial w cap bytes lent ≡ trialOf w cap bytes lent =
           same-decision (λ j q. n (ap (λ (r : Taken). r .answer) (one ∙ ap (decided w bytes lent fs) q))) in
           ap₂ (λ (r : Taken) (d : Decision). afterTake w r d W) (one ∙ ap (decided w bytes lent fs) same ∙ sym two) same

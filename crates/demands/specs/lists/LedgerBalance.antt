@@ -63,21 +63,12 @@ module _ (w k : ℕ) (table : List Line) (start : Cut) (R : Rule w k table start
       go : OfferCase w mask clock labels (W .bytes) → WatchBalanced (after w (offers mask clock labels) W)
       go (turned n some small other q) = rw q B
       go (repeats h7 h q) = rw q B
-      go (accepted h7 h8 h9 h42 h31 h32 h33 q) = rw q
-          (record {
-            each = λ e.
-                omega (
-                  arith,
-                  B .each e,
-                  occurs-insert e (placeAmong (offeredEvent mask clock labels) (pendingEvents w (W .bytes)))
-                      (offeredEvent mask clock labels) (W .ledger .pending),
-                );
-            total = omega (
-              arith,
-              B .total,
-              length-insertAt (placeAmong (offeredEvent mask clock labels) (pendingEvents w (W .bytes)))
-                  (offeredEvent mask clock labels) (W .ledger .pending),
-            );
+      go (accepted h7 h8 h9 h42 h31 h32 h33 q) =
+          let new : Event = offeredEvent mask clock labels in
+          let place : ℕ = placeAmong new (pendingEvents w (W .bytes)) in
+          rw q (record {
+            each = λ e. omega (arith, B .each e, occurs-insert e place new (W .ledger .pending));
+            total = omega (arith, B .total, length-insertAt place new (W .ledger .pending));
           })
 
   after-take : (W : Watch) → WatchRight w k table start W → WatchBalanced W → (cap more : ℕ) (scratch : List ℕ)

@@ -68,13 +68,13 @@ module _ (w k : ℕ) (f : Formula) (start : Cut) (Y Z : Watch) (S : Sound w k f 
 
   same : Same (Y .ledger .history) (Z .ledger .history)
   same =
-      same-taken-events k Valid (valid-rule k) (Y .ledger) (Z .ledger) (S .right .right)
-      (T′ .right .right) y z counted-alike
+      same-taken-events k Valid (valid-rule k) (Y .ledger) (Z .ledger) (S .right .right) (T′ .right .right) y z
+      counted-alike
 
   pending-alike : Y .ledger .pending ≡ Z .ledger .pending
   pending-alike = ordered-unique (Y .ledger .pending) (Z .ledger .pending) (S .right .ordered) (T′ .right .ordered)
-      (same-pending k Valid (valid-rule k) (Y .ledger) (Z .ledger) (S .right .right)
-      (T′ .right .right) y z counted-alike)
+      (same-pending k Valid (valid-rule k) (Y .ledger) (Z .ledger) (S .right .right) (T′ .right .right) y z
+      counted-alike)
 
   causal-y : Causal (Y .ledger .history)
   causal-y = causal-history w k table start (S .rule) (Y .ledger) (Y .bytes) (Y .window) (S .right)
@@ -183,6 +183,6 @@ order-independent w pos text k labels eight s window a cs p s′ window′ a′ 
       x .2,
       reader-accepts text k (x .1) (x .0) .0 (x .2) .0,
       alike w k (x .0) (at labels) (atEnd w text k labels s window cs) (atEnd w text k labels s′ window′ cs′) (x .3)
-          (subst (λ (g : Formula). Sound w k g (at labels) (atEnd w text k labels s′ window′ cs′)) (sym e) (y .3)) q q′
-          same shut,
+          (subst (λ (g : Formula). Sound w k g (at labels) (atEnd w text k labels s′ window′ cs′)) (sym e) (y .3))
+          q q′ same shut,
     )

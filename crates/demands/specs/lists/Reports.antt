@@ -85,17 +85,15 @@ module _ (w k : ℕ) (f : Formula) (start : Cut) (R : Rule w k (linesAt 0 f) sta
       go (repeats h7 h q) =
           rw q (plain-answer (W .ledger) (W .ledger) (W .answers) Y refl again
           (λ x. let z : _≡_ {A = ℕ} 0 1 = cc in omega arith) (λ c t m x. let z : _≡_ {A = ℕ} 0 1 = cc in omega arith))
-      go (accepted h7 h8 h9 h42 h31 h32 h33 q) = rw q
-          (plain-answer (W .ledger)
-          (record {
+      go (accepted h7 h8 h9 h42 h31 h32 h33 q) =
+          let new : Event = offeredEvent mask clock labels in
+          let with-event : Ledger = record {
             history = W .ledger .history;
-            pending =
-                insertAt (placeAmong (offeredEvent mask clock labels) (pendingEvents w (W .bytes)))
-                (offeredEvent mask clock labels) (W .ledger .pending);
+            pending = insertAt (placeAmong new (pendingEvents w (W .bytes))) new (W .ledger .pending);
             falsified = W .ledger .falsified;
             closed = W .ledger .closed;
-          })
-          (W .answers) Y refl (held (pendingCount (W .bytes) + 1))
+          } in
+          rw q (plain-answer (W .ledger) with-event (W .answers) Y refl (held (pendingCount (W .bytes) + 1))
           (λ x. let z : _≡_ {A = ℕ} 0 1 = cc in omega arith) (λ c t m x. let z : _≡_ {A = ℕ} 0 1 = cc in omega arith))
 
   find-plain : (line i : ℕ) (fs : List Frontier) (L : Ledger) (as′ : List Answer) → Reporting L as′
@@ -121,9 +119,8 @@ module _ (w k : ℕ) (f : Formula) (start : Cut) (R : Rule w k (linesAt 0 f) sta
       (leb (lineTotal s) line)
     where
       go : (a b c : Bool)
-          → Reporting L (cond a (turnedBack 6 0)
-          (cond b (turnedBack 34 0) (cond c (turnedBack 11 0) (findFrom line 0 (frontiers w window (keptCount s)))))
-          ∷ as′)
+          → Reporting L (cond a (turnedBack 6 0) (cond b (turnedBack 34 0)
+          (cond c (turnedBack 11 0) (findFrom line 0 (frontiers w window (keptCount s))))) ∷ as′)
       go true b c = turned-plain L L as′ Y refl 6 0
       go false true c = turned-plain L L as′ Y refl 34 0
       go false false true = turned-plain L L as′ Y refl 11 0
@@ -175,14 +172,9 @@ module _ (w k : ℕ) (f : Formula) (start : Cut) (R : Rule w k (linesAt 0 f) sta
     taken-reporting j l r v =
         let e : Event = getD (L .pending) j noEvent in
         let gs : List Frontier = stepped (settingOf (worldOf k (L .closed) table start) (L .history) e) (X′ .kept) in
-        let h : History k Valid (e ∷ L .history) = (
-          record {
-            formed = X .right .formed e (place-member (L .pending) j noEvent l);
-            ready = r;
-            true-clock = v;
-          },
-          X .right .by-rule,
-        ) in
+        let formed = X .right .formed e (place-member (L .pending) j noEvent l) in
+        let h : History k Valid (e ∷ L .history) =
+        (record { formed = formed; ready = r; true-clock = v }, X .right .by-rule) in
         record {
           truthful = λ c t kept i.
               ⊎-elim (λ x. here e gs c t kept h (stepped-right w k table start R L bytes lent X′ j noEvent l r v) x)
@@ -192,8 +184,7 @@ module _ (w k : ℕ) (f : Formula) (start : Cut) (R : Rule w k (linesAt 0 f) sta
       where
         here : (e : Event) (gs : List Frontier) (c : List ℕ) (t : Bool) (kept : ℕ) → History k Valid (e ∷ L .history)
             → Represents (worldOf k (L .closed) table start) (e ∷ L .history) gs
-            → state c t kept
-            ≡ state (listOf 8 (apply e (taken (L .history))))
+            → state c t kept ≡ state (listOf 8 (apply e (taken (L .history))))
             (bit (getD (map (λ g. g .values) gs) (length gs - 1) 0) (length table - 1)) (length gs)
             → TrueVerdict k f start (e ∷ L .history) c t
         here e gs c t kept h r x =
@@ -214,14 +205,13 @@ module _ (w k : ℕ) (f : Formula) (start : Cut) (R : Rule w k (linesAt 0 f) sta
         })
     decided-reporting (none-decides true q u o) = rw q (turned-plain L L (W .answers) Y refl 36 0)
     decided-reporting (falsifies j l q r n x) =
-        rw q (turned-plain L
-        (record {
+        let without : Ledger = record {
           history = L .history;
           pending = removeAt (0 + j) (L .pending);
           falsified = pendingAt w bytes (0 + j) ∷ L .falsified;
           closed = L .closed;
-        })
-        (W .answers) Y refl 35 0)
+        } in
+        rw q (turned-plain L without (W .answers) Y refl 35 0)
     decided-reporting (chooses j l q r v g x) =
         let i : 0 + j ≡ j = omega arith in
         rw (
@@ -243,22 +233,23 @@ module _ (w k : ℕ) (f : Formula) (start : Cut) (R : Rule w k (linesAt 0 f) sta
   after-reporting W X Y (finds line) = find-reporting line (W .bytes) (W .window) (W .ledger) (W .answers) Y
   after-reporting W X Y (closes p) = close-reporting W Y p
   after-reporting W X Y (takes cap more scratch) =
-      go (badLengths w k table start R (W .ledger) (W .bytes) (W .window ++ replicate more 0) X″ cap scratch) refl
+      go (badLengths w k table start R (W .ledger) (W .bytes) lent″ X″ cap scratch) refl
     where
-      X″ : Watching w k table start (W .ledger) (W .bytes) (W .window ++ replicate more 0)
+      lent″ : List ℕ
+      lent″ = W .window ++ replicate more 0
+
+      X″ : Watching w k table start (W .ledger) (W .bytes) lent″
       X″ = lengthened w k table start R (W .ledger) (W .bytes) (W .window) X more
 
-      go : (b : Bool)
-          → badLengths w k table start R (W .ledger) (W .bytes) (W .window ++ replicate more 0) X″ cap scratch ≡ b
+      go : (b : Bool) → badLengths w k table start R (W .ledger) (W .bytes) lent″ X″ cap scratch ≡ b
           → Reporting (after w (takes cap more scratch) W .ledger) (after w (takes cap more scratch) W .answers)
       go true h =
-          let t = take-6 w k table start R (W .ledger) (W .bytes) (W .window ++ replicate more 0) X″ cap scratch h in
+          let t = take-6 w k table start R (W .ledger) (W .bytes) lent″ X″ cap scratch h in
           rw (t .1, t .0) (turned-plain (W .ledger) (W .ledger) (W .answers) Y refl 6 0)
       go false h =
-          let t = take-else w k table start R (W .ledger) (W .bytes) (W .window ++ replicate more 0) X″ cap scratch h in
-          rw (t .1, t .0)
-          (decided-reporting W X Y cap more scratch (trial w k table start R (W .ledger) (W .bytes)
-          (W .window ++ replicate more 0) X″ cap scratch))
+          let t = take-else w k table start R (W .ledger) (W .bytes) lent″ X″ cap scratch h in
+          let d = trial w k table start R (W .ledger) (W .bytes) lent″ X″ cap scratch in
+          rw (t .1, t .0) (decided-reporting W X Y cap more scratch d)
 
   -- ... and what open reports is true
   pub open-reporting : (fs : List Frontier) → Represents (worldOf k 0 table start) [] fs
@@ -271,9 +262,8 @@ module _ (w k : ℕ) (f : Formula) (start : Cut) (R : Rule w k (linesAt 0 f) sta
   }
     where
       here : (c : List ℕ) (t : Bool) (kept : ℕ)
-          → state c t kept
-          ≡ state (replicate 8 0) (bit (getD (map (λ g. g .values) fs) (length fs - 1) 0) (length table - 1))
-          (length fs)
+          → state c t kept ≡ state (replicate 8 0)
+          (bit (getD (map (λ g. g .values) fs) (length fs - 1) 0) (length table - 1)) (length fs)
           → TrueVerdict k f start [] c t
       here c t kept x =
           let a : c ≡ replicate 8 0 = cc in

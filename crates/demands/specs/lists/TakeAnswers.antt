@@ -124,16 +124,15 @@ module _ (w k : ℕ) (f : Formula) (start : Cut) (R : Rule w k (linesAt 0 f) sta
           (x .1 (y .event) (stops-pending k allowed L (y .event) (y .stops))))
       back (falsified a x o) y = absurd (not-both k allowed L f start counts truth kept y x)
       back (took c t n a x o) y =
+          let x-stops = takes-stopping k allowed L f start c t n x in
+          let y-stops = takes-stopping k allowed L f start counts truth kept y in
           let e : x .event ≡ y .event =
-          one-stop k allowed L (x .event) (y .event) (x .stops) (takes-stopping k allowed L f start c t n x) (y .stops)
-          (takes-stopping k allowed L f start counts truth kept y) .1 in
+          one-stop k allowed L (x .event) (y .event) (x .stops) x-stops (y .stops) y-stops .1 in
           let i : c ≡ counts =
           x .counts-are ∙ ap (λ (d : Event). listOf 8 (taken (d ∷ L .history))) e ∙ sym (y .counts-are) in
-          let j : t ≡ truth = x .truth-is
-          ∙ ap (λ (d : Event). holds (modelOf (worldOf k 0 (linesAt 0 f) start) (d ∷ L .history)) (meaning f)
-          (taken (d ∷ L .history)))
-          e
-          ∙ sym (y .truth-is) in
+          let truth-at : Event → Bool = λ d.
+          holds (modelOf (worldOf k 0 (linesAt 0 f) start) (d ∷ L .history)) (meaning f) (taken (d ∷ L .history)) in
+          let j : t ≡ truth = x .truth-is ∙ ap truth-at e ∙ sym (y .truth-is) in
           let m : n ≡ kept =
           number-unique k (L .closed) (y .event ∷ L .history) n kept (rw (← e) (x .kept-are)) (y .kept-are) in
           a ∙ rw (i, j, m)
@@ -145,8 +144,8 @@ module _ (w k : ℕ) (f : Formula) (start : Cut) (R : Rule w k (linesAt 0 f) sta
       go (nothing a s) = absurd (s (y .0) (stops-pending k allowed L (y .0) (y .1)) (y .1 .ready))
       go (full a x) = absurd (false-stopping k allowed L y (x .1 (y .0) (stops-pending k allowed L (y .0) (y .1))))
       go (falsified a x o) =
-          let u = one-stop k allowed L (x .0) (y .0) (x .1) (false-stopping k allowed L x) (y .1)
-          (false-stopping k allowed L y) in
+          let x-stops = false-stopping k allowed L x in
+          let u = one-stop k allowed L (x .0) (y .0) (x .1) x-stops (y .1) (false-stopping k allowed L y) in
           o ∙ rw (u .0, u .1, u .2)
       go (took c t n a x o) = absurd (not-both k allowed L f start c t n x y)
 
@@ -161,8 +160,9 @@ module _ (w k : ℕ) (f : Formula) (start : Cut) (R : Rule w k (linesAt 0 f) sta
           (x .1 (y .event) (stops-pending k allowed L (y .event) (y .stops))))
       go (falsified a x o) = absurd (not-both k allowed L f start counts truth kept y x)
       go (took c t n a x o) =
-          let u = one-stop k allowed L (x .event) (y .event) (x .stops) (takes-stopping k allowed L f start c t n x)
-          (y .stops) (takes-stopping k allowed L f start counts truth kept y) in
+          let x-stops = takes-stopping k allowed L f start c t n x in
+          let y-stops = takes-stopping k allowed L f start counts truth kept y in
+          let u = one-stop k allowed L (x .event) (y .event) (x .stops) x-stops (y .stops) y-stops in
           o ∙ rw (u .0, u .1, u .2)
 
   pub no-other-answer : (takeCapped w cap bytes lent scratch .answer ≡ nothingReady)
@@ -245,8 +245,8 @@ module _ (w k : ℕ) (f : Formula) (start : Cut) (Z : Watch) (S : Sound w k f st
       go : (b : Bool) → wrong ≡ b → ⊥
       go true b = let z : _≡_ {A = ℕ} 6 34 = (let y = six b in cc) in absurd (omega arith)
       go false b =
-          other-number w k f start (S .rule) (Z .ledger) (Z .bytes) lent longer cap scratch b 34 (λ z. omega arith)
-          (λ z. omega arith) q
+          other-number w k f start (S .rule) (Z .ledger) (Z .bytes) lent longer cap scratch b 34
+          (λ z. omega arith) (λ z. omega arith) q
 
   pub nothing-after : RightLengths w Z more scratch
       → (nextTake w Z cap more scratch .answer ≡ nothingReady) ↔ Settled (Z .ledger)

@@ -128,18 +128,13 @@ module _ (w k : ℕ) (f : Formula) (start : Cut) (R : Rule w k (linesAt 0 f) sta
 
     kept-number : KeptNumber k (L .closed) (pendingEvent j ∷ L .history) (length (keptWith (pendingEvent j)))
     kept-number =
-        represented-number k (L .closed) (pendingEvent j ∷ L .history) table start
-        (keptWith (pendingEvent j)) kept-right
+        represented-number k (L .closed) (pendingEvent j ∷ L .history) table start (keptWith (pendingEvent j))
+        kept-right
 
     later : History k Valid (pendingEvent j ∷ L .history)
-    later = (
-      record {
-        formed = X .right .formed (pendingEvent j) (place-member (L .pending) j noEvent l);
-        ready = r;
-        true-clock = v;
-      },
-      X .right .by-rule,
-    )
+    later =
+        let formed = X .right .formed (pendingEvent j) (place-member (L .pending) j noEvent l) in
+        (record { formed = formed; ready = r; true-clock = v }, X .right .by-rule)
 
     -- some cut is kept then, so it fits exactly if there is room
     fits-is : fits (settingIn w bytes (pendingEvent j)) allowed (X .kept)
@@ -158,14 +153,9 @@ module _ (w k : ℕ) (f : Formula) (start : Cut) (R : Rule w k (linesAt 0 f) sta
       → PassedOver k (L .closed) allowed (L .history) (pendingEvent j)
   over j l d r =
       let x = d (ready-at j l .1 r) in
-      let v : Valid (L .history) (pendingEvent j) = valid-at j l r .0 (x .0) in (
-        v,
-        (
-          length (keptWith (pendingEvent j)),
-          kept-number j l r v,
-          leb-false (length (keptWith (pendingEvent j))) allowed (sym (fits-is j l r v) ∙ x .1),
-        ),
-      )
+      let v : Valid (L .history) (pendingEvent j) = valid-at j l r .0 (x .0) in
+      let n : ℕ = length (keptWith (pendingEvent j)) in
+      (v, (n, kept-number j l r v, leb-false n allowed (sym (fits-is j l r v) ∙ x .1)))
 
   over-member : (e : Event) → List·Memᴰ e (L .pending) → Indecisive w bytes (validAmong (X .kept)) allowed (X .kept) e
       → PassedOver k (L .closed) allowed (L .history) e
@@ -210,10 +200,9 @@ module _ (w k : ℕ) (f : Formula) (start : Cut) (R : Rule w k (linesAt 0 f) sta
           nothing (answers (undecided false) q)
           (λ e m r. o .1 (inr (e, m, ready-in w k table start R L bytes lent X e (X .right .formed e m) .1 r)))
       go (none-decides true q u o) = ⊎-elim (λ x. absurd x)
-          (λ x. full (answers (undecided true) q) (
-            (x .0, x .1, ready-in w k table start R L bytes lent X (x .0) (X .right .formed (x .0) (x .1)) .0 (x .2)),
-            λ e m. over-member e m (u e m),
-          ))
+          (λ x.
+          let r = ready-in w k table start R L bytes lent X (x .0) (X .right .formed (x .0) (x .1)) .0 (x .2) in
+          full (answers (undecided true) q) ((x .0, x .1, r), λ e m. over-member e m (u e m)))
           (o .0 tt)
       go (falsifies j l q r n u) =
           let i : 0 + j ≡ j = omega arith in
