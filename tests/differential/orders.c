@@ -144,13 +144,15 @@ static void list_repeat(struct list *l) {
     compare_bytes("record (sent once more)", record, before, RECORD);
 }
 
-/* Now and then tries one of the processes that are to be closed, or a word that names none. Unless it is early, only
- * one that no further event names, so that none is refused for it; 42 while one is pending. */
+/* Now and then tries a word that names no process, or one of those that are to be closed. Unless it is early, only one
+ * that no further event names, so that none is refused for it; 42 while one is pending. */
 static void list_try_close(struct list *l, const struct events *all) {
-    uint64_t process = random_process(l->source, PROCESSES);
-    if (!chance(l->source, l->early ? 10 : 50)) return;
-    if (process >= PROCESSES || (all->closing >> process & 1 && (l->early || l->left[process] == 0)))
-        list_close(l, process);
+    unsigned open = all->closing & ~(unsigned)l->twin->record.bytes[3], found = 0, process = 0;
+    if (chance(l->source, 5)) list_close(l, random_process(l->source, PROCESSES) | PROCESSES);
+    if (!chance(l->source, l->early ? 15 : 60)) return;
+    for (unsigned p = 0; p < PROCESSES; p++)
+        if (open >> p & 1 && (l->early || l->left[p] == 0) && below(l->source, ++found) == 0) process = p;
+    if (found > 0) list_close(l, process);
 }
 
 /* Those that are to be closed and still open, when nothing more is to come. */
