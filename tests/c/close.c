@@ -193,7 +193,7 @@ static void laid(struct subject *s, unsigned kept) {
     s->record.bytes[4] = (uint8_t)kept;
 }
 
-/* The kept frontiers alone are looked at, in whatever order they stand; those behind stay, also if none is kept then. */
+/* The kept frontiers alone are looked at, in whatever order they stand; those behind stay, also if none is kept. */
 static void check_laid(struct subject *s) {
     for (unsigned kept = 1; kept <= 5; kept++)
         for (unsigned set = 0; set < 32; set++) {

@@ -162,8 +162,10 @@ static bool stays(const uint8_t *frontier, const uint8_t *record) {
  * decides what is looked at and what is cleared: nothing behind that is touched. */
 static uint32_t drop(const uint8_t *record, uint8_t *window) {
     uint32_t before = get4(record + 4), staying = 0;
-    for (uint32_t i = 0; i < before; i++)
-        if (stays(window + FRONTIER * i, record)) memmove(window + FRONTIER * staying++, window + FRONTIER * i, FRONTIER);
+    for (uint32_t i = 0; i < before; i++) {
+        const uint8_t *frontier = window + FRONTIER * i;
+        if (stays(frontier, record)) memmove(window + FRONTIER * staying++, frontier, FRONTIER);
+    }
     memset(window + FRONTIER * staying, 0, FRONTIER * (before - staying));
     return staying;
 }

@@ -79,7 +79,7 @@ bool precedes(const struct cuts *all, const struct event *e, const struct cut *s
  * largest, which is always consistent. */
 bool kept(const struct cuts *all, const struct cut *s, unsigned open);
 size_t kept_number(const struct cuts *all, unsigned open);
-bool true_clock(const struct cuts *all, const struct event *e, unsigned open); /* lowered at its processes: a kept cut */
+bool true_clock(const struct cuts *all, const struct event *e, unsigned open); /* lowered at its own: a kept cut */
 
 void free_cuts(struct cuts *all);
 
