@@ -327,7 +327,8 @@ static void fill_alone(void) {
     }
 }
 
-/* The highest process that no event names which found no room: with that one pending it cannot be closed. */
+/* The highest process that the event which found no room does not name: while that is pending, its processes cannot be
+ * closed. */
 static unsigned last_not_named(unsigned k) {
     const uint8_t *pending = plain.record + 344;
     unsigned p = k - 1;

@@ -101,7 +101,8 @@ uint64_t watch_open(const uint8_t *rule, size_t rule_len, uint64_t k, uint64_t s
  * labels, so this one is known. Neither accepted nor refused, and nothing is written. One that was taken meets 31; one
  * that left with 35 is not pending and may be offered anew.
  * An event that names a closed process meets 42, and so does one of a closed process that was taken and is sent again.
- * Its clock may count the events of closed processes.
+ * An event of open processes may count events of closed ones in its clock. If it counts one that was not taken before
+ * the close, it is never ready: it stays pending, and its own processes cannot be closed (42).
  * Refused, in this order with again among them: 6 record, 34, 7, 8, 9, 42, 31, again, 32, 33. Writes nothing then. */
 uint64_t watch_offer(uint64_t mask, uint64_t clock_low, uint64_t clock_high, uint64_t labels,
                      uint8_t *record, size_t record_len);

@@ -1,4 +1,4 @@
-/* Request 5: a closed process keeps no frontier any more, and no further event names it. */
+/* Request 5: a closed process keeps no frontier any more, and no event that names it is accepted. */
 #include <string.h>
 
 #include "subject.h"
@@ -6,6 +6,8 @@
 #define OVERLAP "(ep (and (at 0 0) (at 1 0)))"
 
 static int closed_are(const struct subject *s, unsigned set) {
+    for (unsigned p = 0; p < 8; p++)
+        if (watch_closed(s->record.bytes, p) != (int)(set >> p & 1)) return 0;
     return s->record.bytes[3] == set;
 }
 
@@ -96,13 +98,17 @@ static void check_named(struct subject *s) {
     for (unsigned p = 0; p < 8; p++) CHECK_REPLY(try_close(s, p), 0xa6 >> p & 1 ? refused(42) : closed(1));
     for (unsigned p = 0; p < 8; p++) CHECK_REPLY(try_close(s, p), refused(0xa6 >> p & 1 ? 42 : 41));
     CHECK(closed_are(s, 0x59));
-    start(s, 8, 1, "(at 0 0)"); /* the last of 32 counts too; one that left with its event taken does not */
+    start(s, 8, 1, "(at 0 0)"); /* each one that is pending counts; one that left with its event taken does not */
     for (unsigned i = 0; i < 32; i++) CHECK_REPLY(offer(s, 1, 32 - i, 0, 0, 0, 0), held(i + 1));
     for (unsigned i = 0; i < 32; i++) {
         CHECK_REPLY(try_close(s, 0), refused(42));
         CHECK_REPLY(try_take(s), state(0, 1));
     }
     CHECK_REPLY(try_close(s, 0), closed(1));
+    start(s, 8, 2, "(at 0 0)"); /* the last of 32 places: the higher process stands behind the lower */
+    for (unsigned i = 0; i < 31; i++) CHECK_REPLY(offer(s, 1, 2 + i, 0, 0, 0, 0), held(i + 1));
+    CHECK_REPLY(offer(s, 2, 0, 2, 0, 0, 0), held(32));
+    CHECK_REPLY(try_close(s, 1), refused(42));
 }
 
 /* By its mask, whatever its counts are: a new event, one that was taken, one with others. What is none is refused for

@@ -186,7 +186,7 @@ static bool list_run(struct list *l, const struct events *all) {
     if (!list_drain(l)) return false;
     list_close_rest(l, all);
     sent->closing = l->twin->record.bytes[3];
-    return true;
+    return list_drain(l);
 }
 
 /* The other order is of what the first one accepted and closed. What named a closed process there has no other answer
@@ -200,7 +200,7 @@ static bool other_run(struct list *l, const struct list *first) {
     for (unsigned i = 0; i < l->not_named.n; i++)
         if (l->not_named.event[i].mask & l->not_named.closing && list_offer(l, l->not_named.event[i]) != 42)
             differs("an event of a closed process, sent again, is not answered by 42");
-    return true;
+    return list_drain(l);
 }
 
 /* An event behind the last of these processes, with a clock that forgets: it shares no process and count with any

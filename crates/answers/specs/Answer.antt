@@ -8,7 +8,7 @@ use Rattle.codec.specs.Bit.{bit}
 use Rattle.frontiers.specs.declared.Frontier.{Frontier}
 
 pub data Answer : Type 0 where
-  -- turned back: a number of 01, and the byte's place where it has one (0 where it has none)
+  -- turned back: a number of 01 or 02, and the byte's place where it has one (0 where it has none)
   turnedBack : ℕ → ℕ → Answer
   -- opened, or an event taken: the taken counts, the rule's truth at the largest cut, the frontiers kept
   state : List ℕ → Bool → ℕ → Answer

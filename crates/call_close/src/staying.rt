@@ -16,7 +16,7 @@ ghost use Rattle.frontiers.specs.Bytes.{framed, replaced};
 ghost use Rattle.window.specs.Room.{RoomFor, PlaceFor};
 ghost use Rattle.call_close.specs.CloseCode.{staying, movedTo};
 
-// Moves frontier number i down to place m. (Mostly all before it stay, and it stands there already.)
+// Moves frontier number i down to place m. (It stands there already where all before it stay.)
 fn settle(window: &mut [u8], w: usize, i: usize, m: usize)
     requires { ⌜ Width w ⌝ }
     requires { ⌜ PlaceFor w i (now window) ⌝ }

@@ -1,6 +1,4 @@
--- Which cuts a window keeps (01, The window: dropped), and the condition of source 000 that it is compared with.
-
--- Some open process among the first k has all its taken events in the cut.
+-- Which cuts a window keeps (01, The window: dropped; 02 [5]), and the condition of source 000 that it is compared with.
 use Prim.Native.Nat.{ℕ, zero, suc, _<_}
 use mathlib.Core.Path.{_≡_}
 use mathlib.Core.Bool.{Bool, true, _&&_, _||_}
@@ -14,11 +12,12 @@ use Rattle.clocks.specs.Event.{Cut, involved, apply}
 use Rattle.clocks.specs.Bounded.{allBelow, anyOf}
 use Rattle.clocks.specs.Tested.{ready}
 
+-- Some open process among the first k has all its taken events in the cut.
 abbrev pub Complete : ℕ → (ℕ → Bool) → List Event → Cut → Type 0
 Complete k opened ts S = (p : ℕ) × (p < k) × T (opened p) × (S p ≡ taken ts p)
 
--- The cut is kept: such a process is there, or it is the largest cut. (01 drops a cut when every process has a taken
--- event beyond it; a set of open processes leaves room for closed ones, 02 [5].)
+-- The cut is kept: such a process is there, or it is the largest cut. (With all processes open that is 01's: a cut is
+-- dropped when every process has a taken event beyond it.)
 abbrev pub Kept : ℕ → (ℕ → Bool) → List Event → Cut → Type 0
 Kept k opened ts S = Complete k opened ts S ⊎ (S ≡ taken ts)
 

@@ -73,6 +73,6 @@ abbrev pub RightLengths : ℕ → Watch → ℕ → List ℕ → Type 0
 RightLengths w Z more scratch =
     (badWindowLength w (length (lentWindow Z more)) ≡ false) × (length scratch ≡ length (lentWindow Z more))
 
--- ... under a cap
+-- What the next take, under a cap, answers and leaves.
 abbrev pub nextTake : ℕ → Watch → ℕ → ℕ → List ℕ → Taken
 nextTake w Z cap more scratch = takeCapped w cap (Z .bytes) (lentWindow Z more) scratch

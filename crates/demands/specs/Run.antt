@@ -38,8 +38,8 @@ Passed w (takes cap zeros scratch) = Unit {0}
 Passed w (finds line) = Unit {0}
 Passed w (closes p) = Unit {0}
 
--- A watch between two calls: record and window, the ledger of the events that its calls accepted, those events, and the
--- answers so far, open's own among them, newest first.
+-- A watch between two calls: record and window, the ledger of the accepted events and of the closed processes, those
+-- events, and the answers so far, open's own among them, newest first.
 pub record Watch : Type 0 where
   pub bytes : List ℕ
   pub window : List ℕ

@@ -1,5 +1,5 @@
--- The conditions of the refusals that a record, a window or the state of a watch meets, each in 01's words (01, Turned
--- back).
+-- The conditions of the refusals that a record, a window or the state of a watch meets, each in the papers' words (01,
+-- Turned back; 02 [5]).
 use Prim.Native.Nat.{ℕ, _*_, _/_, _%_}
 use mathlib.Core.Bool.{Bool, not, _&&_, _||_}
 use mathlib.Core.List.{List}

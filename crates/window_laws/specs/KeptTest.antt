@@ -1,5 +1,4 @@
--- The test by which frontiers are kept says of a cut what it should: some open process has all its taken events in it,
--- or it is the largest.
+-- What the test for keeping a frontier means for its cut: it is complete for an open process, or all of the history.
 use Prim.Native.Nat.{ℕ, _≤_, _<_}
 use native.Mathlib.Omega.{arith}
 use native.Mathlib.Decide.{decLt}

@@ -1,6 +1,6 @@
--- The window alone tells whether a ready event's clock is valid: what the event knows of is among the kept frontiers
--- exactly if it is a consistent cut of the history (02 [2]). For the processes that take part have all their taken
--- events in it, so that it is kept.
+-- The window alone tells whether the clock of a ready event of open processes is valid: what the event knows of is among
+-- the kept frontiers exactly if it is a consistent cut of the history (02 [2]). For the processes that take part have
+-- all their taken events in it, so that it is kept.
 use Prim.Native.Nat.{ℕ, _≤_}
 use native.Mathlib.Omega.{arith}
 use mathlib.Core.Path.{_≡_, sym, ap, subst, _∙_}

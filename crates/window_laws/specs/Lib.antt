@@ -1,4 +1,4 @@
--- A window holds exactly the kept cuts, each line true exactly by PaCTL; a step keeps it so.
+-- A window holds exactly the kept cuts, each line true exactly by PaCTL; a step and a close keep it so.
 
 -- What a reader has to believe: what a window holds, and the theorems
 pub mod Represents

@@ -71,6 +71,8 @@ module _ (w k : ℕ) (f : Formula) (start : Cut) (Z : Watch) (S : Sound w k f st
         closed-below = X .closed-below;
         pending-open = X .names-open;
         nothing-ready = λ cap more scratch h. nothing-after w k f start Z S cap more scratch h;
+        kept-few =
+            omega (arith, X .few, says-kept w k table start (S .rule) (Z .ledger) (Z .bytes) (Z .window) (S .right));
         state-good = good;
         never-34 = not-34 w k f start Z S;
       }
