@@ -6,7 +6,7 @@ use frontiers::place::frontier_length;
 use frontiers::place::frontier_place;
 use frontiers::stored::counts_at;
 use window::prepared::open_ones;
-use window::prepared::stays_unbranched;
+use window::prepared::stays;
 ghost use Prim.Native.Nat.{_≤_};
 ghost use mathlib.Core.Path.{_≡_};
 ghost use lib.ListN.{length};
@@ -53,7 +53,7 @@ fn keep_staying(
     let mut i = 0;
     while i < n {
         let counts = counts_at(window, w, i);
-        if stays_unbranched(opens, reached, counts) {
+        if stays(opens, reached, counts) {
             settle(window, w, i, m);
             m += 1;
         }

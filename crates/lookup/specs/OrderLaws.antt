@@ -5,16 +5,18 @@ use native.Mathlib.Omega.{arith}
 use native.Mathlib.Decide.{decLt}
 use native.Mathlib.Nat.{le-refl, le-of-suc-le-suc}
 use native.Mathlib.Numerals.{add-one}
-use mathlib.Core.Path.{_≡_, refl}
+use mathlib.Core.Path.{_≡_, refl, sym, ap, subst, _∙_}
 use mathlib.Core.Bool.{or-false, Bool, true, _&&_, _||_, false}
 use mathlib.Core.List.{List, [], _∷_}
 use mathlib.Core.Logic.{_⊎_, inl, inr, ⊎-elim}
 use lib.Dec.{T, ltb, eqb, eqb→eq, ltb→lt, eqb-refl, lt→ltb}
 use lib.ListN.{length, getD, drop, drop-of-length-le}
-use lib.Seq.{drop-cons}
+use lib.Seq.{drop-cons, ext-getD}
 use borrow.Author.Tests.{lt-ltb, le-ltb, eq-eqb, ne-eqb}
-use Rattle.clocks.specs.stored.BoundedLaws.{and-i, and-l, and-r, or-e, same-test}
+use Rattle.clocks.specs.stored.BoundedLaws.{and-i, and-l, and-r, or-e, same-test, all-i, all-e}
+use Rattle.clocks.specs.Bounded.{allBelow}
 use Rattle.clocks.specs.Counts.{at, listOf}
+use Rattle.clocks.specs.cuts.EventLaws.{true-T}
 use Rattle.lookup.specs.Order.{before, same}
 
 -- ---- One count against another
@@ -45,6 +47,20 @@ same-e (x ∷ xs) (y ∷ ys) t = rw (eqb→eq x y (and-l (eqb x y) (same xs ys) 
 
 pub same-i : (a b : List ℕ) → a ≡ b → T (same a b)
 same-i a b e = rw e (same-refl b)
+
+-- ... count by count
+pub same-all : (a b : List ℕ) (n : ℕ) → length a ≡ n → length b ≡ n
+    → same a b ≡ allBelow n (λ p. eqb (at a p) (at b p))
+same-all a b n h k = same-test (same a b) (allBelow n (λ p. eqb (at a p) (at b p))) there back
+  where
+    there : T (same a b) → T (allBelow n (λ p. eqb (at a p) (at b p)))
+    there t =
+        all-i n (λ p. eqb (at a p) (at b p))
+        (λ p l. true-T (eq-eqb (at a p) (at b p) (ap (λ (c : List ℕ). at c p) (same-e a b t))))
+
+    back : T (allBelow n (λ p. eqb (at a p) (at b p))) → T (same a b)
+    back t = same-i a b (ext-getD 0 a b (h ∙ sym k)
+        (λ p l. eqb→eq (at a p) (at b p) (all-e n (λ q. eqb (at a q) (at b q)) t p (subst (λ (m : ℕ). p < m) h l))))
 
 -- ---- Before
 

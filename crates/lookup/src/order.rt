@@ -29,12 +29,15 @@ pub fn counts_before(a: [u32; 8], b: [u32; 8]) -> bool
     false
 }
 
-// Whether counts are the same.
+// Whether counts are the same. All eight are compared, without a branch, so that the compiler can do it at once.
 pub fn counts_same(a: [u32; 8], b: [u32; 8]) -> bool
     ensures { λ r. ⌜ r ≡ same a b ⌝ }
 {
-    if first_difference(a, b) < 8 {
-        return false;
+    let mut all = true;
+    let mut i = 0;
+    while i < 8 {
+        all = (a[i] == b[i]) & all;
+        i = i + 1;
     }
-    true
+    all
 }

@@ -1,34 +1,18 @@
 -- The tests of a step by counts alone are those of the definition, and what one more frontier adds to the number kept.
-use Prim.Native.Nat.{ℕ, _+_, _<_}
+use Prim.Native.Nat.{ℕ, _+_}
 use native.Mathlib.Omega.{arith}
 use native.Mathlib.Numerals.{add-one}
-use mathlib.Core.Path.{_≡_, refl, sym, ap, subst, _∙_}
+use mathlib.Core.Path.{_≡_, refl}
 use mathlib.Core.Bool.{Bool, true, false, cond}
 use mathlib.Core.List.{List, [], _∷_, _++_}
-use lib.Dec.{eqb, eqb→eq}
 use lib.ListN.{length, length-append}
-use lib.Seq.{ext-getD}
-use borrow.Author.Tests.{eq-eqb}
 use Rattle.clocks.specs.declared.Event.{Event}
 use Rattle.clocks.specs.Event.{one}
-use Rattle.clocks.specs.cuts.EventLaws.{true-T}
-use Rattle.clocks.specs.Counts.{at}
-use Rattle.clocks.specs.Bounded.{allBelow}
-use Rattle.clocks.specs.stored.BoundedLaws.{same-test, all-i, all-e}
-use Rattle.lookup.specs.Order.{same}
-use Rattle.lookup.specs.OrderLaws.{same-e, same-i}
 use Rattle.frontiers.specs.Bytes.{frontiers, frontierAt}
 use Rattle.frontiers.specs.WindowLaws.{frontiers-more}
 use Rattle.window.specs.Step.{Setting, stays, enabledAt, filtered, keptAfter}
 use Rattle.window.specs.StepCode.{settingWith, keptOf}
 use Rattle.window.specs.Lists.{filtered-append}
-
--- ---- Counts that are the same, test by test
-pub same-all : (xs ys : List ℕ) (n : ℕ) → length xs ≡ n → length ys ≡ n → same xs ys ≡ allBelow n (λ p. eqb (at xs p) (at ys p))
-same-all xs ys n h k =
-    same-test _ _
-    (λ t. all-i n (λ p. eqb (at xs p) (at ys p)) (λ p l. true-T (eq-eqb (at xs p) (at ys p) (ap (λ (zs : List ℕ). at zs p) (same-e xs ys t)))))
-    (λ t. same-i xs ys (ext-getD 0 xs ys (h ∙ sym k) (λ p l. eqb→eq (at xs p) (at ys p) (all-e n (λ q. eqb (at xs q) (at ys q)) t p (subst (λ (m : ℕ). p < m) h l)))))
 
 -- ---- The number kept
 length-filtered-more : {A : Type 0} (t : A → Bool) (xs : List A) (x : A) → length (filtered t (xs ++ (x ∷ []))) ≡ length (filtered t xs) + one (t x)

@@ -136,11 +136,3 @@ pub fn stays(opens: [bool; 8], reached: [u32; 8], counts: [u32; 8]) -> bool
     }
     lookup::order::counts_same(counts, reached)
 }
-
-// The same without a branch: both tests are made. That is quicker where a frontier is tested and moved and nothing
-// else, as by a close, and slower where it is counted.
-pub fn stays_unbranched(opens: [bool; 8], reached: [u32; 8], counts: [u32; 8]) -> bool
-    ensures { λ r. ⌜ ((k closed : ℕ) → k ≤ 8 → opens ≡ openOnes k closed → r ≡ staysWith k closed reached counts) ⌝ }
-{
-    some_complete(opens, reached, counts) | lookup::order::counts_same(counts, reached)
-}

@@ -2,9 +2,9 @@
 -- stay, in their order, are exactly the cuts that are kept where fewer processes are open.
 use Prim.Native.Nat.{ℕ}
 use native.Mathlib.Omega.{arith}
-use mathlib.Core.Path.{_≡_, refl, ap, subst⁻¹, _∙_}
+use mathlib.Core.Path.{refl, ap, subst⁻¹, _∙_}
 use mathlib.Core.Bool.{Bool, not}
-use mathlib.Core.List.{List, List·Memᴰ, map}
+use mathlib.Core.List.{List}
 use mathlib.Core.Logic.{inl, inr, _↔_}
 use lib.Dec.{T}
 use Rattle.codec.specs.Bit.{bit}

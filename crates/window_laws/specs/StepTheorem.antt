@@ -3,25 +3,21 @@
 -- could be taken.
 use Prim.Native.Nat.{ℕ, _≤_, _<_}
 use native.Mathlib.Omega.{arith}
-use native.Mathlib.Decide.{decLt}
-use mathlib.Core.Path.{_≡_, sym, ap, fun-ext, _∙_, refl, subst⁻¹, ap₂, subst}
-use mathlib.Core.Bool.{Bool, true, _&&_, _||_, false}
+use mathlib.Core.Path.{_≡_, sym, ap, _∙_, refl, subst⁻¹, ap₂, subst}
+use mathlib.Core.Bool.{Bool, true, false}
 use mathlib.Core.List.{List, _∷_, [], _++_, map, List·Memᴰ, append-nil, List·Memᴰ·head, List·Memᴰ·tail, List·Memᴰ·cases-cons, Memᴰ·append-left, List·Memᴰ·append-cases}
 use mathlib.Core.Logic.{inl, inr, ⊎-elim, _↔_}
-use lib.Dec.{T, eqb, eqb→eq}
+use lib.Dec.{T}
 use lib.ListN.{getD, replicate}
 use lib.Seq.{append-snoc}
-use borrow.Author.Tests.{eq-eqb}
 use Rattle.clocks.specs.declared.Event.{Event}
 use Rattle.clocks.specs.History.{taken, Consistent, Follows, Causal}
 use Rattle.clocks.specs.Event.{Cut, involved, Ready, apply, one}
 use Rattle.clocks.specs.validity.ClockRule.{history-causal, taken-silent, consistent-silent}
 use Rattle.clocks.specs.Kept.{Kept}
-use Rattle.clocks.specs.Bounded.{allBelow, anyBelow}
-use Rattle.clocks.specs.cuts.EventLaws.{true-T, T-true, ready-same, apply-next}
+use Rattle.clocks.specs.cuts.EventLaws.{T-true, ready-same, apply-next}
 use Rattle.clocks.specs.stored.TestedLaws.{involved-below, ready-test}
 use Rattle.clocks.specs.Counts.{at, listOf}
-use Rattle.clocks.specs.stored.BoundedLaws.{and-i, and-l, and-r, or-l, or-r, or-e, all-i, all-e, any-i, any-e}
 use Rattle.clocks.specs.stored.CountsLaws.{getD-listOf, at-listOf-all}
 use Rattle.clocks.specs.Valid.{WellFormed, Takeable, History}
 use Rattle.clocks.specs.cuts.Agree.{agree-old}

@@ -5,13 +5,13 @@
 use Prim.Native.Nat.{ℕ, _<_}
 use native.Mathlib.Omega.{arith}
 use native.Mathlib.Decide.{decLt}
-use mathlib.Core.Path.{_≡_, refl, ap}
+use mathlib.Core.Path.{_≡_, ap}
 use mathlib.Core.Bool.{Bool, true}
-use mathlib.Core.List.{List, [], _∷_, _++_, List·Memᴰ·head, List·Memᴰ·tail}
+use mathlib.Core.List.{List, [], _∷_, _++_}
 use mathlib.Core.Logic.{_⊎_, inl, inr, ⊎-elim, _↔_}
 use lib.Dec.{T}
 use Rattle.clocks.specs.declared.Event.{Event}
-use Rattle.clocks.specs.History.{taken, Consistent, In, Follows, Causal}
+use Rattle.clocks.specs.History.{taken, Consistent, Follows, Causal}
 use Rattle.clocks.specs.Event.{Cut, involved, Ready, apply}
 use Rattle.clocks.specs.Kept.{Kept, allOpen, KeptCut, Dropped}
 use Rattle.clocks.specs.cuts.EventLaws.{T-true, ready-same, apply-next}

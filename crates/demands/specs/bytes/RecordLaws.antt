@@ -5,7 +5,6 @@ use mathlib.Core.Path.{_≡_, refl, _∙_}
 use mathlib.Core.List.{List, [], _∷_, _++_}
 use lib.ListN.{length, drop, length-append, take}
 use lib.Seq.{take-at, drop-at}
-use lib.Dec.{lit<}
 use Rattle.codec.specs.Little.{bytesOf, number, Bytes}
 use Rattle.codec.specs.LittleLaws.{length-bytesOf, valueOf-bytesOf, Bytes-bytesOf}
 use Rattle.pactl.specs.TableBytesLaws.{linesOf-tableBytes}

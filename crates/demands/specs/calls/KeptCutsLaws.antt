@@ -11,10 +11,10 @@ use Rattle.pactl.specs.declared.Line.{Line}
 use Rattle.clocks.specs.declared.Event.{Event}
 use Rattle.codec.specs.Bit.{bit}
 use Rattle.codec.specs.BitLaws.{bit-zero}
-use Rattle.window_laws.specs.Represents.{Represents, openIn, frontierOf}
+use Rattle.window_laws.specs.Represents.{Represents, frontierOf}
 use Rattle.window_laws.specs.Unique.{sorted-unique}
 use Rattle.clocks.specs.Event.{Cut}
-use Rattle.clocks.specs.History.{taken, Consistent}
+use Rattle.clocks.specs.History.{taken}
 use Rattle.clocks.specs.Kept.{Kept}
 use Rattle.clocks.specs.Counts.{listOf}
 use Rattle.demands.specs.World.{worldOf, Stays, KeptCuts, KeptNumber}

@@ -45,8 +45,8 @@ counts-at-requires c κs =
     let a = start h .args in
     (search needs, (search needs, omega (arith, place-within (h .loop .i) (a .n) (a .w) (search needs))))
 
-stays-unbranched-requires : tie.Need-stays-unbranched-requires Inv-loop μ-loop
-stays-unbranched-requires c κs = search needs
+stays-requires : tie.Need-stays-requires Inv-loop μ-loop
+stays-requires c κs = search needs
 
 settle-requires : tie.Need-settle-requires Inv-loop μ-loop
 settle-requires c κs =
@@ -76,8 +76,8 @@ loop-again c =
     let fits : l .i * frontierLength (a .w) + frontierLength (a .w) ≤ length s = omega (arith, room) in
     let bytes : (i : ℕ) → getD s i 0 < 256 = λ i. h .before .before .slice-known .given i .fits in
     let same = read-here t (a .w) s (l .i) bytes fits (l .m) (l .window) (l .inv .1) in
-    let here : t (frontierAt (a .w) s (l .i)) ≡ c .before .stays-unbranched .result =
-    sym (c .before .stays-unbranched .ensures (a .k) (a .closed) (search needs) (h .before .open-ones .ensures)
+    let here : t (frontierAt (a .w) s (l .i)) ≡ c .before .stays .result =
+    sym (c .before .stays .ensures (a .k) (a .closed) (search needs) (h .before .open-ones .ensures)
     ∙ ap (staysWith (a .k) (a .closed) (a .reached)) (read .counts-at .ensures)
     ∙ ap t same) in
     let next = laid-next t (a .w) s (l .i) bytes fits (l .m) (l .window) (l .inv .1) in
@@ -107,7 +107,7 @@ keep-staying-spec =
     open-ones-requires
     loop-holds
     counts-at-requires
-    stays-unbranched-requires
+    stays-requires
     settle-requires
     add-m
     add-i

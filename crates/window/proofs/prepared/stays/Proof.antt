@@ -3,7 +3,7 @@ use borrow.Author.Needs.{needs}
 use mathlib.Core.Path.{_≡_, sym, _∙_}
 use mathlib.Core.Bool.{true, false}
 use Rattle.window.specs.StepCode.{complete}
-use Rattle.window.proofs.SettingSteps.{same-all}
+use Rattle.lookup.specs.OrderLaws.{same-all}
 use Rattle.window.proofs.prepared.stays.Statement.{statement}
 use Rattle.window.proofs.prepared.stays.Tie as tie
 
