@@ -1,4 +1,4 @@
--- The refusals' numbers (01, Turned back; 02 [5]: 41, 42). Each one's condition is a definition, named beside it.
+-- The refusals' numbers (01, Turned back; 02 [5]: 41, 42; [6]: 43). Each one's condition is a definition, named beside it.
 use Prim.Native.Nat.{ℕ}
 
 -- ---- From the input
@@ -80,3 +80,7 @@ notOpenNumber = 41
 -- refusals Refusals: namedBy at close, namesClosed at offer.
 abbrev pub namedNumber : ℕ
 namedNumber = 42
+
+-- call_move Move: overflows.
+abbrev pub tooLargeNumber : ℕ
+tooLargeNumber = 43

@@ -1,4 +1,4 @@
-// The refusals' numbers (01, Turned back; 02 [5]: 41, 42). Each one's condition is a definition, named beside it.
+// The refusals' numbers (01, Turned back; 02 [5]: 41, 42; [6]: 43). Each one's condition is a definition, named beside it.
 
 // From the input.
 
@@ -43,3 +43,5 @@ pub const NO_ROOM: u64 = 36;
 pub const NOT_OPEN: u64 = 41;
 // refusals Refusals: namedBy at close, namesClosed at offer.
 pub const NAMED: u64 = 42;
+// call_move Move: overflows.
+pub const TOO_LARGE: u64 = 43;

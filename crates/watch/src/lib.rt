@@ -1,9 +1,14 @@
-// The functions that C calls, on numbers and byte slices, for counts of two bytes.
+// The functions that C calls, on numbers and byte slices: those of the form with counts of two bytes.
 
+// Those of the form with counts of four bytes.
+pub mod wide;
+// A watch of one form written as one of the other.
+pub mod moves;
 // Counts and labels out of the words that C hands over.
 pub mod words;
 
 ghost use mathlib.Core.Path.{_≡_};
+ghost use mathlib.Core.List.{[], _∷_};
 ghost use Rattle.call_words.specs.Words.{unpackCounts, unpackLabels};
 ghost use Rattle.call_open.specs.Open.{openCall};
 ghost use Rattle.call_offer.specs.Offer.{offerCall};
@@ -33,8 +38,8 @@ pub extern "C" fn watch_open(
 // its labels are the bytes of a word.
 #[no_mangle]
 pub extern "C" fn watch_offer(mask: u64, low: u64, high: u64, labels: u64, record: &mut [u8]) -> u64
-    ensures reply { λ r. ⌜ r ≡ replyWord (offerCall 2 mask (unpackCounts low high) (unpackLabels labels) (now («record» .entry)) .answer) ⌝ }
-    ensures bytes { λ r. ⌜ now («record» .exit) ≡ offerCall 2 mask (unpackCounts low high) (unpackLabels labels) (now («record» .entry)) .bytes ⌝ }
+    ensures reply { λ r. ⌜ r ≡ replyWord (offerCall 2 mask (unpackCounts 2 (low ∷ high ∷ [])) (unpackLabels labels) (now («record» .entry)) .answer) ⌝ }
+    ensures bytes { λ r. ⌜ now («record» .exit) ≡ offerCall 2 mask (unpackCounts 2 (low ∷ high ∷ [])) (unpackLabels labels) (now («record» .entry)) .bytes ⌝ }
 {
     let clock = crate::words::unpack_counts(low, high);
     let bytes = crate::words::unpack_labels(labels);

@@ -1,0 +1,40 @@
+-- The parts of a record and of a window (01, The window; 02 [6]): bytes, which both forms have alike, and counts, which
+-- have w bytes each in the form of w. The order is the same in both forms.
+use Prim.Native.Nat.{ℕ, zero, suc, _+_, _*_}
+use mathlib.Core.List.{List, [], _∷_, _++_}
+
+pub data Part : Type 0 where
+  -- so many bytes
+  plain : ℕ → Part
+  -- so many counts
+  counts : ℕ → Part
+
+-- The length of a part, and of parts one behind the other.
+unfoldable pub partLength : ℕ → Part → ℕ
+partLength w (plain n) = n
+partLength w (counts n) = n * w
+
+unfoldable pub lengthOf : ℕ → List Part → ℕ
+lengthOf w [] = 0
+lengthOf w (p ∷ ps) = partLength w p + lengthOf w ps
+
+-- The parts of so many things of one kind, one behind the other.
+unfoldable pub repeated : ℕ → List Part → List Part
+repeated zero ps = []
+repeated (suc n) ps = ps ++ repeated n ps
+
+-- A pending event: its mask and seven bytes, its clock, its labels.
+abbrev pub eventParts : List Part
+eventParts = plain 8 ∷ counts 8 ∷ plain 8 ∷ []
+
+-- A record: its first eight bytes, the taken counts, each process's last clock, the table, 32 pending events.
+abbrev pub recordParts : List Part
+recordParts = plain 8 ∷ counts 8 ∷ counts 64 ∷ plain 192 ∷ repeated 32 eventParts
+
+-- A frontier: its counts; its labels, masks and values.
+abbrev pub frontierParts : List Part
+frontierParts = counts 8 ∷ plain 24 ∷ []
+
+-- A window that has room for so many frontiers.
+abbrev pub windowParts : ℕ → List Part
+windowParts n = repeated n frontierParts

@@ -1,0 +1,79 @@
+// The functions that C calls for counts of four bytes (02 [6]).
+
+ghost use mathlib.Core.Path.{_≡_};
+ghost use mathlib.Core.List.{[], _∷_};
+ghost use Rattle.call_words.specs.Words.{unpackCounts, unpackLabels};
+ghost use Rattle.call_open.specs.Open.{openCall};
+ghost use Rattle.call_offer.specs.Offer.{offerCall};
+ghost use Rattle.call_take.specs.Take.{takeCall};
+ghost use Rattle.call_find.specs.Find.{findCall};
+ghost use Rattle.call_close.specs.Close.{closeCall};
+ghost use Rattle.answers.specs.Answer.{replyWord};
+
+// Opens a watch with a rule's text, so many processes, and start labels that are the bytes of a word.
+#[no_mangle]
+pub extern "C" fn watch32_open(
+    rule: &[u8],
+    k: u64,
+    labels: u64,
+    record: &mut [u8],
+    window: &mut [u8],
+) -> u64
+    ensures reply { λ r. ⌜ r ≡ replyWord (openCall 4 (now (rule .entry)) k (unpackLabels labels) (now («record» .entry)) (now (window .entry)) .answer) ⌝ }
+    ensures bytes { λ r. ⌜ now («record» .exit) ≡ openCall 4 (now (rule .entry)) k (unpackLabels labels) (now («record» .entry)) (now (window .entry)) .bytes ⌝ }
+    ensures window { λ r. ⌜ now (window .exit) ≡ openCall 4 (now (rule .entry)) k (unpackLabels labels) (now («record» .entry)) (now (window .entry)) .window ⌝ }
+{
+    let bytes = crate::words::unpack_labels(labels);
+    call_open::open(4, rule, k, bytes, record, window)
+}
+
+// Offers an event. Its clock is in four words of two counts each, the lower process in the lower half; its labels are
+// the bytes of a word.
+#[no_mangle]
+pub extern "C" fn watch32_offer(
+    mask: u64,
+    c01: u64,
+    c23: u64,
+    c45: u64,
+    c67: u64,
+    labels: u64,
+    record: &mut [u8],
+) -> u64
+    ensures reply { λ r. ⌜ r ≡ replyWord (offerCall 4 mask (unpackCounts 4 (c01 ∷ c23 ∷ c45 ∷ c67 ∷ [])) (unpackLabels labels) (now («record» .entry)) .answer) ⌝ }
+    ensures bytes { λ r. ⌜ now («record» .exit) ≡ offerCall 4 mask (unpackCounts 4 (c01 ∷ c23 ∷ c45 ∷ c67 ∷ [])) (unpackLabels labels) (now («record» .entry)) .bytes ⌝ }
+{
+    let clock = crate::words::unpack_wide_counts(c01, c23, c45, c67);
+    let bytes = crate::words::unpack_labels(labels);
+    call_offer::offer(4, mask, clock, bytes, record)
+}
+
+// Takes the first pending event that is decided on.
+#[no_mangle]
+pub extern "C" fn watch32_take(record: &mut [u8], window: &mut [u8], scratch: &mut [u8]) -> u64
+    ensures reply { λ r. ⌜ r ≡ replyWord (takeCall 4 (now («record» .entry)) (now (window .entry)) (now (scratch .entry)) .answer) ⌝ }
+    ensures bytes { λ r. ⌜ now («record» .exit) ≡ takeCall 4 (now («record» .entry)) (now (window .entry)) (now (scratch .entry)) .bytes ⌝ }
+    ensures window { λ r. ⌜ now (window .exit) ≡ takeCall 4 (now («record» .entry)) (now (window .entry)) (now (scratch .entry)) .window ⌝ }
+    ensures scratch { λ r. ⌜ now (scratch .exit) ≡ takeCall 4 (now («record» .entry)) (now (window .entry)) (now (scratch .entry)) .scratch ⌝ }
+{
+    call_take::take(4, record, window, scratch)
+}
+
+// Finds the place of the first kept frontier at which a line holds.
+#[no_mangle]
+pub extern "C" fn watch32_find(line: u64, record: &[u8], window: &[u8]) -> u64
+    ensures { λ r. ⌜ r ≡ replyWord (findCall 4 line (now («record» .entry)) (now (window .entry))) ⌝ }
+{
+    call_find::find(4, line, record, window)
+}
+
+// Closes a process that will send no more.
+#[no_mangle]
+pub extern "C" fn watch32_close(process: u64, record: &mut [u8], window: &mut [u8]) -> u64
+    ensures reply { λ r. ⌜ r ≡ replyWord (closeCall 4 process (now («record» .entry)) (now (window .entry)) .answer) ⌝ }
+    ensures bytes { λ r. ⌜ now («record» .exit)
+        ≡ closeCall 4 process (now («record» .entry)) (now (window .entry)) .bytes ⌝ }
+    ensures window { λ r. ⌜ now (window .exit)
+        ≡ closeCall 4 process (now («record» .entry)) (now (window .entry)) .window ⌝ }
+{
+    call_close::close(4, process, record, window)
+}
