@@ -3,7 +3,14 @@
 -- What a reader has to believe
 pub mod Parts
 pub mod Move
+pub mod MoveExact
 -- What is proved
 pub mod PartLaws
+pub mod CountLaws
+pub mod BackLaws
+pub mod PlaceLaws
+pub mod FieldLaws
+pub mod MoveCases
+pub mod MoveTheorem
 -- What its functions' contracts cite
 pub mod MoveCode

@@ -60,7 +60,7 @@ number-countBytes w (c ∷ cs) rest h (suc p) l =
     (number-countBytes w cs rest (λ q. h (suc q)) p (le-of-suc-le-suc l))
 
 -- The bytes of the counts that are read are those that are there.
-countBytes-numbers : (w : ℕ) (s : List ℕ) → Bytes s → (n a : ℕ) → a + n * w ≤ length s
+pub countBytes-numbers : (w : ℕ) (s : List ℕ) → Bytes s → (n a : ℕ) → a + n * w ≤ length s
     → countBytes w (listOf n (λ p. number s (a + p * w) w)) ≡ take (n * w) (drop a s)
 unfolding countBytes listOf
 countBytes-numbers w s b zero a h = rw zero-mul
