@@ -20,9 +20,10 @@ use Rattle.frontiers.specs.Bytes.{frontierLength, frontierFrom, frontierAt}
 use Rattle.frontiers.specs.StoreLaws.{count-next}
 use Rattle.records.specs.Record.{eventLength, clocksPlace, tablePlace, pendingPlace, recordLength, processCount, lineTotal, pendingCount, closedMask, keptCount, takenCounts, lastClocks, tableLines, pendingAt}
 use Rattle.records.specs.RecordLaws.{event-parts}
-use Rattle.call_move.specs.Parts.{Part, plain, counts, partLength, lengthOf, repeated, eventParts, recordParts, frontierParts, windowParts}
-use Rattle.call_move.specs.PartLaws.{lengthOf-append, lengthOf-repeated, length-eventParts, length-recordParts, length-frontierParts, length-windowParts}
-use Rattle.call_move.specs.PlaceLaws.{repeated-apart, Stands, stands-at, part-at, byte-at, number-at}
+use Rattle.call_move.specs.Parts.{lengthOf, recordParts, windowParts}
+use Rattle.call_move.specs.PartLaws.{length-recordParts, length-windowParts}
+use Rattle.call_move.specs.PlaceLaws.{part-at, byte-at, number-at}
+use Rattle.call_move.specs.StandLaws.{head-stands, taken-stands, clocks-stand, table-stands, mask-stands, clock-stands, labels-stand, counts-stand, rest-stands}
 use Rattle.call_move.specs.MoveExact.{SameFields}
 use Rattle.call_move.specs.Move.{moved, someTooLarge}
 
@@ -42,67 +43,6 @@ lines-alike xs ys n h =
     same i l =
         let k : i < n = rw (length-linesFrom xs n 0) at l in
         getD-linesOf xs n i none k ∙ one i k ∙ sym (getD-linesOf ys n i none k)
-
--- ---- Places
-
-module _ (v w : ℕ) where
-  head-stands : Stands v w recordParts (plain 8) 0 0
-  unfolding lengthOf
-  head-stands = record { before = []; after = _; parts = refl; from = refl; to = refl }
-
-  taken-stands : Stands v w recordParts (counts 8) 8 8
-  unfolding lengthOf partLength
-  taken-stands = record { before = plain 8 ∷ []; after = _; parts = refl; from = refl; to = refl }
-
-  clocks-stand : Stands v w recordParts (counts 64) (clocksPlace v) (clocksPlace w)
-  unfolding lengthOf partLength
-  clocks-stand =
-      record { before = plain 8 ∷ counts 8 ∷ []; after = _; parts = refl; from = omega arith; to = omega arith }
-
-  abbrev toTable : List Part
-  toTable = plain 8 ∷ counts 8 ∷ counts 64 ∷ []
-
-  table-stands : Stands v w recordParts (plain 192) (tablePlace v) (tablePlace w)
-  unfolding lengthOf partLength
-  table-stands = record { before = toTable; after = _; parts = refl; from = omega arith; to = omega arith }
-
-  -- One of some things of a kind, and one of its parts.
-  module _ (first : List Part) (n : ℕ) (kind : List Part) (i : ℕ) (l : i < n) (earlier : List Part) (p : Part)
-      (later : List Part) (kind-is : kind ≡ earlier ++ (p ∷ later)) where
-    one-stands : Stands v w (first ++ repeated n kind) p
-        (lengthOf v first + i * lengthOf v kind + lengthOf v earlier)
-        (lengthOf w first + i * lengthOf w kind + lengthOf w earlier)
-    one-stands = record {
-      before = first ++ (repeated i kind ++ earlier);
-      after = later ++ repeated (n - suc i) kind;
-      parts =
-          let whole : n ≡ i + suc (n - suc i) = omega arith in
-          ap (λ (m : ℕ). first ++ repeated m kind) whole
-          ∙ ap (λ (ps : List Part). first ++ ps) (repeated-apart i (n - suc i) kind)
-          ∙ ap (λ (ps : List Part). first ++ (repeated i kind ++ (ps ++ repeated (n - suc i) kind))) kind-is
-          ∙ apart first (repeated i kind) earlier later (repeated (n - suc i) kind);
-      from = place v;
-      to = place w;
-    }
-      where
-        apart : (a b c d e : List Part) → a ++ (b ++ ((c ++ (p ∷ d)) ++ e)) ≡ (a ++ (b ++ c)) ++ (p ∷ (d ++ e))
-        apart a b c d e = simp append-assoc
-
-        place : (u : ℕ)
-            → lengthOf u (first ++ (repeated i kind ++ earlier))
-            ≡ lengthOf u first + i * lengthOf u kind + lengthOf u earlier
-        place u =
-            rw (
-              lengthOf-append u first (repeated i kind ++ earlier),
-              lengthOf-append u (repeated i kind) earlier,
-              lengthOf-repeated u i kind,
-            )
-            (omega arith)
-
--- What stands before the pending events.
-length-front : (u : ℕ) → lengthOf u (plain 8 ∷ counts 8 ∷ counts 64 ∷ plain 192 ∷ []) ≡ 200 + 72 * u
-unfolding lengthOf partLength
-length-front u = omega arith
 
 -- ---- A record
 
@@ -155,34 +95,6 @@ module _ (v w : ℕ) (s : List ℕ) (long : length s ≡ recordLength v) (fits :
 
   -- ---- pending events
   module _ (i : ℕ) (l : i < 32) where
-    abbrev first : List Part
-    first = plain 8 ∷ counts 8 ∷ counts 64 ∷ plain 192 ∷ []
-
-    start : (u : ℕ) (earlier : List Part) (n : ℕ) → lengthOf u earlier ≡ n
-        → lengthOf u first + i * lengthOf u eventParts + lengthOf u earlier ≡ pendingPlace u i + n
-    start u earlier n e = rw (length-front u, length-eventParts u, e)
-
-    mask-stands : Stands v w recordParts (plain 8) (pendingPlace v i + 0) (pendingPlace w i + 0)
-    unfolding lengthOf
-    mask-stands =
-        stands-at v w recordParts (plain 8) _ _ _ _ (one-stands v w first 32 eventParts i l [] (plain 8) _ refl)
-        (start v [] 0 refl) (start w [] 0 refl)
-
-    clock-stands : Stands v w recordParts (counts 8) (pendingPlace v i + 8) (pendingPlace w i + 8)
-    unfolding lengthOf partLength
-    clock-stands =
-        stands-at v w recordParts (counts 8) _ _ _ _
-        (one-stands v w first 32 eventParts i l (plain 8 ∷ []) (counts 8) _ refl)
-        (start v (plain 8 ∷ []) 8 refl) (start w (plain 8 ∷ []) 8 refl)
-
-    labels-stand : Stands v w recordParts (plain 8) (pendingPlace v i + (8 + 8 * v)) (pendingPlace w i + (8 + 8 * w))
-    unfolding lengthOf partLength
-    labels-stand =
-        stands-at v w recordParts (plain 8) _ _ _ _
-        (one-stands v w first 32 eventParts i l (plain 8 ∷ counts 8 ∷ []) (plain 8) _ refl)
-        (start v (plain 8 ∷ counts 8 ∷ []) (8 + 8 * v) (omega arith))
-        (start w (plain 8 ∷ counts 8 ∷ []) (8 + 8 * w) (omega arith))
-
     pending-same : pendingAt w t i ≡ pendingAt v s i
     pending-same =
         sym (event-parts w i t (pendingPlace w i) (getD s (pendingPlace v i) 0) clock labels refl mask-same clock-same
@@ -199,20 +111,20 @@ module _ (v w : ℕ) (s : List ℕ) (long : length s ≡ recordLength v) (fits :
         mask-same =
             let here : (u : ℕ) → pendingPlace u i + 0 + 0 ≡ pendingPlace u i = λ u. omega arith in
             sym (rw (here w, here v) at (byte-at v w recordParts 8 (pendingPlace v i + 0) (pendingPlace w i + 0) s enough
-            mask-stands 0 (omega arith)))
+            (mask-stands v w i l) 0 (omega arith)))
 
         clock-same : clock ≡ listOf 8 (λ p. number t (pendingPlace w i + 8 + p * w) w)
         clock-same =
             listOf-same 8 (λ p. number s (pendingPlace v i + 8 + p * v) v)
             (λ p. number t (pendingPlace w i + 8 + p * w) w)
             (λ p k.
-            sym (number-at v w recordParts 8 (pendingPlace v i + 8) (pendingPlace w i + 8) s enough clock-stands fits p k))
+            sym (number-at v w recordParts 8 (pendingPlace v i + 8) (pendingPlace w i + 8) s enough (clock-stands v w i l) fits p k))
 
         labels-same : labels ≡ take 8 (drop (pendingPlace w i + 8 + 8 * w) t)
         labels-same =
             let here : (u : ℕ) → pendingPlace u i + (8 + 8 * u) + 0 ≡ pendingPlace u i + 8 + 8 * u = λ u. omega arith in
             sym (rw (here w, here v) at (part-at v w recordParts 8 (pendingPlace v i + (8 + 8 * v))
-            (pendingPlace w i + (8 + 8 * w)) s enough labels-stand 0 8 (omega arith)))
+            (pendingPlace w i + (8 + 8 * w)) s enough (labels-stand v w i l) 0 8 (omega arith)))
 
   pub record-same : SameFields v w s t
   record-same = record {
@@ -243,27 +155,9 @@ module _ (v w n : ℕ) (s : List ℕ) (long : length s ≡ n * frontierLength v)
   abbrev to : ℕ
   to = i * frontierLength w
 
-  counts-stand : Stands v w (windowParts n) (counts 8) from to
-  unfolding lengthOf
-  counts-stand =
-      stands-at v w (windowParts n) (counts 8) _ _ _ _
-      (one-stands v w [] n frontierParts i l [] (counts 8) _ refl) (start v) (start w)
-    where
-      start : (u : ℕ) → 0 + i * lengthOf u frontierParts + 0 ≡ i * frontierLength u
-      start u = rw (length-frontierParts u) (omega arith)
-
-  rest-stands : Stands v w (windowParts n) (plain 24) (from + 8 * v) (to + 8 * w)
-  unfolding lengthOf partLength
-  rest-stands =
-      stands-at v w (windowParts n) (plain 24) _ _ _ _
-      (one-stands v w [] n frontierParts i l (counts 8 ∷ []) (plain 24) _ refl) (start v) (start w)
-    where
-      start : (u : ℕ) → 0 + i * lengthOf u frontierParts + (8 * u + 0) ≡ i * frontierLength u + 8 * u
-      start u = rw (length-frontierParts u) (omega arith)
-
   eight-same : (j : ℕ) → j + 8 ≤ 24 → take 8 (drop (to + 8 * w + j) u) ≡ take 8 (drop (from + 8 * v + j) s)
   eight-same j k =
-      part-at v w (windowParts n) 24 (from + 8 * v) (to + 8 * w) s enough-frontiers rest-stands j 8 k
+      part-at v w (windowParts n) 24 (from + 8 * v) (to + 8 * w) s enough-frontiers (rest-stands v w n i l) j 8 k
 
   labels-alike : take 8 (drop (to + 8 * w) u) ≡ take 8 (drop (from + 8 * v) s)
   labels-alike = simp add-zero at (eight-same 0 (omega arith))
@@ -275,7 +169,7 @@ module _ (v w n : ℕ) (s : List ℕ) (long : length s ≡ n * frontierLength v)
   counts-alike : listOf 8 (λ p. number u (to + p * w) w) ≡ listOf 8 (λ p. number s (from + p * v) v)
   counts-alike =
       listOf-same 8 (λ p. number u (to + p * w) w) (λ p. number s (from + p * v) v)
-      (λ p k. number-at v w (windowParts n) 8 from to s enough-frontiers counts-stand fits p k)
+      (λ p k. number-at v w (windowParts n) 8 from to s enough-frontiers (counts-stand v w n i l) fits p k)
 
   pub frontier-moved : frontierAt w u i ≡ frontierAt v s i
   unfolding frontierAt frontierFrom

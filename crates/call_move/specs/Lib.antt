@@ -9,6 +9,7 @@ pub mod PartLaws
 pub mod CountLaws
 pub mod BackLaws
 pub mod PlaceLaws
+pub mod StandLaws
 pub mod FieldLaws
 pub mod MoveCases
 pub mod MoveTheorem

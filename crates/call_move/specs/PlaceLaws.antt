@@ -124,3 +124,10 @@ module _ (v w : ℕ) (whole : List Part) (n a b : ℕ) (s : List ℕ) (h : lengt
   number-at z f i l =
       rw (← z .from, ← z .to, z .parts)
       (number-moved v w (z .before) n (z .after) s (rw (z .parts) at h) (rw (z .parts) at f) i l)
+
+  pub fit-at : Stands v w whole (counts n) a b → someTooLarge v w whole s ≡ false → (i : ℕ) → i < n
+      → number s (a + i * v) v < 256 ^ w
+  fit-at z f i l =
+      rw (← z .from, ← number-drop s (lengthOf v (z .before)) (i * v) v)
+      (counts-fit v w n (z .after) (drop (lengthOf v (z .before)) s)
+      (fit-behind v w (z .before) (counts n ∷ z .after) s (rw (z .parts) at f)) .0 i l)

@@ -8,6 +8,7 @@ pub mod World
 pub mod Verdict
 pub mod EveryList
 pub mod Earlier
+pub mod Written
 -- What is stated of every list, with no proofs: statements/X is proved in lists/X
 pub mod statements
 -- The invariant of a watch that was written by calls only

@@ -10,3 +10,4 @@ pub mod RoomLaws
 pub mod PendingLaws
 pub mod SetterLaws
 pub mod StatusLaws
+pub mod MovedLaws
