@@ -103,3 +103,22 @@ too-large v w s window t target q =
     go false h true i c j = let z : _≡_ {A = ℕ} 34 43 = rw (h, i) at q in absurd (omega arith)
     go false h false i true j = j
     go false h false i false j = let z : _≡_ {A = ℕ} 0 43 = rw (h, i, j) at q in absurd (omega arith)
+
+-- The number by the conditions.
+module _ (v w : ℕ) (s window t target : List ℕ) where
+  pub number-6 : badLengths v w (length s) (length window) (length t) (length target) ≡ true
+      → moveCall v w s window t target .number ≡ 6
+  unfolding moveCall
+  number-6 h = rw h
+
+  pub number-43 : badLengths v w (length s) (length window) (length t) (length target) ≡ false
+      → badState v (roomOf v (length window)) s ≡ false → overflows v w s window ≡ true
+      → moveCall v w s window t target .number ≡ 43
+  unfolding moveCall
+  number-43 h i j = rw (h, i, j)
+
+  pub number-0 : badLengths v w (length s) (length window) (length t) (length target) ≡ false
+      → badState v (roomOf v (length window)) s ≡ false → overflows v w s window ≡ false
+      → moveCall v w s window t target .number ≡ 0
+  unfolding moveCall
+  number-0 h i j = rw (h, i, j)

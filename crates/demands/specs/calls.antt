@@ -8,6 +8,7 @@ pub mod PendingOrder
 pub mod OpenLaws
 pub mod OfferLaws
 pub mod CloseLaws
+pub mod MoveLaws
 pub mod TakeLaws
 pub mod TakeLedger
 pub mod TakeLowers

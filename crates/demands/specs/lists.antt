@@ -18,3 +18,4 @@ pub mod Messages
 pub mod Earlier
 pub mod Close
 pub mod Dropped
+pub mod Moves

@@ -8,3 +8,4 @@ pub mod Again
 pub mod Messages
 pub mod Earlier
 pub mod Close
+pub mod Moves

@@ -7,13 +7,14 @@ use mathlib.Core.Bool.{false}
 use mathlib.Core.List.{List, [], _∷_, _++_, append-assoc, append-nil, List·Memᴰ, List·Memᴰ·head, List·Memᴰ·tail}
 use lib.ListN.{length, take, drop, length-append, length-replicate}
 use lib.Seq.{take-at, drop-at}
+use lib.Dec.{lit<}
 use Rattle.clocks.specs.declared.Event.{Event}
 use Rattle.clocks.specs.Event.{Cut}
 use Rattle.clocks.specs.Counts.{at, listOf}
 use Rattle.frontiers.specs.declared.Frontier.{Frontier}
 use Rattle.frontiers.specs.Bytes.{countBytes, frontierLength, frontierBytes, framed, windowBytes}
 use Rattle.frontiers.specs.Shaped.{Shaped, AllShaped}
-use Rattle.codec.specs.Little.{bytesOf}
+use Rattle.codec.specs.Little.{bytesOf, Bytes}
 use Rattle.frontiers.specs.BytesLaws.{length-countBytes, countBytes-append}
 use Rattle.records.specs.Record.{eventLength, eventBytes}
 use Rattle.call_move.specs.Parts.{Part, plain, counts, lengthOf, partLength, repeated, eventParts, recordParts, frontierParts, windowParts}
@@ -21,9 +22,9 @@ use Rattle.call_move.specs.PartLaws.{lengthOf-repeated, length-eventParts, leng
 use Rattle.call_move.specs.CountLaws.{counts-read}
 use Rattle.call_move.specs.Move.{countsFrom, moved, someTooLarge}
 use Rattle.demands.specs.Status.{Status, clockBytes, pendingBytes, recordBytes}
-use Rattle.demands.specs.bytes.PlaceLaws.{zeros, zeros-add, countBytes-zeros}
+use Rattle.demands.specs.bytes.PlaceLaws.{zeros, zeros-add, countBytes-zeros, Bytes-append, Bytes-zeros, Bytes-countBytes}
 use Rattle.demands.specs.bytes.RecordBlocks.{fit-listOf, AllStorable, clockRows, member-listOf, headOf, afterHead, afterCounts, afterClocks, tableBlock, pendingBlock, counts-split, length-headOf, length-tableBlock}
-use Rattle.codec.specs.LittleLaws.{pow-256-pos, length-bytesOf}
+use Rattle.codec.specs.LittleLaws.{pow-256-pos, length-bytesOf, Bytes-bytesOf}
 use Rattle.clocks.specs.stored.CountsLaws.{length-listOf}
 use Rattle.demands.specs.bytes.Sized.{Storable, Sized}
 
@@ -193,3 +194,25 @@ module _ (v w : ℕ) where
     where
       left : (u : ℕ) → n * frontierLength u - length fs * frontierLength u ≡ (n - length fs) * frontierLength u
       left u = sym (rw (mul-comm (n - length fs) (frontierLength u), mul-sub (frontierLength u) n (length fs), mul-comm (frontierLength u) n, mul-comm (frontierLength u) (length fs)))
+
+-- The bytes of a window are bytes.
+Bytes-frontier : (w : ℕ) (f : Frontier) → Shaped w f → Bytes (frontierBytes w f)
+unfolding frontierBytes
+Bytes-frontier w f z =
+    Bytes-append (countBytes w (f .counts) ++ f .labels ++ f .masks) (bytesOf 8 (f .values))
+    (Bytes-append (countBytes w (f .counts) ++ f .labels) (f .masks)
+    (Bytes-append (countBytes w (f .counts)) (f .labels) (Bytes-countBytes w (f .counts)) (z .labels-fit)) (z .masks-fit))
+    (Bytes-bytesOf 8 (f .values))
+
+Bytes-framed : (w : ℕ) (fs : List Frontier) → AllShaped w fs → Bytes (framed w fs)
+unfolding framed
+Bytes-framed w [] h = λ i. lit< tt
+Bytes-framed w (f ∷ fs) h =
+    Bytes-append (frontierBytes w f) (framed w fs) (Bytes-frontier w f (h f (List·Memᴰ·head refl)))
+    (Bytes-framed w fs (λ g m. h g (List·Memᴰ·tail m)))
+
+pub Bytes-windowBytes : (w total : ℕ) (fs : List Frontier) → AllShaped w fs → Bytes (windowBytes w total fs)
+unfolding windowBytes
+Bytes-windowBytes w total fs h =
+    let left : ℕ = total - length fs * frontierLength w in
+    Bytes-append (framed w fs) (zeros left) (Bytes-framed w fs h) (Bytes-zeros left)

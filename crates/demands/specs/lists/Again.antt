@@ -201,8 +201,8 @@ module _ (w k : ℕ) (f : Formula) (start : Cut) (Z : Watch) (S : Sound w k f st
           (omega (arith, l, pow-mono (S .rule .eight-processes)), repeated-here .0 (true-T (rw says at r)))
 
 -- ---- Theorem
-exact-of : (w k : ℕ) (f : Formula) (start : Cut) (Z : Watch) → Sound w k f start Z → AgainExact w k f start Z
-exact-of w k f start Z S =
+pub again-exact-of : (w k : ℕ) (f : Formula) (start : Cut) (Z : Watch) → Sound w k f start Z → AgainExact w k f start Z
+again-exact-of w k f start Z S =
     let X = S .right in
     record {
       again-exactly = λ mask clock labels p. (
@@ -218,4 +218,4 @@ exact-of w k f start Z S =
     }
 
 pub again-exact : AgainIsExact
-again-exact = every-list _ exact-of
+again-exact = every-list _ again-exact-of

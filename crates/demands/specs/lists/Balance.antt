@@ -12,7 +12,7 @@ use Rattle.demands.specs.statements.Balance.{AnswersBalanced, AnswersBal
 use Rattle.demands.specs.calls.WatchingLaws.{says-many}
 use Rattle.demands.specs.lists.SoundRun.{Sound, every-list}
 
-balanced-of : (w k : ℕ) (f : Formula) (start : Cut) (Z : Watch) → Sound w k f start Z → AnswersBalanced Z
+pub balanced-of : (w k : ℕ) (f : Formula) (start : Cut) (Z : Watch) → Sound w k f start Z → AnswersBalanced Z
 balanced-of w k f start Z S =
     let many : pendingCount (Z .bytes) ≡ length (Z .ledger .pending) =
     says-many w k (linesAt 0 f) start (S .rule) (Z .ledger) (Z .bytes) (Z .window) (S .right) in

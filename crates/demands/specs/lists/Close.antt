@@ -274,8 +274,8 @@ module _ (w k : ℕ) (f : Formula) (start : Cut) (Z : Watch) (S : Sound w k f st
             (p .0, both .0, both .1),
           )
 
-  exact-of : CloseExact w k f start Z
-  exact-of = record {
+  pub close-exact-of : CloseExact w k f start Z
+  close-exact-of = record {
     wrong-length = six-exactly;
     not-open = not-open-exactly;
     named = named-exactly;
@@ -289,4 +289,4 @@ module _ (w k : ℕ) (f : Formula) (start : Cut) (Z : Watch) (S : Sound w k f st
 
 -- ---- Theorem
 pub close-exact : CloseIsExact
-close-exact = every-list _ exact-of
+close-exact = every-list _ close-exact-of

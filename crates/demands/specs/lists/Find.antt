@@ -206,9 +206,9 @@ module _ (w k : ℕ) (f : Formula) (start : Cut) (Z : Watch) (S : Sound w k f st
       go true b = let e = eleven h line (leb-true (length table) line b) in cc
       go false b = absurd (looks-somewhere h line (leb-false (length table) line b) n q)
 
-  find-of : FindExact w k f start Z
+  pub find-exact-of : FindExact w k f start Z
   unfolding frontierOf
-  find-of = record {
+  find-exact-of = record {
     cuts = cuts;
     cuts-are = represented-cuts k (Z .ledger .closed) ts table start (S .right .kept) (S .right .represents);
     in-window = read ∙ S .right .represents .are;
@@ -236,4 +236,4 @@ module _ (w k : ℕ) (f : Formula) (start : Cut) (Z : Watch) (S : Sound w k f st
 
 -- ---- Theorem
 pub find-first : FindIsExact
-find-first = every-list _ find-of
+find-first = every-list _ find-exact-of

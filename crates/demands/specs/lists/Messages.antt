@@ -42,7 +42,7 @@ clock-exact-of w k f start Z S more e formed o r =
         ∙ says-frontiers w k (linesAt 0 f) start (S .rule) (Z .ledger) (Z .bytes) (lentWindow Z more) X
         (length (lentWindow Z more))
 
-messages-exact-of : (w k : ℕ) (f : Formula) (start : Cut) (Z : Watch) → Sound w k f start Z
+pub messages-exact-of : (w k : ℕ) (f : Formula) (start : Cut) (Z : Watch) → Sound w k f start Z
     → MessagesExact w k f start Z
 messages-exact-of w k f start Z S = record {
   clock-exactly = clock-exact-of w k f start Z S;

@@ -16,7 +16,7 @@ use Rattle.call_open.specs.Open.{Opened, openTable}
 use Rattle.answers.specs.Answer.{turnedBack, state}
 use Rattle.demands.specs.calls.OpenLaws.{OpenCase, open-case, opened-rule, opened-right, turned-back, opens, opened-start}
 use Rattle.demands.specs.Ledger.{occurrences}
-use Rattle.demands.specs.Run.{Call, Watch, after, run, opened}
+use Rattle.demands.specs.Run.{Call, Passed, Watch, after, run, opened}
 use Rattle.demands.specs.lists.LedgerBalance.{WatchBalanced, after-balanced}
 use Rattle.demands.specs.calls.AfterCall.{WatchRight, after-right}
 use Rattle.rules.specs.reading.ReaderAccepts.{reader-accepts}
@@ -31,20 +31,25 @@ pub record Sound (w k : ℕ) (f : Formula) (start : Cut) (Z : Watch) : Type 0 wh
   pub said : Said (Z .ledger) (Z .accepted) (Z .answers)
   pub reporting : Reporting w k f start rule (Z .ledger) (Z .answers)
 
--- From any sound watch on.
+-- After one more call, and from any sound watch on.
+pub after-sound : (w k : ℕ) (f : Formula) (start : Cut) (W : Watch) (c : Call) → Passed w c → Sound w k f start W
+    → Sound w k f start (after w c W)
+after-sound w k f start W c p S = record {
+  rule = S .rule;
+  right = after-right w k (linesAt 0 f) start (S .rule) W (S .right) c p;
+  balanced = after-balanced w k (linesAt 0 f) start (S .rule) W (S .right) (S .balanced) c;
+  said = after-said w k (linesAt 0 f) start (S .rule) W (S .right) (S .said) c;
+  reporting = after-reporting w k f start (S .rule) W (S .right) (S .reporting) c;
+}
+
 pub run-sound : (w k : ℕ) (f : Formula) (start : Cut) (cs : List Call) (W : Watch) → AllPassed w cs
     → Sound w k f start W
     → Sound w k f start (run w cs W)
 unfolding run
 run-sound w k f start [] W p S = S
-run-sound w k f start (c ∷ cs) W p S = run-sound w k f start cs (after w c W) (λ d m. p d (List·Memᴰ·tail m))
-    (record {
-      rule = S .rule;
-      right = after-right w k (linesAt 0 f) start (S .rule) W (S .right) c (p c (List·Memᴰ·head refl));
-      balanced = after-balanced w k (linesAt 0 f) start (S .rule) W (S .right) (S .balanced) c;
-      said = after-said w k (linesAt 0 f) start (S .rule) W (S .right) (S .said) c;
-      reporting = after-reporting w k f start (S .rule) W (S .right) (S .reporting) c;
-    })
+run-sound w k f start (c ∷ cs) W p S =
+    run-sound w k f start cs (after w c W) (λ d m. p d (List·Memᴰ·tail m))
+    (after-sound w k f start W c (p c (List·Memᴰ·head refl)) S)
 
 -- ---- Theorem
 -- the form is the one that the reader reads, whose text was opened (ReaderAccepts: reader-accepts)

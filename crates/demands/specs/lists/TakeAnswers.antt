@@ -267,7 +267,7 @@ module _ (w k : ℕ) (f : Formula) (start : Cut) (Z : Watch) (S : Sound w k f st
         ledger-state = state-ledger w k f start (S .rule) (Z .ledger) (Z .bytes) lent longer cap scratch b;
       }
 
-take-exact-of : (w k : ℕ) (f : Formula) (start : Cut) (Z : Watch) → Sound w k f start Z → TakeExact w k f start Z
+pub take-exact-of : (w k : ℕ) (f : Formula) (start : Cut) (Z : Watch) → Sound w k f start Z → TakeExact w k f start Z
 take-exact-of w k f start Z S = record {
   wrong-lengths = six-exactly w k f start Z S;
   right-lengths = answers-exact w k f start Z S;
