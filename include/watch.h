@@ -1,9 +1,24 @@
-/* The vault watcher's five calls: open a watch, offer it events, take them, find a frontier, close a process.
+/* The vault watcher's calls: open a watch, offer it events, take them, find a frontier, close a process; and write a
+ * watch of one form as one of the other.
  *
- * A watch is two buffers of the caller's: a record of WATCH_RECORD_BYTES and a window of 40 to 40,960 bytes, a
- * multiple of 40 (one frontier has 40). Take borrows a third, the scratch, as long as the window. The library has no
- * heap, no global state and no files: what it knows of a watch stands in these bytes, so a watch may be copied, stored
- * and moved, and different watches may be used from different threads.
+ * A watch is two buffers of the caller's, a record and a window. Take borrows a third, the scratch, as long as the
+ * window. The library has no heap, no global state and no files: what it knows of a watch stands in these bytes, so a
+ * watch may be copied and stored, and different watches may be used from different threads.
+ *
+ * There are two forms of a watch, which differ in the width of a count and so in lengths (since 0.7.0). Each has its
+ * own calls, and a call of one form cannot tell a watch of the other but by a length. All that is said of a call below
+ * is true of both forms, each with its own lengths.
+ *
+ *                      watch_open, _offer, ..          watch32_open, _offer, ..
+ *   a count            16 bits, to 65,535              32 bits, to 4,294,967,295
+ *   a clock            2 words of 4 counts             4 words of 2 counts
+ *   a frontier         40 bytes                        56 bytes
+ *   the record         1,368 bytes                     2,024 bytes
+ *   the window         40 to 40,960, a multiple of 40  56 to 57,344, a multiple of 56
+ *
+ * A new program opens the wide form, watch32. In the other a process can take no more than 65,535 events; before it
+ * comes to that, watch_widen writes its watch as one of the wide form, and watch_narrow the other way for a reader of
+ * old watches.
  *
  * What a caller has to keep, of every call:
  *   - each pointer is valid for the length given with it; where the length is 0 it may be anything, also NULL;
@@ -14,8 +29,8 @@
  * (WATCH_STACK_BYTES). x86-64 only.
  *
  * Processes are numbered from 0, at most eight. A word of labels has process p's byte at bits 8p to 8p + 7, of which
- * bit b says whether proposition b holds there. A clock is two words: counts of processes 0 to 3 and of 4 to 7, 16
- * bits each, the lower process lower.
+ * bit b says whether proposition b holds there. In a clock's words the counts stand in the order of the processes, the
+ * lower process in the lower bits: watch_counts and watch32_counts make such a word.
  *
  * A clock counts, for each process, the events that this one knows of, itself included. A process knows of its own
  * events, of a step that it took part in, and of what a message told it that another process left; and with an event it
@@ -33,8 +48,8 @@
 extern "C" {
 #endif
 
-#define WATCH_VERSION "0.6.0"    /* of this header and of the library that it was installed with */
-#define WATCH_VERSION_NUMBER 600 /* the same as a number: 10000 major + 100 minor + patch */
+#define WATCH_VERSION "0.7.0"    /* of this header and of the library that it was installed with */
+#define WATCH_VERSION_NUMBER 700 /* the same as a number: 10000 major + 100 minor + patch */
 
 #define WATCH_PROCESSES 8        /* at most so many processes */
 #define WATCH_LINES 64           /* a rule has at most so many lines */
@@ -43,6 +58,9 @@ extern "C" {
 #define WATCH_FRONTIER_BYTES 40
 #define WATCH_WINDOW_BYTES(room) ((size_t)(room) * WATCH_FRONTIER_BYTES)
 #define WATCH_RECORD_BYTES 1368
+#define WATCH32_FRONTIER_BYTES 56
+#define WATCH32_WINDOW_BYTES(room) ((size_t)(room) * WATCH32_FRONTIER_BYTES)
+#define WATCH32_RECORD_BYTES 2024
 #define WATCH_STACK_BYTES 16384  /* no call uses more stack */
 
 /* Why a call was refused. But for WATCH_CLOCK_FALSE nothing in record or window has changed then, not a byte. */
@@ -64,7 +82,8 @@ enum {
     WATCH_CLOCK_FALSE = 35, /* take: what an event says it knew cannot be; that event, and nothing else, is gone */
     WATCH_NO_ROOM = 36,     /* take: events are ready but none fits; lend a longer window */
     WATCH_NOT_OPEN = 41,    /* close: the watch has no such process, or it is closed already */
-    WATCH_NAMED = 42        /* close: a pending event names the process; offer: the event names a closed one */
+    WATCH_NAMED = 42,       /* close: a pending event names the process; offer: the event names a closed one */
+    WATCH_TOO_LARGE = 43    /* narrow: some count, in an unused place too, is above 65,535 */
 };
 
 /* A reply is one word: number, flag, value and place. A number above 0 is the refusal; a refusal has flag 0, value 0
@@ -91,6 +110,8 @@ static inline int watch_accepted(uint64_t reply) { return watch_value(reply) > 0
  *         (ey F) (ay F) (ep F) (ap F) (eh F) (ah F) (es F F) (as F F). */
 uint64_t watch_open(const uint8_t *rule, size_t rule_len, uint64_t k, uint64_t start_labels,
                     uint8_t *record, size_t record_len, uint8_t *window, size_t window_len);
+uint64_t watch32_open(const uint8_t *rule, size_t rule_len, uint64_t k, uint64_t start_labels,
+                      uint8_t *record, size_t record_len, uint8_t *window, size_t window_len);
 
 /* Offers an event: bit p of the mask says that process p took part, its clock counts each process's events that it
  * knows of, itself included, its labels hold afterwards. In any order: an event that comes before an earlier one of its
@@ -106,6 +127,8 @@ uint64_t watch_open(const uint8_t *rule, size_t rule_len, uint64_t k, uint64_t s
  * Refused, in this order with again among them: 6 record, 34, 7, 8, 9, 42, 31, again, 32, 33. Writes nothing then. */
 uint64_t watch_offer(uint64_t mask, uint64_t clock_low, uint64_t clock_high, uint64_t labels,
                      uint8_t *record, size_t record_len);
+uint64_t watch32_offer(uint64_t mask, uint64_t clock_01, uint64_t clock_23, uint64_t clock_45, uint64_t clock_67,
+                       uint64_t labels, uint8_t *record, size_t record_len);
 
 /* Takes one pending event that is ready, the one of the lowest process first, of those whose frontiers fit the window.
  * Accepted: flag is the rule's truth at the largest cut, value the number of frontiers kept (never 0); the counts
@@ -119,6 +142,8 @@ uint64_t watch_offer(uint64_t mask, uint64_t clock_low, uint64_t clock_high, uin
  * 0 afterwards, unless the refusal was 6 or 34. */
 uint64_t watch_take(uint8_t *record, size_t record_len, uint8_t *window, size_t window_len,
                     uint8_t *scratch, size_t scratch_len);
+uint64_t watch32_take(uint8_t *record, size_t record_len, uint8_t *window, size_t window_len,
+                      uint8_t *scratch, size_t scratch_len);
 
 /* Finds where a line of the rule holds: of the kept frontiers that have it, the one that stands first in the window.
  * Lines count from 0, the last is the rule (watch_lines - 1). A window that these calls wrote has its frontiers in
@@ -128,6 +153,8 @@ uint64_t watch_take(uint8_t *record, size_t record_len, uint8_t *window, size_t 
  * Refused, in this order: 6 record or window, 34, 11. */
 uint64_t watch_find(uint64_t line, const uint8_t *record, size_t record_len,
                     const uint8_t *window, size_t window_len);
+uint64_t watch32_find(uint64_t line, const uint8_t *record, size_t record_len,
+                      const uint8_t *window, size_t window_len);
 
 /* Closes a process that will send no more (since 0.6.0). Then the window keeps, in their order, the frontiers in which
  * some open process has all its taken events, and the largest; the others are gone, here and not only at the next
@@ -138,26 +165,51 @@ uint64_t watch_find(uint64_t line, const uint8_t *record, size_t record_len,
  * window, which is lent at the length that it has.
  * Refused, in this order: 6 record or window, 34, 41 (the whole word is judged), 42. Writes nothing then. */
 uint64_t watch_close(uint64_t process, uint8_t *record, size_t record_len, uint8_t *window, size_t window_len);
+uint64_t watch32_close(uint64_t process, uint8_t *record, size_t record_len, uint8_t *window, size_t window_len);
+
+/* Moves: watch_widen writes a watch of 16 bits as one of 32, watch_narrow one of 32 bits as one of 16 (since 0.7.0).
+ * The one that is read comes first and stays as it is. The two windows are of as many frontiers. Every place is
+ * written, used or not: the same processes, rule, taken and pending events, closed processes and kept frontiers, at the
+ * same places. There and back gives the old bytes. The moved watch goes on as the one that was read would have, with
+ * the calls of its form.
+ * Accepted: the whole reply is 0. Writes the two buffers that come last.
+ * Refused, in this order: 6 any of the four buffers, or windows not of as many frontiers, 34 of the watch that is read;
+ * narrow alone, 43: some count of its record or window, in an unused place too, is above 65,535. In a watch that these
+ * calls wrote that is so exactly if a taken count is, or a count of a pending event. Writes nothing then. */
+uint64_t watch_widen(const uint8_t *record, size_t record_len, const uint8_t *window, size_t window_len,
+                     uint8_t *record32, size_t record32_len, uint8_t *window32, size_t window32_len);
+uint64_t watch_narrow(const uint8_t *record32, size_t record32_len, const uint8_t *window32, size_t window32_len,
+                      uint8_t *record, size_t record_len, uint8_t *window, size_t window_len);
 
 static inline unsigned watch_bytes2(const uint8_t *at) { return at[0] | (unsigned)at[1] << 8; }
+static inline uint32_t watch_bytes4(const uint8_t *at) {
+    return watch_bytes2(at) | (uint32_t)watch_bytes2(at + 2) << 16;
+}
 
-/* Of a record that open wrote: lines of the rule, pending events, frontiers kept, whether process p (0 to 7) is closed,
- * and how many of its events were taken. */
+/* Of a record that open or a move wrote, in either form: lines of the rule, pending events, frontiers kept, whether
+ * process p (0 to 7) is closed. */
 static inline unsigned watch_lines(const uint8_t *record) { return record[1]; }
 static inline unsigned watch_pending(const uint8_t *record) { return record[2]; }
 static inline unsigned watch_kept(const uint8_t *record) { return watch_bytes2(record + 4); }
 static inline int watch_closed(const uint8_t *record, unsigned p) { return record[3] >> p & 1; }
-static inline unsigned watch_taken(const uint8_t *record, unsigned p) { return watch_bytes2(record + 8 + 2 * p); }
 
-/* Of the frontier at a place below watch_kept: process p's count in that cut. */
+/* How many events of process p were taken, by the form of the record. */
+static inline unsigned watch_taken(const uint8_t *record, unsigned p) { return watch_bytes2(record + 8 + 2 * p); }
+static inline uint32_t watch32_taken(const uint8_t *record, unsigned p) { return watch_bytes4(record + 8 + 4 * p); }
+
+/* Of the frontier at a place below watch_kept: process p's count in that cut, by the form of the window. */
 static inline unsigned watch_cut(const uint8_t *window, size_t place, unsigned p) {
     return watch_bytes2(window + WATCH_FRONTIER_BYTES * place + 2 * p);
 }
+static inline uint32_t watch32_cut(const uint8_t *window, size_t place, unsigned p) {
+    return watch_bytes4(window + WATCH32_FRONTIER_BYTES * place + 4 * p);
+}
 
-/* Four counts as one word of a clock. */
+/* Four counts as one word of a clock, or two of 32 bits. */
 static inline uint64_t watch_counts(uint16_t a, uint16_t b, uint16_t c, uint16_t d) {
     return (uint64_t)a | (uint64_t)b << 16 | (uint64_t)c << 32 | (uint64_t)d << 48;
 }
+static inline uint64_t watch32_counts(uint32_t a, uint32_t b) { return (uint64_t)a | (uint64_t)b << 32; }
 
 #ifdef __cplusplus
 }
