@@ -1,7 +1,7 @@
 -- There and back: parts that were moved come back as they were.
 use Prim.Native.Nat.{ℕ, _+_, _*_, _^_, _≤_, _<_}
 use native.Mathlib.Omega.{arith}
-use mathlib.Core.Path.{_≡_, refl, sym, ap, ap₂, _∙_}
+use mathlib.Core.Path.{_≡_, refl, ap, _∙_}
 use mathlib.Core.Bool.{false}
 use mathlib.Core.List.{List, [], _∷_, _++_}
 use lib.ListN.{length, take, drop, length-drop}
@@ -9,7 +9,6 @@ use lib.Seq.{take-at, drop-at, take-add, length-take-le}
 use Rattle.codec.specs.Little.{number, Bytes}
 use Rattle.codec.specs.LittleLaws.{Bytes-drop, pow-256-pos}
 use Rattle.codec.specs.PutLaws.{number-lt}
-use Rattle.clocks.specs.Counts.{at}
 use Rattle.frontiers.specs.Bytes.{countBytes}
 use Rattle.frontiers.specs.BytesLaws.{number-countBytes, length-countBytes}
 use Rattle.call_move.specs.Parts.{Part, plain, counts, partLength, lengthOf}
@@ -25,7 +24,8 @@ module _ (v w : ℕ) where
 
     pub read-again : countsFrom w n (countBytes w (countsFrom v n s) ++ rest) ≡ countsFrom v n s
     read-again =
-        counts-read w n (countsFrom v n s) rest (length-countsFrom v n s) (counts-below v n (256 ^ w) s (pow-256-pos w) f)
+        counts-read w n (countsFrom v n s) rest (length-countsFrom v n s)
+        (counts-below v n (256 ^ w) s (pow-256-pos w) f)
 
     pub number-again : (i : ℕ) → i < n
         → number (countBytes w (countsFrom v n s) ++ rest) (i * w) w ≡ number s (i * v) v

@@ -1,10 +1,10 @@
 -- Counts that fit, read with one width and written with another.
-use Prim.Native.Nat.{ℕ, zero, suc, _+_, _*_, _^_, _≤_, _<_}
+use Prim.Native.Nat.{ℕ, _+_, _*_, _^_, _≤_, _<_}
 use native.Mathlib.Omega.{arith}
 use native.Mathlib.Decide.{decLt}
 use native.Mathlib.Nat.{zero-add, lt-of-lt-of-le, pow-le-pow-right}
 use mathlib.Core.Path.{_≡_, refl, sym, ap, _∙_}
-use mathlib.Core.Bool.{Bool, true, false, _||_}
+use mathlib.Core.Bool.{false}
 use mathlib.Core.List.{List, [], _∷_, _++_}
 use lib.Dec.{lit<}
 use lib.ListN.{length, take, drop}
@@ -12,7 +12,7 @@ use borrow.Author.Tests.{leb-false, lt-leb}
 use Rattle.codec.specs.Little.{number, Bytes}
 use Rattle.codec.specs.LittleLaws.{Bytes-drop}
 use Rattle.codec.specs.PutLaws.{number-lt}
-use Rattle.clocks.specs.Counts.{at, listOf}
+use Rattle.clocks.specs.Counts.{at}
 use Rattle.clocks.specs.stored.CountsLaws.{filled, at-listOf, at-beyond, listOf-same}
 use Rattle.clocks.specs.stored.BoundedTurns.{any-false-i, any-false-e}
 use Rattle.clocks.specs.stored.BoundedLaws.{or-false-e}
@@ -42,7 +42,8 @@ pub counts-fit : (v w n : ℕ) (ps : List Part) (s : List ℕ) → someTooLarge 
 unfolding someTooLarge
 counts-fit v w n ps s h =
     let both = or-false-e _ _ h in
-    ((λ i l. fits-e w (number s (i * v) v) (any-false-e n (λ j. tooLarge w (number s (j * v) v)) (both .0) i l)), both .1)
+    let each = any-false-e n (λ j. tooLarge w (number s (j * v) v)) (both .0) in
+    ((λ i l. fits-e w (number s (i * v) v) (each i l)), both .1)
 
 pub fit-counts : (v w n : ℕ) (ps : List Part) (s : List ℕ) → Fit v w n s → someTooLarge v w ps (drop (n * v) s) ≡ false
     → someTooLarge v w (counts n ∷ ps) s ≡ false

@@ -1,10 +1,10 @@
 -- The fields of a record, and the frontiers of a window, are read after a move as they were before it.
-use Prim.Native.Nat.{ℕ, suc, _+_, _-_, _*_, _≤_, _<_}
+use Prim.Native.Nat.{ℕ, _+_, _-_, _*_, _≤_, _<_}
 use native.Mathlib.Omega.{arith}
-use native.Mathlib.Nat.{add-assoc, add-zero, zero-add, add-mul, mul-assoc, mul-comm}
-use mathlib.Core.Path.{_≡_, refl, sym, ap, ap₂, _∙_}
+use native.Mathlib.Nat.{add-zero, zero-add, add-mul, mul-assoc, mul-comm}
+use mathlib.Core.Path.{_≡_, refl, sym, ap, _∙_}
 use mathlib.Core.Bool.{false}
-use mathlib.Core.List.{List, [], _∷_, _++_, append-assoc}
+use mathlib.Core.List.{List}
 use lib.ListN.{length, getD, take, drop}
 use lib.Seq.{ext-getD, getD-drop}
 use Rattle.codec.specs.Little.{number, valueOf}
@@ -12,13 +12,10 @@ use Rattle.pactl.specs.declared.Line.{Line}
 use Rattle.pactl.specs.Line.{line}
 use Rattle.pactl.specs.TableBytes.{lineAt, linesOf}
 use Rattle.pactl.specs.TableBytesLaws.{getD-linesOf, length-linesFrom}
-use Rattle.clocks.specs.declared.Event.{Event}
 use Rattle.clocks.specs.Counts.{listOf}
 use Rattle.clocks.specs.stored.CountsLaws.{listOf-same}
-use Rattle.frontiers.specs.declared.Frontier.{Frontier}
 use Rattle.frontiers.specs.Bytes.{frontierLength, frontierFrom, frontierAt}
-use Rattle.frontiers.specs.StoreLaws.{count-next}
-use Rattle.records.specs.Record.{eventLength, clocksPlace, tablePlace, pendingPlace, recordLength, processCount, lineTotal, pendingCount, closedMask, keptCount, takenCounts, lastClocks, tableLines, pendingAt}
+use Rattle.records.specs.Record.{clocksPlace, tablePlace, pendingPlace, recordLength, lineTotal, keptCount, takenCounts, lastClocks, tableLines, pendingAt}
 use Rattle.records.specs.RecordLaws.{event-parts}
 use Rattle.call_move.specs.Parts.{lengthOf, recordParts, windowParts}
 use Rattle.call_move.specs.PartLaws.{length-recordParts, length-windowParts}
@@ -110,15 +107,16 @@ module _ (v w : ℕ) (s : List ℕ) (long : length s ≡ recordLength v) (fits :
         mask-same : getD s (pendingPlace v i) 0 ≡ getD t (pendingPlace w i) 0
         mask-same =
             let here : (u : ℕ) → pendingPlace u i + 0 + 0 ≡ pendingPlace u i = λ u. omega arith in
-            sym (rw (here w, here v) at (byte-at v w recordParts 8 (pendingPlace v i + 0) (pendingPlace w i + 0) s enough
-            (mask-stands v w i l) 0 (omega arith)))
+            sym (rw (here w, here v) at (byte-at v w recordParts 8 (pendingPlace v i + 0) (pendingPlace w i + 0) s
+            enough (mask-stands v w i l) 0 (omega arith)))
 
         clock-same : clock ≡ listOf 8 (λ p. number t (pendingPlace w i + 8 + p * w) w)
         clock-same =
             listOf-same 8 (λ p. number s (pendingPlace v i + 8 + p * v) v)
             (λ p. number t (pendingPlace w i + 8 + p * w) w)
             (λ p k.
-            sym (number-at v w recordParts 8 (pendingPlace v i + 8) (pendingPlace w i + 8) s enough (clock-stands v w i l) fits p k))
+            sym (number-at v w recordParts 8 (pendingPlace v i + 8) (pendingPlace w i + 8) s enough
+            (clock-stands v w i l) fits p k))
 
         labels-same : labels ≡ take 8 (drop (pendingPlace w i + 8 + 8 * w) t)
         labels-same =

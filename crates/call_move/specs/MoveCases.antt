@@ -2,8 +2,8 @@
 use Prim.Native.Nat.{ℕ, _*_, _/_, _%_}
 use native.Mathlib.Omega.{arith}
 use native.Mathlib.Nat.{div-add-mod, mul-comm}
-use mathlib.Core.Path.{_≡_, refl, sym, ap, _∙_}
-use mathlib.Core.Bool.{Bool, true, false, not, _||_}
+use mathlib.Core.Path.{_≡_, refl}
+use mathlib.Core.Bool.{Bool, true, false, not}
 use mathlib.Core.List.{List}
 use lib.Dec.{eqb, ltb}
 use lib.ListN.{length}
@@ -14,7 +14,7 @@ use Rattle.records.specs.Record.{recordLength}
 use Rattle.refusals.specs.Refusals.{badRecordLength, badWindowLength, roomOf, badState}
 use Rattle.refusals.specs.RefusalLaws.{right-length}
 use Rattle.call_move.specs.Parts.{recordParts, windowParts}
-use Rattle.call_move.specs.Move.{Moved, moved, someTooLarge, badLengths, overflows, moveCall}
+use Rattle.call_move.specs.Move.{moved, badLengths, overflows, moveCall}
 
 -- ---- Lengths
 

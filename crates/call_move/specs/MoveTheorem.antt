@@ -1,16 +1,16 @@
 -- Every accepted move, on all bytes: the same fields and frontiers, the same refusal by 34, and the way back.
-use Prim.Native.Nat.{ℕ, _+_, _*_, _/_, _≤_, _<_}
+use Prim.Native.Nat.{ℕ, _*_}
 use native.Mathlib.Omega.{arith}
-use mathlib.Core.Path.{_≡_, refl, sym, ap, _∙_}
-use mathlib.Core.Bool.{Bool, true, false, _||_, true≢false}
+use mathlib.Core.Path.{_≡_, sym, ap, _∙_}
+use mathlib.Core.Bool.{false, true≢false}
 use mathlib.Core.List.{List}
-use lib.ListN.{length, take}
+use lib.ListN.{length}
 use lib.Seq.{take-all}
 use Rattle.codec.specs.Little.{Bytes}
 use Rattle.clocks.specs.stored.BoundedLaws.{or-false-e}
 use Rattle.frontiers.specs.Bytes.{frontierLength}
-use Rattle.records.specs.Record.{recordLength, lineTotal}
-use Rattle.refusals.specs.Refusals.{badRecordLength, badWindowLength, roomOf, badState}
+use Rattle.records.specs.Record.{recordLength}
+use Rattle.refusals.specs.Refusals.{roomOf, badState}
 use Rattle.refusals.specs.RefusalLaws.{state-within}
 use Rattle.call_move.specs.Parts.{lengthOf, recordParts, windowParts}
 use Rattle.call_move.specs.PartLaws.{length-recordParts, length-windowParts, length-moved}
@@ -18,10 +18,11 @@ use Rattle.call_move.specs.CountLaws.{none-too-large}
 use Rattle.call_move.specs.BackLaws.{fit-again, moved-back}
 use Rattle.call_move.specs.FieldLaws.{record-same, frontier-moved}
 use Rattle.call_move.specs.MoveCases.{Lengths, right-lengths, lengths-right, whole-window, Passes, passes, too-large}
-use Rattle.call_move.specs.MoveExact.{SameFields, Accepted, MoveExact, WidenNever43}
-use Rattle.call_move.specs.Move.{Moved, moved, someTooLarge, badLengths, overflows, moveCall}
+use Rattle.call_move.specs.MoveExact.{SameFields, MoveExact, WidenNever43}
+use Rattle.call_move.specs.Move.{moved, someTooLarge, badLengths, overflows, moveCall}
 
-module _ (v w : ℕ) (s window t target : List ℕ) (b : Bytes s) (c : Bytes window) (p : Passes v w s window t target) where
+module _ (v w : ℕ) (s window t target : List ℕ) (b : Bytes s) (c : Bytes window)
+    (p : Passes v w s window t target) where
   abbrev n : ℕ
   n = roomOf v (length window)
 

@@ -3,12 +3,12 @@ use Prim.Native.Nat.{ℕ, zero, suc, _+_, _*_, _≤_}
 use native.Mathlib.Omega.{arith}
 use native.Mathlib.Nat.{zero-mul, suc-mul}
 use mathlib.Core.Path.{_≡_, refl, sym, ap, _∙_}
-use mathlib.Core.Bool.{Bool, true, false, _||_, or-assoc}
+use mathlib.Core.Bool.{_||_, or-assoc}
 use mathlib.Core.List.{List, [], _∷_, _++_, append-assoc, append-nil}
-use lib.ListN.{length, take, drop, length-append, length-drop}
+use lib.ListN.{length, drop, length-append, length-drop}
 use lib.Seq.{drop-drop, length-take-le}
 use Rattle.clocks.specs.stored.CountsLaws.{length-listOf}
-use Rattle.frontiers.specs.Bytes.{frontierLength, countBytes}
+use Rattle.frontiers.specs.Bytes.{frontierLength}
 use Rattle.frontiers.specs.BytesLaws.{length-countBytes}
 use Rattle.records.specs.Record.{recordLength, eventLength}
 use Rattle.call_move.specs.Parts.{Part, plain, counts, partLength, lengthOf, repeated, eventParts, recordParts, frontierParts, windowParts}
@@ -24,7 +24,8 @@ lengthOf-append w (p ∷ ps) qs = rw (lengthOf-append w ps qs) (omega arith)
 pub lengthOf-repeated : (w n : ℕ) (ps : List Part) → lengthOf w (repeated n ps) ≡ n * lengthOf w ps
 unfolding lengthOf repeated
 lengthOf-repeated w zero ps = sym (zero-mul (lengthOf w ps))
-lengthOf-repeated w (suc n) ps = rw (lengthOf-append w ps (repeated n ps), lengthOf-repeated w n ps, suc-mul) (omega arith)
+lengthOf-repeated w (suc n) ps =
+    rw (lengthOf-append w ps (repeated n ps), lengthOf-repeated w n ps, suc-mul) (omega arith)
 
 pub length-eventParts : (w : ℕ) → lengthOf w eventParts ≡ eventLength w
 unfolding lengthOf partLength
@@ -85,7 +86,11 @@ pub length-moved : (v w : ℕ) (ps : List Part) (s : List ℕ) → lengthOf v ps
 unfolding moved lengthOf partLength
 length-moved v w [] s h = refl
 length-moved v w (plain n ∷ ps) s h =
-    rw (length-append, length-take-le n s (omega arith), length-moved v w ps (drop n s) (rw (length-drop n s) (omega arith)))
+    rw (
+      length-append,
+      length-take-le n s (omega arith),
+      length-moved v w ps (drop n s) (rw (length-drop n s) (omega arith)),
+    )
 length-moved v w (counts n ∷ ps) s h =
     rw (
       length-append,

@@ -6,16 +6,16 @@ use mathlib.Core.Path.{_≡_, refl, sym, ap, _∙_}
 use mathlib.Core.Bool.{false}
 use mathlib.Core.List.{List, [], _∷_, _++_, append-assoc}
 use lib.ListN.{length, getD, take, drop, length-drop}
-use lib.Seq.{take-at, drop-at, drop-drop, getD-drop, getD-take, length-take-le}
+use lib.Seq.{take-at, drop-at, drop-drop, length-take-le}
 use Rattle.codec.specs.Little.{number}
 use Rattle.codec.specs.PutLaws.{number-drop}
 use Rattle.frontiers.specs.ListLaws.{part-alike}
 use Rattle.clocks.specs.stored.BoundedLaws.{or-false-e}
 use Rattle.call_move.specs.Parts.{Part, plain, counts, partLength, lengthOf, repeated}
 use Rattle.call_move.specs.PartLaws.{lengthOf-append, moved-append, someTooLarge-append, length-moved}
-use Rattle.call_move.specs.CountLaws.{Fit, counts-fit}
+use Rattle.call_move.specs.CountLaws.{counts-fit}
 use Rattle.call_move.specs.BackLaws.{number-again}
-use Rattle.call_move.specs.Move.{countsFrom, moved, someTooLarge}
+use Rattle.call_move.specs.Move.{moved, someTooLarge}
 
 -- Things of one kind: some, one, and the others.
 pub repeated-apart : (i j : ℕ) (ps : List Part) → repeated (i + suc j) ps ≡ repeated i ps ++ (ps ++ repeated j ps)
@@ -38,47 +38,48 @@ module _ (v w : ℕ) (ps qs : List Part) (s : List ℕ) where
       (sym (someTooLarge-append v w ps qs s) ∙ f) .1
 
 -- Bytes behind some parts.
-module _ (v w : ℕ) (ps : List Part) (n : ℕ) (qs : List Part) (s : List ℕ) (h : lengthOf v (ps ++ (plain n ∷ qs)) ≤ length s)
-  where
-    enough : lengthOf v ps + n ≤ length s
-    unfolding lengthOf partLength
-    enough = omega (arith, lengthOf-append v ps (plain n ∷ qs))
+module _ (v w : ℕ) (ps : List Part) (n : ℕ) (qs : List Part) (s : List ℕ)
+    (h : lengthOf v (ps ++ (plain n ∷ qs)) ≤ length s) where
+  enough : lengthOf v ps + n ≤ length s
+  unfolding lengthOf partLength
+  enough = omega (arith, lengthOf-append v ps (plain n ∷ qs))
 
-    there : drop (lengthOf w ps) (moved v w (ps ++ (plain n ∷ qs)) s)
-        ≡ take n (drop (lengthOf v ps) s) ++ moved v w qs (drop n (drop (lengthOf v ps) s))
-    unfolding moved
-    there = behind v w ps (plain n ∷ qs) s (omega (arith, enough))
+  there : drop (lengthOf w ps) (moved v w (ps ++ (plain n ∷ qs)) s)
+      ≡ take n (drop (lengthOf v ps) s) ++ moved v w qs (drop n (drop (lengthOf v ps) s))
+  unfolding moved
+  there = behind v w ps (plain n ∷ qs) s (omega (arith, enough))
 
-    pub part-moved : (i m : ℕ) → i + m ≤ n
-        → take m (drop (lengthOf w ps + i) (moved v w (ps ++ (plain n ∷ qs)) s)) ≡ take m (drop (lengthOf v ps + i) s)
-    part-moved i m l =
-        let tail = drop (lengthOf v ps) s in
-        let long : length (take n tail) ≡ n = length-take-le n tail (rw (length-drop (lengthOf v ps) s) (omega (arith, enough))) in
-        let front : take n (take n tail ++ moved v w qs (drop n tail)) ≡ take n tail =
-        take-at (take n tail) (moved v w qs (drop n tail)) n long in
-        rw (
-          ← drop-drop i (lengthOf w ps) (moved v w (ps ++ (plain n ∷ qs)) s),
-          there,
-          ← drop-drop i (lengthOf v ps) s,
-        )
-        (part-alike (take n tail ++ moved v w qs (drop n tail)) tail n i m l front)
+  pub part-moved : (i m : ℕ) → i + m ≤ n
+      → take m (drop (lengthOf w ps + i) (moved v w (ps ++ (plain n ∷ qs)) s)) ≡ take m (drop (lengthOf v ps + i) s)
+  part-moved i m l =
+      let tail = drop (lengthOf v ps) s in
+      let long : length (take n tail) ≡ n =
+      length-take-le n tail (rw (length-drop (lengthOf v ps) s) (omega (arith, enough))) in
+      let front : take n (take n tail ++ moved v w qs (drop n tail)) ≡ take n tail =
+      take-at (take n tail) (moved v w qs (drop n tail)) n long in
+      rw (
+        ← drop-drop i (lengthOf w ps) (moved v w (ps ++ (plain n ∷ qs)) s),
+        there,
+        ← drop-drop i (lengthOf v ps) s,
+      )
+      (part-alike (take n tail ++ moved v w qs (drop n tail)) tail n i m l front)
 
-    pub byte-moved : (i : ℕ) → i < n
-        → getD (moved v w (ps ++ (plain n ∷ qs)) s) (lengthOf w ps + i) 0 ≡ getD s (lengthOf v ps + i) 0
-    byte-moved i l =
-        let whole = moved v w (ps ++ (plain n ∷ qs)) s in
-        first whole (lengthOf w ps + i)
-        ∙ ap (λ (x : List ℕ). getD x 0 0) (part-moved i 1 (omega arith))
-        ∙ sym (first s (lengthOf v ps + i))
-      where
-        one : (x : List ℕ) → getD x 0 0 ≡ getD (take 1 x) 0 0
-        one [] = refl
-        one (y ∷ ys) = refl
+  pub byte-moved : (i : ℕ) → i < n
+      → getD (moved v w (ps ++ (plain n ∷ qs)) s) (lengthOf w ps + i) 0 ≡ getD s (lengthOf v ps + i) 0
+  byte-moved i l =
+      let whole = moved v w (ps ++ (plain n ∷ qs)) s in
+      first whole (lengthOf w ps + i)
+      ∙ ap (λ (x : List ℕ). getD x 0 0) (part-moved i 1 (omega arith))
+      ∙ sym (first s (lengthOf v ps + i))
+    where
+      one : (x : List ℕ) → getD x 0 0 ≡ getD (take 1 x) 0 0
+      one [] = refl
+      one (y ∷ ys) = refl
 
-        first : (x : List ℕ) (j : ℕ) → getD x j 0 ≡ getD (take 1 (drop j x)) 0 0
-        first x zero = one x
-        first [] (suc j) = refl
-        first (y ∷ ys) (suc j) = first ys j
+      first : (x : List ℕ) (j : ℕ) → getD x j 0 ≡ getD (take 1 (drop j x)) 0 0
+      first x zero = one x
+      first [] (suc j) = refl
+      first (y ∷ ys) (suc j) = first ys j
 
 -- A count behind some parts.
 pub number-moved : (v w : ℕ) (ps : List Part) (n : ℕ) (qs : List Part) (s : List ℕ)

@@ -90,7 +90,8 @@ module _ (v w : ℕ) where
         (one-stands first 32 eventParts i l (plain 8 ∷ []) (counts 8) _ refl)
         (start v (plain 8 ∷ []) 8 refl) (start w (plain 8 ∷ []) 8 refl)
 
-    pub labels-stand : Stands v w recordParts (plain 8) (pendingPlace v i + (8 + 8 * v)) (pendingPlace w i + (8 + 8 * w))
+    pub labels-stand : Stands v w recordParts (plain 8) (pendingPlace v i + (8 + 8 * v))
+        (pendingPlace w i + (8 + 8 * w))
     unfolding lengthOf partLength
     labels-stand =
         stands-at v w recordParts (plain 8) _ _ _ _
@@ -109,7 +110,8 @@ module _ (v w : ℕ) where
         start : (u : ℕ) → 0 + i * lengthOf u frontierParts + 0 ≡ i * frontierLength u
         start u = rw (length-frontierParts u) (omega arith)
 
-    pub rest-stands : Stands v w (windowParts n) (plain 24) (i * frontierLength v + 8 * v) (i * frontierLength w + 8 * w)
+    pub rest-stands : Stands v w (windowParts n) (plain 24) (i * frontierLength v + 8 * v)
+        (i * frontierLength w + 8 * w)
     unfolding lengthOf partLength
     rest-stands =
         stands-at v w (windowParts n) (plain 24) _ _ _ _

@@ -10,7 +10,6 @@ use refusals::bad_state;
 use refusals::bad_window_length;
 use refusals::room_of;
 ghost use mathlib.Core.Path.{_≡_};
-ghost use lib.ListN.{length};
 ghost use Rattle.frontiers.specs.Width.{Width};
 ghost use Rattle.call_move.specs.Move.{badLengths};
 ghost use Rattle.call_move.specs.MoveCode.{moveFault};

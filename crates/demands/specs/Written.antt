@@ -27,7 +27,8 @@ movedTo m W = record {
 pub data Written (text : List ℕ) (k : ℕ) (labels : List ℕ) : ℕ → Watch → Type 0 where
   opens : (w : ℕ) → 0 < w → (s window : List ℕ) → Accepts w text k labels s window
       → Written text k labels w (opened (openCall w text k labels s window))
-  calls : (w : ℕ) (W : Watch) → Written text k labels w W → (c : Call) → Passed w c → Written text k labels w (after w c W)
+  calls : (w : ℕ) (W : Watch) → Written text k labels w W → (c : Call) → Passed w c
+      → Written text k labels w (after w c W)
   -- from counts of v bytes to counts of w bytes, in lent buffers of any content
   moves : (v w : ℕ) → 0 < w → (W : Watch) → Written text k labels v W → (t target : List ℕ)
       → moveCall v w (W .bytes) (W .window) t target .number ≡ 0

@@ -3,9 +3,8 @@ use Prim.Native.Nat.{ℕ, zero, suc, _+_, _-_, _*_, _^_, _≤_, _<_}
 use native.Mathlib.Omega.{arith}
 use native.Mathlib.Nat.{zero-add, suc-add, mul-comm, mul-sub}
 use mathlib.Core.Path.{_≡_, refl, sym, ap, ap₂, _∙_}
-use mathlib.Core.Bool.{false}
-use mathlib.Core.List.{List, [], _∷_, _++_, append-assoc, append-nil, List·Memᴰ, List·Memᴰ·head, List·Memᴰ·tail}
-use lib.ListN.{length, take, drop, length-append, length-replicate}
+use mathlib.Core.List.{List, [], _∷_, _++_, append-assoc, List·Memᴰ, List·Memᴰ·head, List·Memᴰ·tail}
+use lib.ListN.{length, length-append, length-replicate}
 use lib.Seq.{take-at, drop-at}
 use lib.Dec.{lit<}
 use Rattle.clocks.specs.declared.Event.{Event}
@@ -20,7 +19,7 @@ use Rattle.records.specs.Record.{eventLength, eventBytes}
 use Rattle.call_move.specs.Parts.{Part, plain, counts, lengthOf, partLength, repeated, eventParts, recordParts, frontierParts, windowParts}
 use Rattle.call_move.specs.PartLaws.{lengthOf-repeated, length-eventParts, length-windowParts}
 use Rattle.call_move.specs.CountLaws.{counts-read}
-use Rattle.call_move.specs.Move.{countsFrom, moved, someTooLarge}
+use Rattle.call_move.specs.Move.{moved}
 use Rattle.demands.specs.Status.{Status, clockBytes, pendingBytes, recordBytes}
 use Rattle.demands.specs.bytes.PlaceLaws.{zeros, zeros-add, countBytes-zeros, Bytes-append, Bytes-zeros, Bytes-countBytes}
 use Rattle.demands.specs.bytes.RecordBlocks.{fit-listOf, AllStorable, clockRows, member-listOf, headOf, afterHead, afterCounts, afterClocks, tableBlock, pendingBlock, counts-split, length-headOf, length-tableBlock}
@@ -190,10 +189,13 @@ module _ (v w : ℕ) where
       let m : ℕ = n - length fs in
       let all : n ≡ length fs + m = omega arith in
       rw (left v, left w)
-      (ap (λ (k : ℕ). moved v w (windowParts k) (framed v fs ++ zeros (m * frontierLength v))) all ∙ framed-moved fs h m)
+      (ap (λ (k : ℕ). moved v w (windowParts k) (framed v fs ++ zeros (m * frontierLength v))) all
+      ∙ framed-moved fs h m)
     where
       left : (u : ℕ) → n * frontierLength u - length fs * frontierLength u ≡ (n - length fs) * frontierLength u
-      left u = sym (rw (mul-comm (n - length fs) (frontierLength u), mul-sub (frontierLength u) n (length fs), mul-comm (frontierLength u) n, mul-comm (frontierLength u) (length fs)))
+      left u =
+          let F = frontierLength u in
+          sym (rw (mul-comm (n - length fs) F, mul-sub F n (length fs), mul-comm F n, mul-comm F (length fs)))
 
 -- The bytes of a window are bytes.
 Bytes-frontier : (w : ℕ) (f : Frontier) → Shaped w f → Bytes (frontierBytes w f)
@@ -201,7 +203,8 @@ unfolding frontierBytes
 Bytes-frontier w f z =
     Bytes-append (countBytes w (f .counts) ++ f .labels ++ f .masks) (bytesOf 8 (f .values))
     (Bytes-append (countBytes w (f .counts) ++ f .labels) (f .masks)
-    (Bytes-append (countBytes w (f .counts)) (f .labels) (Bytes-countBytes w (f .counts)) (z .labels-fit)) (z .masks-fit))
+    (Bytes-append (countBytes w (f .counts)) (f .labels) (Bytes-countBytes w (f .counts)) (z .labels-fit))
+    (z .masks-fit))
     (Bytes-bytesOf 8 (f .values))
 
 Bytes-framed : (w : ℕ) (fs : List Frontier) → AllShaped w fs → Bytes (framed w fs)

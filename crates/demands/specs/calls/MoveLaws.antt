@@ -7,7 +7,7 @@ use native.Mathlib.Nat.{mul-le-mul-right, le-div-iff-mul-le}
 use Rattle.clocks.specs.stored.BoundedLaws.{or-false-e}
 use mathlib.Core.Path.{_≡_, sym, ap, _∙_, subst}
 use mathlib.Core.Bool.{false, _||_}
-use mathlib.Core.List.{List, [], _∷_, List·Memᴰ}
+use mathlib.Core.List.{List, List·Memᴰ}
 use mathlib.Core.Logic.{_⊎_, inl, inr}
 use lib.ListN.{length, getD}
 use Rattle.codec.specs.Little.{number, Bytes}
@@ -16,7 +16,7 @@ use Rattle.pactl.specs.declared.Line.{Line}
 use Rattle.clocks.specs.declared.Event.{Event}
 use Rattle.clocks.specs.Event.{Cut, count}
 use Rattle.clocks.specs.History.{taken, lastClock}
-use Rattle.clocks.specs.Counts.{at, listOf}
+use Rattle.clocks.specs.Counts.{at}
 use Rattle.clocks.specs.cuts.CausalLaws.{count-within}
 use Rattle.clocks.specs.stored.CountsLaws.{at-beyond, at-listOf}
 use Rattle.clocks.specs.validity.ClockRule.{taken-silent}
@@ -24,7 +24,7 @@ use Rattle.frontiers.specs.ListLaws.{member-place}
 use Rattle.frontiers.specs.Shaped.{AllShaped}
 use Rattle.frontiers.specs.WindowLaws.{length-windowBytes}
 use Rattle.frontiers.specs.Bytes.{frontierLength, windowBytes}
-use Rattle.records.specs.Record.{recordLength, pendingPlace, takenCounts, pendingAt}
+use Rattle.records.specs.Record.{pendingPlace, pendingAt}
 use Rattle.records.specs.RecordLaws.{taken-at}
 use Rattle.refusals.specs.Refusals.{roomOf, badWindowLength}
 use Rattle.refusals.specs.RefusalLaws.{state-within}
@@ -34,8 +34,8 @@ use Rattle.call_move.specs.CountLaws.{none-too-large}
 use Rattle.call_move.specs.BackLaws.{fit-again}
 use Rattle.call_move.specs.PlaceLaws.{fit-at}
 use Rattle.call_move.specs.StandLaws.{taken-stands, clock-stands}
-use Rattle.call_move.specs.MoveCases.{Passes, passes, Lengths, right-lengths, whole-window}
-use Rattle.call_move.specs.Move.{Moved, moved, someTooLarge, overflows, moveCall}
+use Rattle.call_move.specs.MoveCases.{Passes, Lengths, right-lengths, whole-window}
+use Rattle.call_move.specs.Move.{moved, someTooLarge, overflows}
 use Rattle.demands.specs.Ledger.{Ledger}
 use Rattle.demands.specs.Status.{Status, recordBytes}
 use Rattle.demands.specs.World.{statusOf, Valid}
@@ -187,10 +187,21 @@ module _ (v w k : ℕ) (table : List Line) (start : Cut) (R : Rule v k table sta
         let z = sized v k table start R L bytes window X in
         let shaped = kept-shaped v k table start R L bytes window X in
         other-form (fit-where (p .fits)) (moved v w recordParts bytes)
-        (moved v w (windowParts n) window) n kept-few (ap (moved v w recordParts) (X .bytes-are) ∙ record-moved v w status z)
+        (moved v w (windowParts n) window) n kept-few
+        (ap (moved v w recordParts) (X .bytes-are) ∙ record-moved v w status z)
         (ap (moved v w (windowParts n)) (X .window-is ∙ ap (λ (m : ℕ). windowBytes v m (X .kept)) whole)
         ∙ window-moved v w n (X .kept) shaped kept-few)
-        (length-moved v w (windowParts n) window (omega (arith, whole, length-windowParts v n)) ∙ length-windowParts w n)
+        (length-moved v w (windowParts n) window (omega (arith, whole, length-windowParts v n))
+        ∙ length-windowParts w n)
+
+  -- ---- Record and window are bytes
+  pub record-bytes : Bytes bytes
+  record-bytes = rw (X .bytes-are) (Bytes-recordBytes v status (sized v k table start R L bytes window X))
+
+  pub window-bytes : Bytes window
+  window-bytes =
+      subst Bytes (sym (X .window-is))
+      (Bytes-windowBytes v (length window) (X .kept) (kept-shaped v k table start R L bytes window X))
 
   -- ---- A window of a right length
   module _ (right : badWindowLength v (length window) ≡ false) where
@@ -202,7 +213,8 @@ module _ (v w k : ℕ) (table : List Line) (start : Cut) (R : Rule v k table sta
 
     pub kept-within : length (X .kept) ≤ room
     unfolding roomOf frontierLength
-    kept-within = le-div-iff-mul-le {k = 8 * v + 24} {x = length (X .kept)} {y = length window} (omega arith) .1 (X .room)
+    kept-within =
+        le-div-iff-mul-le {k = 8 * v + 24} {x = length (X .kept)} {y = length window} (omega arith) .1 (X .room)
 
     -- where all events fit, no count is too large
     module _ (fit : AllFit) where
@@ -259,7 +271,8 @@ module _ (v w k : ℕ) (table : List Line) (start : Cut) (R : Rule v k table sta
           ap (someTooLarge v w recordParts) (X .bytes-are ∙ sym (record-moved w v status z′))
           ∙ fit-again w v recordParts bytes′ b long (none-too-large w v l recordParts bytes′ b) in
           let second : someTooLarge v w (windowParts room) window ≡ false =
-          ap (someTooLarge v w (windowParts room)) (window-are ∙ sym (window-moved w v room (X .kept) shaped′ kept-within))
+          ap (someTooLarge v w (windowParts room))
+          (window-are ∙ sym (window-moved w v room (X .kept) shaped′ kept-within))
           ∙ fit-again w v (windowParts room) window′ c (omega (arith, far, length-windowParts w room))
           (none-too-large w v l (windowParts room) window′ c) in
           rw (first, second)
@@ -272,10 +285,7 @@ module _ (v w k : ℕ) (table : List Line) (start : Cut) (R : Rule v k table sta
               → (someTooLarge v w recordParts bytes || someTooLarge v w (windowParts room) window) ≡ false
           go (yes l) = narrower (omega arith)
           go (no l) =
-              let b : Bytes bytes = rw (X .bytes-are) (Bytes-recordBytes v status z) in
-              let c : Bytes window =
-              subst Bytes (sym window-are) (Bytes-windowBytes v (room * frontierLength v) (X .kept) shaped) in
               rw (
-                none-too-large v w (omega arith) recordParts bytes b,
-                none-too-large v w (omega arith) (windowParts room) window c,
+                none-too-large v w (omega arith) recordParts bytes record-bytes,
+                none-too-large v w (omega arith) (windowParts room) window window-bytes,
               )

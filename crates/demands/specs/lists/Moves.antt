@@ -1,27 +1,27 @@
 -- Every watch that calls and moves alone wrote is sound, and so all that is proved of sound watches is true of it.
-use Prim.Native.Nat.{ℕ, _^_, _<_}
+use Prim.Native.Nat.{ℕ, _<_}
 use native.Mathlib.Omega.{arith}
-use mathlib.Core.Path.{_≡_, refl, sym, ap, _∙_, subst}
+use mathlib.Core.Path.{_≡_, refl, sym, _∙_}
 use mathlib.Core.Bool.{Bool, true, false, true≢false}
-use mathlib.Core.List.{List, [], _∷_, List·Memᴰ, List·Memᴰ·head, List·Memᴰ·tail, List·Memᴰ·not-nil}
-use mathlib.Core.Logic.{_⊎_, inl, inr, _↔_}
+use mathlib.Core.List.{List, [], _∷_, List·Memᴰ·head, List·Memᴰ·tail, List·Memᴰ·not-nil}
+use mathlib.Core.Logic.{_⊎_, inl, inr}
 use lib.ListN.{length}
 use Rattle.pactl.specs.declared.Line.{Line}
-use Rattle.clocks.specs.declared.Event.{Event}
-use Rattle.clocks.specs.Event.{Cut, count}
+use Rattle.clocks.specs.Event.{Cut}
 use Rattle.clocks.specs.Counts.{at}
-use Rattle.clocks.specs.History.{taken}
 use Rattle.rules.specs.Line.{linesAt}
 use Rattle.rules.specs.Formula.{Formula}
 use Rattle.rules.specs.Reader.{readRule, formed}
 use Rattle.rules.specs.reading.ReaderAccepts.{reader-accepts}
 use Rattle.refusals.specs.Refusals.{roomOf, badState, badWindowLength}
-use Rattle.call_move.specs.Move.{Moved, badLengths, overflows, moveCall}
+use Rattle.call_move.specs.Move.{badLengths, overflows, moveCall}
 use Rattle.call_move.specs.MoveCases.{passes, right-lengths, number-6, number-43, number-0}
 use Rattle.demands.specs.Run.{Call, Watch, after, run, opened}
-use Rattle.demands.specs.EveryList.{Accepts, EightBytes, AllPassed, atEnd}
+use Rattle.demands.specs.EveryList.{EightBytes, AllPassed, atEnd}
 use Rattle.demands.specs.Written.{Written, movedTo, opens, calls, moves, OfEveryWatch}
-use Rattle.demands.specs.calls.MoveLaws.{rule-moved, moved-right, kept-within, no-overflow, AllFit, all-fit, fit-all, fit-where}
+use Rattle.demands.specs.calls.MoveLaws.{rule-moved, moved-right, kept-within, no-overflow, all-fit, fit-all, fit-where, record-bytes, window-bytes}
+use Rattle.call_move.specs.MoveTheorem.{move-exact}
+use Rattle.call_open.specs.Open.{openCall}
 use Rattle.demands.specs.calls.WatchingLaws.{never-34}
 use Rattle.demands.specs.lists.WindowExact.{window-exact-of}
 use Rattle.demands.specs.lists.TakeAnswers.{take-exact-of}
@@ -31,7 +31,7 @@ use Rattle.demands.specs.lists.Again.{again-exact-of}
 use Rattle.demands.specs.lists.Messages.{messages-exact-of}
 use Rattle.demands.specs.lists.Balance.{balanced-of}
 use Rattle.demands.specs.lists.SoundRun.{Sound, after-sound, sound-run}
-use Rattle.demands.specs.statements.Moves.{nextMove, RightMove, CountsFit, MoveAnswers, WatchExact, EveryWatchIsExact}
+use Rattle.demands.specs.statements.Moves.{nextMove, RightMove, CountsFit, MoveAnswers, WatchExact, EveryWatchIsExact, ExactAfterAMove}
 
 -- ---- Soundness
 
@@ -42,7 +42,8 @@ module _ (v w k : ℕ) (f : Formula) (start : Cut) (pos : 0 < w) (W : Watch) (S 
       let p = passes v w (W .bytes) (W .window) t target q in
       rw (p .moves) (record {
         rule = rule-moved v w k (linesAt 0 f) start pos (S .rule);
-        right = moved-right v w k (linesAt 0 f) start (S .rule) (W .ledger) (W .bytes) (W .window) (S .right) t target p;
+        right =
+            moved-right v w k (linesAt 0 f) start (S .rule) (W .ledger) (W .bytes) (W .window) (S .right) t target p;
         balanced = S .balanced;
         said = S .said;
         reporting = record { truthful = S .reporting .truthful; quiet = S .reporting .quiet };
@@ -76,97 +77,97 @@ pub run-written : (text : List ℕ) (k : ℕ) (labels : List ℕ) (w : ℕ) (cs 
 unfolding run
 run-written text k labels w [] p W x = x
 run-written text k labels w (c ∷ cs) p W x =
-    run-written text k labels w cs (λ d m. p d (List·Memᴰ·tail m)) (after w c W) (calls w W x c (p c (List·Memᴰ·head refl)))
+    run-written text k labels w cs (λ d m. p d (List·Memᴰ·tail m)) (after w c W)
+    (calls w W x c (p c (List·Memᴰ·head refl)))
 
 -- ---- The next move
 
-module _ (v w k : ℕ) (f : Formula) (start : Cut) (pos : 0 < w) (Z : Watch) (S : Sound v k f start Z) (t target : List ℕ)
-  where
-    abbrev table : List Line
-    table = linesAt 0 f
+module _ (v w k : ℕ) (f : Formula) (start : Cut) (Z : Watch) (S : Sound v k f start Z) (t target : List ℕ) where
+  abbrev table : List Line
+  table = linesAt 0 f
 
-    abbrev answer : ℕ
-    answer = nextMove v w Z t target .number
+  abbrev answer : ℕ
+  answer = nextMove v w Z t target .number
 
-    abbrev Fit : Type 0
-    Fit = AllFit v w k table start (S .rule) (Z .ledger) (Z .bytes) (Z .window) (S .right)
+  right-window : RightMove v w Z t target → badWindowLength v (length (Z .window)) ≡ false
+  right-window r = right-lengths v w (length (Z .bytes)) (length (Z .window)) (length t) (length target) r .window
 
-    right-window : RightMove v w Z t target → badWindowLength v (length (Z .window)) ≡ false
-    right-window r = right-lengths v w (length (Z .bytes)) (length (Z .window)) (length t) (length target) r .window
+  good : RightMove v w Z t target → badState v (roomOf v (length (Z .window))) (Z .bytes) ≡ false
+  good r =
+      never-34 v k table start (S .rule) (Z .ledger) (Z .bytes) (Z .window) (S .right) (roomOf v (length (Z .window)))
+      (kept-within v w k table start (S .rule) (Z .ledger) (Z .bytes) (Z .window) (S .right) (right-window r))
 
-    good : RightMove v w Z t target → badState v (roomOf v (length (Z .window))) (Z .bytes) ≡ false
-    good r =
-        never-34 v k table start (S .rule) (Z .ledger) (Z .bytes) (Z .window) (S .right) (roomOf v (length (Z .window)))
-        (kept-within v w k table start (S .rule) (Z .ledger) (Z .bytes) (Z .window) (S .right) (right-window r))
+  -- what the number is, by the lengths and the counts
+  data Case : Type 0 where
+    short : (RightMove v w Z t target → ⊥) → answer ≡ 6 → Case
+    wide : RightMove v w Z t target → (CountsFit w Z → ⊥) → answer ≡ 43 → Case
+    fine : RightMove v w Z t target → CountsFit w Z → answer ≡ 0 → Case
 
-    -- what the number is, by the lengths and the counts
-    data Case : Type 0 where
-      short : (RightMove v w Z t target → ⊥) → answer ≡ 6 → Case
-      wide : RightMove v w Z t target → (CountsFit w Z → ⊥) → answer ≡ 43 → Case
-      fine : RightMove v w Z t target → CountsFit w Z → answer ≡ 0 → Case
+  the-case : Case
+  the-case =
+      go (badLengths v w (length (Z .bytes)) (length (Z .window)) (length t) (length target)) refl
+      (overflows v w (Z .bytes) (Z .window)) refl
+    where
+      go : (a : Bool) → badLengths v w (length (Z .bytes)) (length (Z .window)) (length t) (length target) ≡ a
+          → (b : Bool) → overflows v w (Z .bytes) (Z .window) ≡ b → Case
+      go true h b i = short (λ r. true≢false (sym h ∙ r)) (number-6 v w (Z .bytes) (Z .window) t target h)
+      go false h true i =
+          wide h
+          (λ c. true≢false (sym i
+          ∙ no-overflow v w k table start (S .rule) (Z .ledger) (Z .bytes) (Z .window) (S .right) (right-window h)
+          (all-fit v w k table start (S .rule) (Z .ledger) (Z .bytes) (Z .window) (S .right) (c .0) (c .1))))
+          (number-43 v w (Z .bytes) (Z .window) t target h (good h) i)
+      go false h false i =
+          fine h
+          (fit-all v w k table start (S .rule) (Z .ledger) (Z .bytes) (Z .window) (S .right)
+          (fit-where v w k table start (S .rule) (Z .ledger) (Z .bytes) (Z .window) (S .right) i))
+          (number-0 v w (Z .bytes) (Z .window) t target h (good h) i)
 
-    the-case : Case
-    the-case =
-        go (badLengths v w (length (Z .bytes)) (length (Z .window)) (length t) (length target)) refl
-        (overflows v w (Z .bytes) (Z .window)) refl
-      where
-        go : (a : Bool) → badLengths v w (length (Z .bytes)) (length (Z .window)) (length t) (length target) ≡ a
-            → (b : Bool) → overflows v w (Z .bytes) (Z .window) ≡ b → Case
-        go true h b i = short (λ r. true≢false (sym h ∙ r)) (number-6 v w (Z .bytes) (Z .window) t target h)
-        go false h true i =
-            wide h
-            (λ c. true≢false (sym i
-            ∙ no-overflow v w k table start (S .rule) (Z .ledger) (Z .bytes) (Z .window) (S .right) (right-window h)
-            (all-fit v w k table start (S .rule) (Z .ledger) (Z .bytes) (Z .window) (S .right) (c .0) (c .1))))
-            (number-43 v w (Z .bytes) (Z .window) t target h (good h) i)
-        go false h false i =
-            fine h
-            (fit-all v w k table start (S .rule) (Z .ledger) (Z .bytes) (Z .window) (S .right)
-            (fit-where v w k table start (S .rule) (Z .ledger) (Z .bytes) (Z .window) (S .right) i))
-            (number-0 v w (Z .bytes) (Z .window) t target h (good h) i)
+  pub move-answers : MoveAnswers v w Z t target
+  move-answers = record {
+    wrong-lengths = (lengths-there the-case, lengths-back the-case);
+    too-large = (large-there the-case, large-back the-case);
+    accepted = (accepted-there the-case, accepted-back the-case);
+    no-other = one-of the-case;
+    back = λ q u away. move-exact v w (Z .bytes) (Z .window) t target
+        (record-bytes v w k table start (S .rule) (Z .ledger) (Z .bytes) (Z .window) (S .right))
+        (window-bytes v w k table start (S .rule) (Z .ledger) (Z .bytes) (Z .window) (S .right)) q .back u away;
+  }
+    where
+      lengths-there : Case → answer ≡ 6 → RightMove v w Z t target → ⊥
+      lengths-there (short n a) q = n
+      lengths-there (wide r n a) q = absurd (omega arith)
+      lengths-there (fine r c a) q = absurd (omega arith)
 
-    pub move-answers : MoveAnswers v w Z t target
-    move-answers = record {
-      wrong-lengths = (lengths-there the-case, lengths-back the-case);
-      too-large = (large-there the-case, large-back the-case);
-      accepted = (accepted-there the-case, accepted-back the-case);
-      no-other = one-of the-case;
-    }
-      where
-        lengths-there : Case → answer ≡ 6 → RightMove v w Z t target → ⊥
-        lengths-there (short n a) q = n
-        lengths-there (wide r n a) q = absurd (omega arith)
-        lengths-there (fine r c a) q = absurd (omega arith)
+      lengths-back : Case → (RightMove v w Z t target → ⊥) → answer ≡ 6
+      lengths-back (short n a) q = a
+      lengths-back (wide r n a) q = absurd (q r)
+      lengths-back (fine r c a) q = absurd (q r)
 
-        lengths-back : Case → (RightMove v w Z t target → ⊥) → answer ≡ 6
-        lengths-back (short n a) q = a
-        lengths-back (wide r n a) q = absurd (q r)
-        lengths-back (fine r c a) q = absurd (q r)
+      large-there : Case → answer ≡ 43 → RightMove v w Z t target × (CountsFit w Z → ⊥)
+      large-there (short n a) q = absurd (omega arith)
+      large-there (wide r n a) q = (r, n)
+      large-there (fine r c a) q = absurd (omega arith)
 
-        large-there : Case → answer ≡ 43 → RightMove v w Z t target × (CountsFit w Z → ⊥)
-        large-there (short n a) q = absurd (omega arith)
-        large-there (wide r n a) q = (r, n)
-        large-there (fine r c a) q = absurd (omega arith)
+      large-back : Case → RightMove v w Z t target × (CountsFit w Z → ⊥) → answer ≡ 43
+      large-back (short n a) q = absurd (n (q .0))
+      large-back (wide r n a) q = a
+      large-back (fine r c a) q = absurd (q .1 c)
 
-        large-back : Case → RightMove v w Z t target × (CountsFit w Z → ⊥) → answer ≡ 43
-        large-back (short n a) q = absurd (n (q .0))
-        large-back (wide r n a) q = a
-        large-back (fine r c a) q = absurd (q .1 c)
+      accepted-there : Case → answer ≡ 0 → RightMove v w Z t target × CountsFit w Z
+      accepted-there (short n a) q = absurd (omega arith)
+      accepted-there (wide r n a) q = absurd (omega arith)
+      accepted-there (fine r c a) q = (r, c)
 
-        accepted-there : Case → answer ≡ 0 → RightMove v w Z t target × CountsFit w Z
-        accepted-there (short n a) q = absurd (omega arith)
-        accepted-there (wide r n a) q = absurd (omega arith)
-        accepted-there (fine r c a) q = (r, c)
+      accepted-back : Case → RightMove v w Z t target × CountsFit w Z → answer ≡ 0
+      accepted-back (short n a) q = absurd (n (q .0))
+      accepted-back (wide r n a) q = absurd (n (q .1))
+      accepted-back (fine r c a) q = a
 
-        accepted-back : Case → RightMove v w Z t target × CountsFit w Z → answer ≡ 0
-        accepted-back (short n a) q = absurd (n (q .0))
-        accepted-back (wide r n a) q = absurd (n (q .1))
-        accepted-back (fine r c a) q = a
-
-        one-of : Case → (answer ≡ 6) ⊎ ((answer ≡ 43) ⊎ (answer ≡ 0))
-        one-of (short n a) = inl a
-        one-of (wide r n a) = inr (inl a)
-        one-of (fine r c a) = inr (inr a)
+      one-of : Case → (answer ≡ 6) ⊎ ((answer ≡ 43) ⊎ (answer ≡ 0))
+      one-of (short n a) = inl a
+      one-of (wide r n a) = inr (inl a)
+      one-of (fine r c a) = inr (inr a)
 
 -- ---- Theorem
 
@@ -178,10 +179,19 @@ exact-of w k f start Z S = record {
   closes = close-exact-of w k f start Z S;
   agains = again-exact-of w k f start Z S;
   messages = messages-exact-of w k f start Z S;
-  moves = λ to pos t target. move-answers w to k f start pos Z S t target;
+  moves = λ to t target. move-answers w to k f start Z S t target;
   verdicts = S .reporting .truthful;
   balance = balanced-of w k f start Z S;
 }
 
 pub every-watch-exact : EveryWatchIsExact
 every-watch-exact = every-watch _ exact-of
+
+pub exact-after-a-move : ExactAfterAMove
+exact-after-a-move v w pos pos′ text k labels eight s window a cs p t target q ds r =
+    let W = atEnd v text k labels s window cs in
+    every-watch-exact text k labels eight w (run w ds (movedTo (nextMove v w W t target) W))
+    (run-written text k labels w ds r (movedTo (nextMove v w W t target) W)
+    (moves v w pos′ W
+    (run-written text k labels v cs p (opened (openCall v text k labels s window)) (opens v pos s window a)) t target
+    q))

@@ -9,12 +9,16 @@ use lib.ListN.{length}
 use Rattle.clocks.specs.declared.Event.{Event}
 use Rattle.clocks.specs.Event.{Cut, count}
 use Rattle.clocks.specs.History.{taken}
+use Rattle.clocks.specs.Counts.{at}
 use Rattle.rules.specs.Formula.{Formula}
+use Rattle.rules.specs.Text.{textOf}
+use Rattle.rules.specs.Reader.{readRule, formed}
 use Rattle.call_move.specs.Move.{Moved, badLengths, moveCall}
 use Rattle.numbers.specs.Refusal.{lengthNumber, tooLargeNumber}
-use Rattle.demands.specs.Run.{Watch}
+use Rattle.demands.specs.Run.{Call, Watch, run}
+use Rattle.demands.specs.EveryList.{Accepts, EightBytes, AllPassed, atEnd}
 use Rattle.demands.specs.Verdict.{Truthful}
-use Rattle.demands.specs.Written.{OfEveryWatch}
+use Rattle.demands.specs.Written.{movedTo, OfEveryWatch}
 use Rattle.demands.specs.statements.WindowExact.{WindowExact}
 use Rattle.demands.specs.statements.TakeAnswers.{TakeExact}
 use Rattle.demands.specs.statements.Find.{FindExact}
@@ -48,6 +52,11 @@ pub record MoveAnswers (v w : ℕ) (Z : Watch) (t target : List ℕ) : Type 0 wh
   -- and it is one of these: 34 never comes
   pub no-other : (nextMove v w Z t target .number ≡ lengthNumber)
       ⊎ ((nextMove v w Z t target .number ≡ tooLargeNumber) ⊎ (nextMove v w Z t target .number ≡ 0))
+  -- moved back at once, to buffers of the lengths that the first ones have: accepted, and their bytes
+  pub back : nextMove v w Z t target .number ≡ 0
+      → (u away : List ℕ) → length u ≡ length (Z .bytes) → length away ≡ length (Z .window)
+      → moveCall w v (nextMove v w Z t target .bytes) (nextMove v w Z t target .window) u away
+      ≡ record { number = 0; bytes = Z .bytes; window = Z .window }
 
 -- ---- Every watch
 
@@ -59,10 +68,23 @@ pub record WatchExact (w k : ℕ) (f : Formula) (start : Cut) (Z : Watch) : Type
   pub closes : CloseExact w k f start Z
   pub agains : AgainExact w k f start Z
   pub messages : MessagesExact w k f start Z
-  pub moves : (to : ℕ) → 0 < to → (t target : List ℕ) → MoveAnswers w to Z t target
+  pub moves : (to : ℕ) (t target : List ℕ) → MoveAnswers w to Z t target
   -- every verdict reported on the way, in either form, is PaCTL's; the balance
   pub verdicts : Truthful k f start (Z .ledger .history) (Z .answers)
   pub balance : AnswersBalanced Z
 
 abbrev pub EveryWatchIsExact : Type 0
 EveryWatchIsExact = OfEveryWatch WatchExact
+
+-- So at the end of a list of calls after a move that stands behind another list: a watch opened with counts of v bytes,
+-- calls, a move to counts of w bytes that is accepted, and calls of that form.
+abbrev pub ExactAfterAMove : Type 0
+ExactAfterAMove =
+    (v w : ℕ) → 0 < v → 0 < w → (text : List ℕ) (k : ℕ) (labels : List ℕ) → EightBytes labels
+    → (s window : List ℕ) → Accepts v text k labels s window → (cs : List Call) → AllPassed v cs
+    → (t target : List ℕ) → nextMove v w (atEnd v text k labels s window cs) t target .number ≡ 0
+    → (ds : List Call) → AllPassed w ds
+    → (f : Formula) × (i : ℕ) × (readRule text k ≡ formed i f) × (textOf f ≡ text)
+    × WatchExact w k f (at labels)
+    (run w ds
+    (movedTo (nextMove v w (atEnd v text k labels s window cs) t target) (atEnd v text k labels s window cs)))

@@ -65,8 +65,8 @@ pub record WindowExact (w k : ℕ) (f : Formula) (start : Cut) (Z : Watch) : Typ
   -- event
   pub nothing-ready : (cap more : ℕ) (scratch : List ℕ) → RightLengths w Z more scratch
       → (nextTake w Z cap more scratch .answer ≡ nothingReady) ↔ Settled (Z .ledger)
-  -- 34 never comes: its condition does not hold with any room for what is kept, which is at most 1,024 (the room that an
-  -- offer is judged by), and no take answers it
+  -- 34 never comes: its condition does not hold with any room for what is kept, which is at most 1,024 (the room that
+  -- an offer is judged by), and no take answers it
   pub kept-few : keptCount (Z .bytes) ≤ 1024
   pub state-good : (room : ℕ) → keptCount (Z .bytes) ≤ room → badState w room (Z .bytes) ≡ false
   pub never-34 : (cap more : ℕ) (scratch : List ℕ) → nextTake w Z cap more scratch .answer ≢ turnedBack stateNumber 0
