@@ -1,0 +1,57 @@
+-- The counts, and the rest written behind them: the law `frontier-written`.
+use Rattle.call_move.proofs.window_parts.move_frontier.Tie as tie
+use native.Mathlib.Omega.{arith}
+use Prim.Native.Nat.{ℕ, _≤_, _<_, _-_, _+_, _*_}
+use mathlib.Core.Path.{_≡_, sym, ap, _∙_}
+use mathlib.Core.Bool.{Bool, false}
+use mathlib.Core.List.{List}
+use lib.ListN.{length, take, drop, length-take, length-drop}
+use lib.Seq.{sets}
+use borrow.Author.Needs.{needs}
+use denote.Ref.{now}
+use Rattle.frontiers.specs.Bytes.{frontierLength}
+use Rattle.call_move.proofs.WindowSteps.{frontier-counts, frontier-written}
+use Rattle.call_move.proofs.window_parts.move_frontier.Statement.{statement}
+
+move-counts-requires : tie.Need-move-counts-requires
+unfolding frontierLength
+move-counts-requires c κs =
+    let b = c .before .before .before in
+    let fit = sym (frontier-counts (b .args .v) (b .args .w) (drop (b .args .from) (now (b .args .window)))) ∙ b .pre .1 .1 .1 .1 in
+    (search needs, (search needs, (search needs, (search needs, fit))))
+
+mul-copy-part : tie.Need-mul-copy-part
+mul-copy-part c = search needs
+
+add-copy-part : tie.Need-add-copy-part
+add-copy-part c = search needs
+
+mul-copy-part-2 : tie.Need-mul-copy-part-2
+mul-copy-part-2 c = search needs
+
+add-copy-part-2 : tie.Need-add-copy-part-2
+add-copy-part-2 c = search needs
+
+copy-part-requires : tie.Need-copy-part-requires
+unfolding frontierLength
+copy-part-requires c κs = search needs
+
+same-length : tie.Need-same-length
+same-length c = search needs
+
+returns : tie.Need-returns
+returns c =
+    let a = c .before .before .before .before .before .before .before .before .before .before .args in cc (frontier-written (a .v) (a .w) (now (a .window)) (a .from) (now (a .target)) (a .to))
+
+pub move-frontier-spec : {M : Type 1} → statement M
+move-frontier-spec =
+    tie.close
+    (tie.spec
+    move-counts-requires
+    mul-copy-part
+    add-copy-part
+    mul-copy-part-2
+    add-copy-part-2
+    copy-part-requires
+    same-length
+    returns)
