@@ -9,6 +9,7 @@ use lib.ListN.{length}
 use lib.Seq.{sets}
 use borrow.Author.Tests.{ne-eqb, eq-eqb}
 use Rattle.clocks.specs.stored.BoundedLaws.{or-false-e}
+use Rattle.frontiers.specs.Bytes.{frontierLength}
 use Rattle.refusals.specs.Refusals.{roomOf, badState}
 use Rattle.answers.specs.Turns.{chosen-by, passed, end, turn}
 use Rattle.call_move.specs.Parts.{lengthOf, recordParts, windowParts}
@@ -68,6 +69,14 @@ module _ (v w : ℕ) (s window t target : List ℕ) where
       let state = passed (badState v room s) 34 _ (lit< tt) (lengths .1) in
       or-false-e (someTooLarge v w recordParts s) (someTooLarge v w (windowParts room) window)
       (passed (overflows v w s window) 43 _ (lit< tt) (state .1) .0)
+
+  -- What the frontiers' turn asks for.
+  pub window-asked : (n : ℕ) → fault ≡ 0 → n ≡ room
+      → (n ≤ 1024) × (n * frontierLength v ≤ length window) × (n * frontierLength w ≤ length target)
+      × (someTooLarge v w (windowParts n) window ≡ false)
+  window-asked n h e =
+      let right = move-right h in
+      rw e (right .few, omega (arith, right .window-right), omega (arith, right .target-window-right), move-fits h .1)
 
   pub move-whole : (n : ℕ) (bytes frontiers : List ℕ) → fault ≡ 0 → n ≡ room → bytes ≡ moved v w recordParts s
       → frontiers ≡ sets target 0 (moved v w (windowParts n) window)

@@ -22,6 +22,10 @@ window-whole w n h =
     let exact = or-false-e (ltb (1024 * size) n) (not (eqb (n % size) 0)) whole .1 in
     omega (arith, div-add-mod' n size, eqb-true (n % size) 0 (not-false (eqb (n % size) 0) exact))
 
+-- As many frontiers as there is room for lie within a window.
+pub frontiers-within : (w room n m : ℕ) → m ≡ room → n ≡ room * frontierLength w → m * frontierLength w ≤ n
+frontiers-within w room n m e h = rw e (omega arith)
+
 -- Both windows have room for n frontiers.
 pub record Right (v w n record-length window-length target-length target-window-length : ℕ) : Type 0 where
   pub record-right : record-length ≡ recordLength v

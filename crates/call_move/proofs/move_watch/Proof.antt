@@ -1,50 +1,75 @@
-use native.Mathlib.Omega.{arith}
-use mathlib.Core.Path.{_≡_, refl, sym, ap, _∙_}
-use Prim.Native.Nat.{ℕ, _≤_, _<_, _-_, _+_, _*_}
-use mathlib.Core.List.{List, _++_}
-use lib.ListN.{length, getD, take, drop, set, length-set}
-use mathlib.Core.Logic.{⊎-elim}
-use borrow.Author.Needs.{needs}
-use Rattle.call_move.proofs.move_watch.Statement.{statement}
+-- A number turns the move back; else record and window are moved: the laws `move-turned` and `move-whole`.
 use Rattle.call_move.proofs.move_watch.Tie as tie
-use Rattle.call_move.proofs.move_watch.Reads as reads
-use Rattle.call_move.proofs.move_watch.Lts as lts
-use Rattle.call_move.proofs.record_parts.move_record.Reads as move-record-reads
-use Rattle.call_move.proofs.refused.move_fault.Reads as move-fault-reads
-use Rattle.call_move.proofs.window_parts.move_window.Reads as move-window-reads
-use Rattle.refusals.proofs.room_of.Reads as room-of-reads
+use native.Mathlib.Omega.{arith}
+use Prim.Native.Nat.{ℕ}
+use mathlib.Core.Path.{_≡_, sym, _∙_}
+use lib.ListN.{length}
+use borrow.Author.Needs.{needs}
+use denote.Ref.{now}
+use Rattle.call_move.specs.MoveCode.{moveFault}
+use Rattle.call_move.proofs.CallSteps.{move-turned, move-right, move-fits, window-asked, move-whole}
+use Rattle.call_move.proofs.move_watch.Statement.{statement}
 
--- src/lib.rt:32:9
+-- ---- Places in the walk: the start, and where nothing turns the move back
+
+abbrev start : tie.After-move-fault → tie.Start
+start c = c .before .before .before .before .before
+
+abbrev passed : tie.After-room-of → tie.Else1
+passed c = c .before .before .before .before .before
+
+-- No number was found.
+none : (c : tie.Else1) → let a = start (c .before) .args in
+    moveFault (a .v) (a .w) (now (a .«record»)) (now (a .window)) (length (now (a .target))) (length (now (a .target-window)))
+    ≡ 0
+none c = sym (c .before .move-fault .ensures) ∙ c .if1 .left
+
+-- ---- Needs
+
 move-fault-requires : tie.Need-move-fault-requires
 move-fault-requires c κs = search needs
 
--- src/lib.rt:34:9
 returns : tie.Need-returns
-returns c = search needs
+returns c =
+    let f = c .before in
+    let a = start f .args in
+    let back = move-turned (a .v) (a .w) (now (a .«record»)) (now (a .window)) (now (a .target)) (now (a .target-window)) _ (f .move-fault .ensures) (c .if1 .taken) in
+    (back .0, (back .1, back .2))
 
--- src/lib.rt:36:5
 move-record-requires : tie.Need-move-record-requires
-move-record-requires c κs = search needs
+move-record-requires c κs =
+    let e = c .before in
+    let a = start (e .before) .args in
+    let right = move-right (a .v) (a .w) (now (a .«record»)) (now (a .window)) (now (a .target)) (now (a .target-window)) (none e) in
+    let fits = move-fits (a .v) (a .w) (now (a .«record»)) (now (a .window)) (now (a .target)) (now (a .target-window)) (none e) in
+    (search needs, (search needs, (right .record-right, (right .target-right, fits .0))))
 
--- src/lib.rt:37:9
 room-of-requires : tie.Need-room-of-requires
 room-of-requires c κs = search needs
 
--- src/lib.rt:38:5
 move-window-requires : tie.Need-move-window-requires
-move-window-requires c κs = search needs
+move-window-requires c κs =
+    let e = passed (c .before) in
+    let a = start (e .before) .args in
+    let room = c .before .room-of .ensures in
+    let asked = window-asked (a .v) (a .w) (now (a .«record»)) (now (a .window)) (now (a .target)) (now (a .target-window)) _ (none e) room in
+    (search needs, (search needs, (asked .0, (asked .1, (asked .2, asked .3)))))
 
--- src/lib.rt:18:1
 same-length : tie.Need-same-length
 same-length c = search needs
 
--- src/lib.rt:18:1
 same-length-2 : tie.Need-same-length-2
 same-length-2 c = search needs
 
--- src/lib.rt:18:1
 returns-2 : tie.Need-returns-2
-returns-2 c = search needs
+returns-2 c =
+    let r = c .before .before .before .before in
+    let e = passed r in
+    let a = start (e .before) .args in
+    let bytes = c .before .before .before .before .before .before .before .move-record .ensures in
+    let frontiers = c .before .before .move-window .ensures in
+    let whole = move-whole (a .v) (a .w) (now (a .«record»)) (now (a .window)) (now (a .target)) (now (a .target-window)) _ _ _ (none e) (r .room-of .ensures) bytes frontiers in
+    (whole .0, (whole .1, whole .2))
 
 pub move-watch-spec : {M : Type 1} → statement M
 move-watch-spec =

@@ -13,7 +13,7 @@ use Rattle.call_move.specs.Parts.{recordParts, windowParts}
 use Rattle.call_move.specs.Move.{someTooLarge, badLengths, overflows}
 use Rattle.call_move.specs.MoveCode.{moveFault}
 use Rattle.call_move.specs.MoveLaws.{none-too-large}
-use Rattle.call_move.specs.LengthLaws.{Right, lengths-right}
+use Rattle.call_move.specs.LengthLaws.{frontiers-within, Right, lengths-right}
 use Rattle.call_move.proofs.refused.move_fault.Statement.{statement}
 
 -- ---- Places in the walk: the start, and where 6, 34 and the record's counts have let the move pass
@@ -26,6 +26,9 @@ lengths-passed c = c .before .before .before
 
 abbrev narrower : tie.Then3 → tie.Else1
 narrower c = lengths-passed (c .before)
+
+abbrev room-read : tie.Then3 → tie.After-room-of
+room-read c = c .before .before .before
 
 abbrev record-passed : tie.Else4 → tie.Then3
 record-passed c = c .before .before
@@ -66,7 +69,7 @@ window-read : (c : tie.After-window-too-large) → let a = start (narrower (reco
     ≡ c .window-too-large .result
 window-read c =
     let a = start (narrower (record-passed (c .before))) .args in
-    let room = record-passed (c .before) .before .before .before .room-of in
+    let room = room-read (record-passed (c .before)) .room-of in
     sym (c .window-too-large .ensures
     ∙ ap (λ (n : ℕ). someTooLarge (a .v) (a .w) (windowParts n) (now (a .window))) (room .ensures))
 
@@ -99,7 +102,12 @@ returns-3 c =
     rw (lengths-good (lengths-passed e), state-good e, sym (c .before .record-too-large .ensures) ∙ c .if4 .taken)
 
 window-too-large-requires : tie.Need-window-too-large-requires
-window-too-large-requires c κs = ?
+window-too-large-requires c κs =
+    let t = record-passed c in
+    let r = right (narrower t) in
+    let v = start (narrower t) .args .v in
+    let n = room-read t .room-of in
+    (search needs, (search needs, (omega (arith, n .ensures, r .few), frontiers-within v _ _ _ (n .ensures) (r .window-right))))
 
 returns-4 : tie.Need-returns-4
 unfolding moveFault overflows
