@@ -1,7 +1,7 @@
 -- A move from its lengths on: what turns it back, what is known where nothing does, and what its parts make up.
 use Prim.Native.Nat.{ℕ, _*_, _≤_}
 use native.Mathlib.Omega.{arith}
-use mathlib.Core.Path.{_≡_, sym, ap, _∙_}
+use mathlib.Core.Path.{_≡_, sym, _∙_}
 use mathlib.Core.Bool.{false, cond}
 use mathlib.Core.List.{List}
 use lib.Dec.{eqb, lit<}
@@ -86,7 +86,9 @@ module _ (v w : ℕ) (s window t target : List ℕ) where
   move-whole n bytes frontiers h e b f =
       let done : moveCall v w s window t target ≡ whole = move-by ∙ rw (eq-eqb fault 0 h) in
       let right = move-right h in
-      let read : lengthOf v (windowParts room) ≤ length window = omega (arith, length-windowParts v room, right .window-right) in
-      let room-there : length target ≡ lengthOf w (windowParts room) = right .target-window-right ∙ sym (length-windowParts w room) in
+      let read : lengthOf v (windowParts room) ≤ length window =
+      omega (arith, length-windowParts v room, right .window-right) in
+      let room-there : length target ≡ lengthOf w (windowParts room) =
+      right .target-window-right ∙ sym (length-windowParts w room) in
       let all = all-written v w (windowParts room) window target read room-there in
       (rw done, rw done b, rw done (f ∙ rw e all))

@@ -1,8 +1,8 @@
 -- One turn of the loops over counts: one more count is looked at, or written.
-use Prim.Native.Nat.{ℕ, _+_, _*_, _^_, _<_}
+use Prim.Native.Nat.{ℕ, suc, _+_, _*_, _^_, _<_}
 use native.Mathlib.Numerals.{add-one}
 use mathlib.Core.Path.{_≡_, refl, sym, ap, _∙_}
-use mathlib.Core.Bool.{Bool, false, _||_}
+use mathlib.Core.Bool.{false, _||_}
 use mathlib.Core.List.{List, [], _∷_, _++_}
 use lib.ListN.{length, drop}
 use lib.Seq.{sets}
@@ -69,5 +69,6 @@ written-more v w i s place t to =
     length-countBytes w (listOf i counts) ∙ ap (λ (n : ℕ). n * w) (length-listOf i counts) in
     let seam : sets (sets t to front) (to + i * w) (bytesOf w (counts i)) ≡ sets t to (front ++ bytesOf w (counts i)) =
     rw long at (sets-append t to front (bytesOf w (counts i))) in
-    rw (← number-drop s place (i * v) v, add-one, listOf-more i counts, countBytes-append w (listOf i counts) (counts i ∷ []), countBytes-one w (counts i))
-    seam
+    let next : countBytes w (listOf (suc i) counts) ≡ front ++ bytesOf w (counts i) =
+    rw (listOf-more i counts, countBytes-append w (listOf i counts) (counts i ∷ []), countBytes-one w (counts i)) in
+    rw (← number-drop s place (i * v) v, add-one, next) seam

@@ -1,21 +1,19 @@
 -- The record's parts, as the code goes through them.
 use Prim.Native.Nat.{ℕ, _+_, _*_, _≤_, _<_}
 use native.Mathlib.Omega.{arith}
-use native.Mathlib.Nat.{zero-add}
 use mathlib.Core.Path.{_≡_, refl, sym, ap, _∙_}
-use mathlib.Core.Bool.{Bool, false, _||_, or-comm, or-false}
-use mathlib.Core.List.{List, [], _++_, append-assoc, append-nil}
+use mathlib.Core.Bool.{false, _||_, or-comm, or-false}
+use mathlib.Core.List.{List, _++_, append-assoc, append-nil}
 use lib.ListN.{length, take, drop, length-append, length-drop}
 use lib.Seq.{sets, drop-drop, length-take-le}
 use Rattle.codec.specs.SetsLaws.{sets-sets}
 use Rattle.clocks.specs.stored.BoundedLaws.{or-false-e}
 use Rattle.frontiers.specs.Bytes.{countBytes}
-use Rattle.frontiers.specs.BytesLaws.{length-countBytes}
 use Rattle.records.specs.Record.{eventLength, tablePlace, pendingPlace}
 use Rattle.call_move.specs.Parts.{Part, partLength, lengthOf, repeated, eventParts, recordParts}
 use Rattle.call_move.specs.Move.{countsFrom, moved, someTooLarge}
 use Rattle.call_move.specs.MoveCode.{anyTooLarge, frontParts, partsTo}
-use Rattle.call_move.specs.PartLaws.{lengthOf-append, lengthOf-repeated, length-eventParts, repeated-more, length-countsFrom, someTooLarge-append}
+use Rattle.call_move.specs.PartLaws.{lengthOf-append, lengthOf-repeated, length-eventParts, repeated-more, someTooLarge-append}
 use Rattle.call_move.specs.MoveLaws.{none-in-each}
 use Rattle.call_move.proofs.PartSteps.{length-counts, stored-behind, parts-looked, parts-written}
 
@@ -54,9 +52,11 @@ unfolding someTooLarge anyTooLarge
 event-counts v w s place = rw (drop-drop 8 place s, or-false)
 
 pub event-looked : (v w i : ℕ) (s : List ℕ) (place : ℕ) → place ≡ pendingPlace v i
-    → (anyTooLarge v w 8 (drop (place + 8) s) || someTooLarge v w (partsTo i) s) ≡ someTooLarge v w (partsTo (i + 1)) s
+    → (anyTooLarge v w 8 (drop (place + 8) s) || someTooLarge v w (partsTo i) s)
+    ≡ someTooLarge v w (partsTo (i + 1)) s
 event-looked v w i s place e =
-    rw (← event-counts v w s place, parts-next i) (parts-looked v w (partsTo i) eventParts s place (e ∙ parts-place v i))
+    rw (← event-counts v w s place, parts-next i)
+    (parts-looked v w (partsTo i) eventParts s place (e ∙ parts-place v i))
 
 -- ---- None too large
 
@@ -80,7 +80,8 @@ pub front-counts-fit : (v w : ℕ) (s : List ℕ) → someTooLarge v w frontPart
 unfolding someTooLarge anyTooLarge frontParts
 front-counts-fit v w s h =
     let both = or-false-e (anyTooLarge v w 8 (drop 8 s)) _ h in
-    (both .0, rw (← drop-drop (8 * v) 8 s) (or-false-e (anyTooLarge v w 64 (drop (8 * v) (drop 8 s))) false (both .1) .0))
+    let clocks = or-false-e (anyTooLarge v w 64 (drop (8 * v) (drop 8 s))) false (both .1) in
+    (both .0, rw (← drop-drop (8 * v) 8 s) (clocks .0))
 
 pub event-counts-fit : (v w : ℕ) (s : List ℕ) (place : ℕ) → someTooLarge v w eventParts (drop place s) ≡ false
     → anyTooLarge v w 8 (drop (place + 8) s) ≡ false
@@ -88,19 +89,26 @@ event-counts-fit v w s place h = sym (event-counts v w s place) ∙ h
 
 -- ---- Written
 
-pub event-written : (v w : ℕ) (s : List ℕ) (from : ℕ) (t : List ℕ) (to : ℕ) → from + eventLength v ≤ length s
-    → sets (sets (sets t to (take 8 (drop from s))) (to + 8) (countBytes w (countsFrom v 8 (drop (from + 8) s))))
-    (to + 8 + 8 * w) (take 8 (drop (from + 8 + 8 * v) s))
-    ≡ sets t to (moved v w eventParts (drop from s))
+-- The three parts of a pending event, stored one after the other.
+pub event-written : (v w : ℕ) (s : List ℕ) (from : ℕ) (t t₁ t₂ t₃ : List ℕ) (to : ℕ) → from + eventLength v ≤ length s
+    → t₁ ≡ sets t to (take 8 (drop from s))
+    → t₂ ≡ sets t₁ (to + 8) (countBytes w (countsFrom v 8 (drop (from + 8) s)))
+    → t₃ ≡ sets t₂ (to + 8 + 8 * w) (take 8 (drop (from + 8 + 8 * v) s))
+    → t₃ ≡ sets t to (moved v w eventParts (drop from s))
 unfolding moved
-event-written v w s from t to h =
+event-written v w s from t t₁ t₂ t₃ to h e₁ e₂ e₃ =
     let first : List ℕ = take 8 (drop from s) in
     let clock : List ℕ = countBytes w (countsFrom v 8 (drop (from + 8) s)) in
     let labels : List ℕ = take 8 (drop (from + 8 + 8 * v) s) in
     let eight : length first ≡ 8 = length-take-le 8 (drop from s) (simp length-drop (omega arith)) in
     let long : length clock ≡ 8 * w = length-counts v w 8 (drop (from + 8) s) in
     let both : length (first ++ clock) ≡ 8 + 8 * w = rw (length-append, eight, long) in
-    rw (stored-behind t to first (to + 8) clock (omega arith), stored-behind t to (first ++ clock) (to + 8 + 8 * w) labels (omega arith), drop-drop 8 from s, drop-drop (8 * v) (from + 8) s, append-nil, append-assoc)
+    let d₂ : t₂ ≡ sets t to (first ++ clock) =
+    e₂ ∙ ap (λ (u : List ℕ). sets u (to + 8) clock) e₁ ∙ stored-behind t to first (to + 8) clock (omega arith) in
+    let d₃ : t₃ ≡ sets t to (first ++ clock ++ labels) =
+    e₃ ∙ ap (λ (u : List ℕ). sets u (to + 8 + 8 * w) labels) d₂
+    ∙ stored-behind t to (first ++ clock) (to + 8 + 8 * w) labels (omega arith) in
+    d₃ ∙ rw (drop-drop 8 from s, drop-drop (8 * v) (from + 8) s, append-nil, append-assoc)
 
 pub events-written : (v w i : ℕ) (s : List ℕ) (from : ℕ) (t : List ℕ) (to : ℕ) → from ≡ pendingPlace v i
     → to ≡ pendingPlace w i → from ≤ length s

@@ -1,7 +1,7 @@
 -- The window's frontiers, as the code goes through them.
 use Prim.Native.Nat.{ℕ, _+_, _*_, _≤_, _<_}
 use native.Mathlib.Omega.{arith}
-use mathlib.Core.Path.{_≡_, refl, sym, _∙_}
+use mathlib.Core.Path.{_≡_, refl, sym, ap, _∙_}
 use mathlib.Core.Bool.{false, _||_, or-false}
 use mathlib.Core.List.{List, [], append-nil}
 use lib.ListN.{length, take, drop}
@@ -22,7 +22,8 @@ unfolding someTooLarge anyTooLarge
 frontier-counts v w s = rw or-false
 
 pub frontier-looked : (v w i : ℕ) (s : List ℕ) (place : ℕ) → place ≡ i * frontierLength v
-    → (anyTooLarge v w 8 (drop place s) || someTooLarge v w (windowParts i) s) ≡ someTooLarge v w (windowParts (i + 1)) s
+    → (anyTooLarge v w 8 (drop place s) || someTooLarge v w (windowParts i) s)
+    ≡ someTooLarge v w (windowParts (i + 1)) s
 frontier-looked v w i s place e =
     rw (← frontier-counts v w (drop place s), repeated-more i frontierParts)
     (parts-looked v w (windowParts i) frontierParts s place (e ∙ sym (length-windowParts v i)))
@@ -36,15 +37,18 @@ frontier-fits v w n i s place e l h =
 
 -- ---- Written
 
-pub frontier-written : (v w : ℕ) (s : List ℕ) (from : ℕ) (t : List ℕ) (to : ℕ)
-    → sets (sets t to (countBytes w (countsFrom v 8 (drop from s)))) (to + 8 * w) (take 24 (drop (from + 8 * v) s))
-    ≡ sets t to (moved v w frontierParts (drop from s))
+-- The two parts of a frontier, stored one after the other.
+pub frontier-written : (v w : ℕ) (s : List ℕ) (from : ℕ) (t t₁ t₂ : List ℕ) (to : ℕ)
+    → t₁ ≡ sets t to (countBytes w (countsFrom v 8 (drop from s)))
+    → t₂ ≡ sets t₁ (to + 8 * w) (take 24 (drop (from + 8 * v) s))
+    → t₂ ≡ sets t to (moved v w frontierParts (drop from s))
 unfolding moved
-frontier-written v w s from t to =
+frontier-written v w s from t t₁ t₂ to e₁ e₂ =
     let clock : List ℕ = countBytes w (countsFrom v 8 (drop from s)) in
     let rest : List ℕ = take 24 (drop (from + 8 * v) s) in
     let long : length clock ≡ 8 * w = length-counts v w 8 (drop from s) in
-    rw (stored-behind t to clock (to + 8 * w) rest (omega arith), drop-drop (8 * v) from s, append-nil)
+    e₂ ∙ ap (λ (u : List ℕ). sets u (to + 8 * w) rest) e₁ ∙ stored-behind t to clock (to + 8 * w) rest (omega arith)
+    ∙ rw (drop-drop (8 * v) from s, append-nil)
 
 pub frontiers-written : (v w i : ℕ) (s : List ℕ) (from : ℕ) (t : List ℕ) (to : ℕ) → from ≡ i * frontierLength v
     → to ≡ i * frontierLength w → from ≤ length s

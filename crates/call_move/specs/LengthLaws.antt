@@ -1,9 +1,9 @@
 -- What is known where none of a move's lengths is wrong (6).
-use Prim.Native.Nat.{ℕ, _*_, _/_, _%_, _≤_}
+use Prim.Native.Nat.{ℕ, _*_, _%_, _≤_}
 use native.Mathlib.Omega.{arith}
 use native.Mathlib.Nat.{div-add-mod'}
 use mathlib.Core.Path.{_≡_}
-use mathlib.Core.Bool.{Bool, false, not, _||_}
+use mathlib.Core.Bool.{false, not, _||_}
 use lib.Dec.{ltb, eqb}
 use borrow.Author.Tests.{not-false, eqb-true}
 use Rattle.clocks.specs.stored.BoundedLaws.{or-false-e}
@@ -41,7 +41,7 @@ lengths-right v w a b c d h =
     let second = or-false-e (badWindowLength v b) _ (first .1) in
     let third = or-false-e (badRecordLength w c) _ (second .1) in
     let fourth = or-false-e (badWindowLength w d) (not (eqb (roomOf v b) (roomOf w d))) (third .1) in
-    let same : roomOf v b ≡ roomOf w d = eqb-true (roomOf v b) (roomOf w d) (not-false (eqb (roomOf v b) (roomOf w d)) (fourth .1)) in
+    let same : roomOf v b ≡ roomOf w d = eqb-true (roomOf v b) (roomOf w d) (not-false _ (fourth .1)) in
     record {
       record-right = right-length v a (first .0);
       window-right = window-whole v b (second .0);

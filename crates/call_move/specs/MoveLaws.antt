@@ -6,7 +6,7 @@ use native.Mathlib.Decide.{decLt}
 use native.Mathlib.Numerals.{add-one}
 use native.Mathlib.Nat.{lt-of-lt-of-le, pow-le-pow-right}
 use mathlib.Core.Path.{_≡_, refl, sym, ap, _∙_}
-use mathlib.Core.Bool.{Bool, false, _||_}
+use mathlib.Core.Bool.{Bool, false}
 use mathlib.Core.List.{List, [], _∷_, _++_, append-assoc}
 use lib.Dec.{lit<}
 use lib.ListN.{drop}
@@ -47,6 +47,9 @@ none-in-each v w ps qs s (suc n) i l h = go (decLt i n) (λ k e. none-in-each v 
     front : List Part
     front = ps ++ repeated n qs
 
+    here : Bool
+    here = someTooLarge v w qs (drop (lengthOf v (ps ++ repeated i qs)) s)
+
     one-more : repeated (suc n) qs ≡ repeated n qs ++ qs
     one-more = rw add-one at (repeated-more n qs)
 
@@ -58,7 +61,6 @@ none-in-each v w ps qs s (suc n) i l h = go (decLt i n) (λ k e. none-in-each v 
         or-false-e (someTooLarge v w front s) (someTooLarge v w qs (drop (lengthOf v front) s))
         (sym (someTooLarge-append v w front qs s) ∙ ap (λ (l : List Part). someTooLarge v w l s) (sym last-apart) ∙ h)
 
-    go : Dec (i < n) → (i < n → someTooLarge v w front s ≡ false → someTooLarge v w qs (drop (lengthOf v (ps ++ repeated i qs)) s) ≡ false)
-        → someTooLarge v w qs (drop (lengthOf v (ps ++ repeated i qs)) s) ≡ false
+    go : Dec (i < n) → (i < n → someTooLarge v w front s ≡ false → here ≡ false) → here ≡ false
     go (yes k) before = before k (both .0)
     go (no k) before = let e : i ≡ n = omega arith in rw e (both .1)

@@ -42,7 +42,8 @@ fn move_front(record: &[u8], v: usize, target: &mut [u8], w: usize)
     requires { ⌜ length (now «record») ≡ recordLength v ⌝ }
     requires { ⌜ length (now target) ≡ recordLength w ⌝ }
     requires { ⌜ someTooLarge v w frontParts (now «record») ≡ false ⌝ }
-    ensures { λ r. ⌜ now (target .exit) ≡ sets (now (target .entry)) 0 (moved v w frontParts (now («record» .entry))) ⌝ }
+    ensures { λ r. ⌜ now (target .exit)
+        ≡ sets (now (target .entry)) 0 (moved v w frontParts (now («record» .entry))) ⌝ }
 {
     copy_part(record, 0, 8, target, 0);
     move_counts(record, 8, v, 8, target, 8, w);

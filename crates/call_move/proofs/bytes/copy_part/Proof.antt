@@ -1,12 +1,8 @@
 -- The bytes lent from a place on: the law `part-lent`.
 use Rattle.call_move.proofs.bytes.copy_part.Tie as tie
 use native.Mathlib.Omega.{arith}
-use Prim.Native.Nat.{ℕ, _≤_, _<_, _-_, _+_, _*_}
-use mathlib.Core.Path.{_≡_, sym, ap, _∙_}
-use mathlib.Core.Bool.{Bool, false}
-use mathlib.Core.List.{List}
-use lib.ListN.{length, take, drop, length-take, length-drop}
-use lib.Seq.{sets}
+use Prim.Native.Nat.{_-_}
+use lib.ListN.{length-take, length-drop}
 use borrow.Author.Needs.{needs}
 use denote.Ref.{now}
 use Rattle.call_move.proofs.PartSteps.{part-lent}

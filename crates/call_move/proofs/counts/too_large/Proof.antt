@@ -1,8 +1,6 @@
 -- Two bytes hold up to 65,535, and four hold every count.
 use Rattle.call_move.proofs.counts.too_large.Tie as tie
 use native.Mathlib.Omega.{arith}
-use Prim.Native.Nat.{_<_}
-use mathlib.Core.Path.{_≡_}
 use Rattle.call_move.proofs.counts.too_large.Statement.{statement}
 use Rattle.call_move.proofs.CountSteps.{two-hold, four-hold}
 

@@ -1,20 +1,20 @@
 -- Three parts, each written behind those before it: the law `event-written`.
 use Rattle.call_move.proofs.record_parts.move_event.Tie as tie
-use native.Mathlib.Omega.{arith}
-use Prim.Native.Nat.{ℕ, _≤_, _<_, _-_, _+_, _*_}
-use mathlib.Core.Path.{_≡_, sym, ap, _∙_}
-use mathlib.Core.Bool.{Bool, false}
-use mathlib.Core.List.{List}
-use lib.ListN.{length, take, drop, length-take, length-drop}
-use lib.Seq.{sets}
+use Prim.Native.Nat.{_-_}
 use borrow.Author.Needs.{needs}
 use denote.Ref.{now}
 use Rattle.call_move.proofs.RecordSteps.{event-counts-fit, event-written}
 use Rattle.call_move.proofs.record_parts.move_event.Statement.{statement}
 
--- The start, from where the first part is written.
+-- The start, and where a part is written.
 abbrev start : tie.After-copy-part → tie.Start
 start c = c .before .before .before .before
+
+abbrev first-written : tie.After-move-counts → tie.After-copy-part
+first-written c = c .before .before .before .before
+
+abbrev clock-written : tie.After-copy-part2 → tie.After-move-counts
+clock-written c = c .before .before .before .before
 
 copy-part-requires : tie.Need-copy-part-requires
 copy-part-requires c κs = search needs
@@ -28,7 +28,8 @@ add-move-counts-2 c = search needs
 move-counts-requires : tie.Need-move-counts-requires
 move-counts-requires c κs =
     let b = start (c .before .before .before) in
-    let fit = event-counts-fit (b .args .v) (b .args .w) (now (b .args .«record»)) (b .args .from) (b .pre .1 .1 .1 .1) in
+    let a = b .args in
+    let fit = event-counts-fit (a .v) (a .w) (now (a .«record»)) (a .from) (b .pre .1 .1 .1 .1) in
     (search needs, (search needs, (search needs, (search needs, fit))))
 
 add-copy-part : tie.Need-add-copy-part
@@ -57,8 +58,13 @@ same-length c = search needs
 
 returns : tie.Need-returns
 returns c =
-    let a = c .before .before .before .before .before .before .before .before .before .before .before .before .before .before .args in
-    cc (event-written (a .v) (a .w) (now (a .«record»)) (a .from) (now (a .target)) (a .to) (omega arith))
+    let labels = c .before .before in
+    let clock = clock-written labels in
+    let first = first-written clock in
+    let b = start first in
+    let a = b .args in
+    event-written (a .v) (a .w) (now (a .«record»)) (a .from) (now (a .target)) _ _ _ (a .to) (b .pre .1 .1 .0)
+    (first .copy-part .ensures) (clock .move-counts .ensures) (labels .copy-part2 .ensures)
 
 pub move-event-spec : {M : Type 1} → statement M
 move-event-spec =

@@ -1,18 +1,13 @@
 -- Four parts, each written behind those before it: the law `front-written`.
 use Rattle.call_move.proofs.record_parts.move_front.Tie as tie
 use native.Mathlib.Omega.{arith}
-use Prim.Native.Nat.{ℕ, _≤_, _<_, _-_, _+_, _*_}
-use mathlib.Core.Path.{_≡_, sym, ap, _∙_}
-use mathlib.Core.Bool.{Bool, false}
-use mathlib.Core.List.{List}
-use lib.ListN.{length, take, drop, length-take, length-drop}
-use lib.Seq.{sets}
+use Prim.Native.Nat.{_-_}
 use borrow.Author.Needs.{needs}
 use denote.Ref.{now}
 use Rattle.call_move.proofs.RecordSteps.{front-counts-fit, front-written}
 use Rattle.call_move.proofs.record_parts.move_front.Statement.{statement}
 
--- The start, from where the first part is written, and from the end.
+-- The start, and where a part is written.
 abbrev start : tie.After-copy-part → tie.Start
 start c = c .before .before .before .before
 
@@ -70,8 +65,8 @@ returns c =
     let from = c .before .before .before .before .before .table-place in
     let to = c .before .before .before .table-place2 in
     front-written (a .v) (a .w) (now (a .«record»)) (now (a .target)) _ _ _ _ (from .result) (to .result)
-    (from .ensures .0) (to .ensures .0) (omega (arith, start first .pre .1 .1 .0)) (first .copy-part .ensures) (taken .move-counts .ensures)
-    (counts .move-counts2 .ensures) (c .before .before .copy-part2 .ensures)
+    (from .ensures .0) (to .ensures .0) (omega (arith, start first .pre .1 .1 .0)) (first .copy-part .ensures)
+    (taken .move-counts .ensures) (counts .move-counts2 .ensures) (c .before .before .copy-part2 .ensures)
 
 pub move-front-spec : {M : Type 1} → statement M
 move-front-spec =

@@ -1,18 +1,17 @@
 -- What stands before the pending events, then one event more each turn: the law `events-written`.
 use Rattle.call_move.proofs.record_parts.move_record.Tie as tie
 use native.Mathlib.Omega.{arith}
-use Prim.Native.Nat.{ℕ, _≤_, _<_, _-_, _+_, _*_}
-use mathlib.Core.Path.{_≡_, sym, ap, _∙_}
-use mathlib.Core.Bool.{Bool, false}
+use Prim.Native.Nat.{ℕ, _≤_, _-_}
+use mathlib.Core.Path.{_≡_, ap, _∙_}
 use mathlib.Core.List.{List}
-use lib.ListN.{length, take, drop, length-take, length-drop}
+use lib.ListN.{length, drop}
 use lib.Seq.{sets}
 use borrow.Author.Needs.{needs}
 use denote.Ref.{now}
-use Rattle.records.specs.Record.{recordLength, pendingPlace, eventLength}
+use Rattle.records.specs.Record.{recordLength}
 use Rattle.records.specs.RecordLaws.{event-within}
 use Rattle.call_move.specs.Parts.{Part, lengthOf, eventParts, recordParts}
-use Rattle.call_move.specs.Move.{moved, someTooLarge}
+use Rattle.call_move.specs.Move.{moved}
 use Rattle.call_move.specs.MoveCode.{partsTo}
 use Rattle.call_move.specs.PartLaws.{length-recordParts}
 use Rattle.call_move.proofs.PartSteps.{all-written}
@@ -68,8 +67,11 @@ move-event-requires c κs =
     let w = b .args .w in
     let i = h .loop .i in
     let place = c .before .before .pending-place in
-    let fit = event-fits v w i (now (b .args .«record»)) (place .result) (place .ensures .0) (omega arith) (b .pre .1 .1 .1 .1) in
-    (search needs, (search needs, (omega (arith, event-within v i (omega arith)), (omega (arith, event-within w i (omega arith)), fit))))
+    let s = now (b .args .«record») in
+    let from = event-within v i (omega arith) in
+    let to = event-within w i (omega arith) in
+    let fit = event-fits v w i s (place .result) (place .ensures .0) (omega arith) (b .pre .1 .1 .1 .1) in
+    (search needs, (search needs, (omega (arith, from), (omega (arith, to), fit))))
 
 add-i : tie.Need-add-i Inv-loop μ-loop
 add-i c = search needs
@@ -86,8 +88,14 @@ loop-again c =
     let to = c .before .before .before .pending-place2 in
     let within : from .result ≤ length s = omega (arith, event-within (a .v) (l .i) (omega arith)) in
     let event = moved (a .v) (a .w) eventParts (drop (from .result) s) in
-    let more = events-written (a .v) (a .w) (l .i) s (from .result) (begun (head c)) (to .result) (from .ensures .0) (to .ensures .0) within in
-    (search needs, search needs, search needs, c .before .before .move-event .ensures ∙ ap (λ (t : List ℕ). sets t (to .result) event) (l .inv .3) ∙ more)
+    let more =
+    events-written (a .v) (a .w) (l .i) s (from .result) (begun (head c)) (to .result) (from .ensures .0)
+    (to .ensures .0) within in (
+      search needs,
+      search needs,
+      search needs,
+      c .before .before .move-event .ensures ∙ ap (λ (t : List ℕ). sets t (to .result) event) (l .inv .3) ∙ more,
+    )
 
 same-length : tie.Need-same-length Inv-loop μ-loop
 same-length c = search needs

@@ -1,18 +1,15 @@
--- The counts before the pending events, then those of one event more each turn: the laws `front-looked`, `event-looked`.
+-- The counts before the pending events, then those of one event more each turn: the laws `front-looked` and
+-- `event-looked`.
 use Rattle.call_move.proofs.record_parts.record_too_large.Tie as tie
 use native.Mathlib.Omega.{arith}
-use Prim.Native.Nat.{ℕ, _≤_, _<_, _-_, _+_, _*_}
-use mathlib.Core.Path.{_≡_, sym, ap, _∙_}
-use mathlib.Core.Bool.{Bool, false}
+use Prim.Native.Nat.{ℕ, _≤_, _-_}
+use mathlib.Core.Path.{_≡_, ap, _∙_}
 use mathlib.Core.List.{List}
-use lib.ListN.{length, take, drop, length-take, length-drop}
-use lib.Seq.{sets}
 use borrow.Author.Needs.{needs}
 use denote.Ref.{now}
-use Rattle.records.specs.Record.{recordLength, pendingPlace, eventLength}
 use Rattle.records.specs.RecordLaws.{event-within}
 use Rattle.call_move.specs.Parts.{Part}
-use Rattle.call_move.specs.Move.{moved, someTooLarge}
+use Rattle.call_move.specs.Move.{someTooLarge}
 use Rattle.call_move.specs.MoveCode.{partsTo}
 use Rattle.call_move.proofs.RecordSteps.{parts-all, front-looked, event-looked}
 use Rattle.call_move.proofs.record_parts.record_too_large.Statement.{statement}

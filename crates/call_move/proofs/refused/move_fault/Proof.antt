@@ -1,7 +1,7 @@
 -- The tests, one after the other. Where counts do not become narrower none is too large: the law `none-too-large`.
 use Rattle.call_move.proofs.refused.move_fault.Tie as tie
 use native.Mathlib.Omega.{arith}
-use Prim.Native.Nat.{ℕ, _≤_, _<_, _-_, _+_, _*_}
+use Prim.Native.Nat.{ℕ, _-_}
 use mathlib.Core.Path.{_≡_, sym, ap, _∙_}
 use mathlib.Core.Bool.{false}
 use lib.ListN.{length}
@@ -36,17 +36,17 @@ record-passed c = c .before .before
 -- ---- The tests that let it pass
 
 lengths-good : (c : tie.Else1) → let a = start c .args in
-    badLengths (a .v) (a .w) (length (now (a .«record»))) (length (now (a .window))) (a .target-len) (a .target-window-len)
-    ≡ false
+    badLengths (a .v) (a .w) (length (now (a .«record»))) (length (now (a .window))) (a .target-len)
+    (a .target-window-len) ≡ false
 lengths-good c = sym (c .before .bad-lengths .ensures) ∙ c .if1 .left
 
 right : (c : tie.Else1) → let a = start c .args in
-    Right (a .v) (a .w) (roomOf (a .v) (length (now (a .window)))) (length (now (a .«record»))) (length (now (a .window)))
-    (a .target-len) (a .target-window-len)
+    Right (a .v) (a .w) (roomOf (a .v) (length (now (a .window)))) (length (now (a .«record»)))
+    (length (now (a .window))) (a .target-len) (a .target-window-len)
 right c =
     let a = start c .args in
-    lengths-right (a .v) (a .w) (length (now (a .«record»))) (length (now (a .window))) (a .target-len) (a .target-window-len)
-    (lengths-good c)
+    lengths-right (a .v) (a .w) (length (now (a .«record»))) (length (now (a .window))) (a .target-len)
+    (a .target-window-len) (lengths-good c)
 
 -- The state is judged with the window's room.
 state-read : (c : tie.After-bad-state) → let a = start (c .before .before) .args in
@@ -107,7 +107,8 @@ window-too-large-requires c κs =
     let r = right (narrower t) in
     let v = start (narrower t) .args .v in
     let n = room-read t .room-of in
-    (search needs, (search needs, (omega (arith, n .ensures, r .few), frontiers-within v _ _ _ (n .ensures) (r .window-right))))
+    let within = frontiers-within v _ _ _ (n .ensures) (r .window-right) in
+    (search needs, (search needs, (omega (arith, n .ensures, r .few), within)))
 
 returns-4 : tie.Need-returns-4
 unfolding moveFault overflows

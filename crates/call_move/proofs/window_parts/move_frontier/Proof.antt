@@ -1,23 +1,27 @@
 -- The counts, and the rest written behind them: the law `frontier-written`.
 use Rattle.call_move.proofs.window_parts.move_frontier.Tie as tie
-use native.Mathlib.Omega.{arith}
-use Prim.Native.Nat.{ℕ, _≤_, _<_, _-_, _+_, _*_}
-use mathlib.Core.Path.{_≡_, sym, ap, _∙_}
-use mathlib.Core.Bool.{Bool, false}
-use mathlib.Core.List.{List}
-use lib.ListN.{length, take, drop, length-take, length-drop}
-use lib.Seq.{sets}
+use Prim.Native.Nat.{_-_}
+use mathlib.Core.Path.{sym, _∙_}
+use lib.ListN.{drop}
 use borrow.Author.Needs.{needs}
 use denote.Ref.{now}
 use Rattle.frontiers.specs.Bytes.{frontierLength}
 use Rattle.call_move.proofs.WindowSteps.{frontier-counts, frontier-written}
 use Rattle.call_move.proofs.window_parts.move_frontier.Statement.{statement}
 
+-- The start, and where the counts are written.
+abbrev start : tie.After-move-counts → tie.Start
+start c = c .before .before .before .before
+
+abbrev clock-written : tie.After-copy-part → tie.After-move-counts
+clock-written c = c .before .before .before .before
+
 move-counts-requires : tie.Need-move-counts-requires
 unfolding frontierLength
 move-counts-requires c κs =
     let b = c .before .before .before in
-    let fit = sym (frontier-counts (b .args .v) (b .args .w) (drop (b .args .from) (now (b .args .window)))) ∙ b .pre .1 .1 .1 .1 in
+    let a = b .args in
+    let fit = sym (frontier-counts (a .v) (a .w) (drop (a .from) (now (a .window)))) ∙ b .pre .1 .1 .1 .1 in
     (search needs, (search needs, (search needs, (search needs, fit))))
 
 mul-copy-part : tie.Need-mul-copy-part
@@ -41,7 +45,11 @@ same-length c = search needs
 
 returns : tie.Need-returns
 returns c =
-    let a = c .before .before .before .before .before .before .before .before .before .before .args in cc (frontier-written (a .v) (a .w) (now (a .window)) (a .from) (now (a .target)) (a .to))
+    let rest = c .before .before in
+    let clock = clock-written rest in
+    let a = start clock .args in
+    frontier-written (a .v) (a .w) (now (a .window)) (a .from) (now (a .target)) _ _ (a .to)
+    (clock .move-counts .ensures) (rest .copy-part .ensures)
 
 pub move-frontier-spec : {M : Type 1} → statement M
 move-frontier-spec =

@@ -1,18 +1,16 @@
 -- One frontier more each turn: the law `frontiers-written`.
 use Rattle.call_move.proofs.window_parts.move_window.Tie as tie
 use native.Mathlib.Omega.{arith}
-use Prim.Native.Nat.{ℕ, _≤_, _<_, _-_, _+_, _*_}
-use mathlib.Core.Path.{_≡_, sym, ap, _∙_}
-use mathlib.Core.Bool.{Bool, false}
-use mathlib.Core.List.{List}
-use lib.ListN.{length, take, drop, length-take, length-drop}
+use Prim.Native.Nat.{_≤_, _-_}
+use mathlib.Core.Path.{_≡_}
+use lib.ListN.{length}
 use lib.Seq.{sets}
 use borrow.Author.Needs.{needs}
 use denote.Ref.{now}
 use Rattle.frontiers.specs.Bytes.{frontierLength}
 use Rattle.frontiers.specs.BytesLaws.{count-within}
 use Rattle.call_move.specs.Parts.{windowParts}
-use Rattle.call_move.specs.Move.{moved, someTooLarge}
+use Rattle.call_move.specs.Move.{moved}
 use Rattle.call_move.proofs.WindowSteps.{frontier-fits, none-written, frontiers-written}
 use Rattle.call_move.proofs.window_parts.move_window.Statement.{statement}
 
@@ -52,7 +50,8 @@ move-frontier-requires c κs =
     let place = c .before .before .frontier-place in
     let from = count-within i n (frontierLength v) (omega arith) in
     let to = count-within i n (frontierLength w) (omega arith) in
-    let fit = frontier-fits v w n i (now (b .args .window)) (place .result) (place .ensures .0) (omega arith) (b .pre .1 .1 .1 .1 .1) in
+    let s = now (b .args .window) in
+    let fit = frontier-fits v w n i s (place .result) (place .ensures .0) (omega arith) (b .pre .1 .1 .1 .1 .1) in
     (search needs, (search needs, (omega (arith, from), (omega (arith, to), fit))))
 
 add-i : tie.Need-add-i Inv-loop μ-loop
@@ -68,7 +67,10 @@ loop-again c =
     let from = c .before .before .before .before .before .frontier-place in
     let to = c .before .before .before .frontier-place2 in
     let within = count-within (l .i) (a .n) (frontierLength (a .v)) (omega arith) in
-    let more = frontiers-written (a .v) (a .w) (l .i) (now (a .window)) (from .result) (now (a .target)) (to .result) (from .ensures .0) (to .ensures .0) (omega (arith, within)) in
+    let s = now (a .window) in
+    let more =
+    frontiers-written (a .v) (a .w) (l .i) s (from .result) (now (a .target)) (to .result) (from .ensures .0)
+    (to .ensures .0) (omega (arith, within)) in
     (search needs, search needs, cc)
 
 same-length : tie.Need-same-length Inv-loop μ-loop

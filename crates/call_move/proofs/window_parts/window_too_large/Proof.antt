@@ -1,18 +1,14 @@
 -- The counts of one frontier more each turn: the law `frontier-looked`.
 use Rattle.call_move.proofs.window_parts.window_too_large.Tie as tie
 use native.Mathlib.Omega.{arith}
-use Prim.Native.Nat.{ℕ, _≤_, _<_, _-_, _+_, _*_}
-use mathlib.Core.Path.{_≡_, sym, ap, _∙_}
-use mathlib.Core.Bool.{Bool, false}
-use mathlib.Core.List.{List}
-use lib.ListN.{length, take, drop, length-take, length-drop}
-use lib.Seq.{sets}
+use Prim.Native.Nat.{_≤_, _-_}
+use mathlib.Core.Path.{_≡_}
 use borrow.Author.Needs.{needs}
 use denote.Ref.{now}
 use Rattle.frontiers.specs.Bytes.{frontierLength}
 use Rattle.frontiers.specs.BytesLaws.{count-within}
 use Rattle.call_move.specs.Parts.{windowParts}
-use Rattle.call_move.specs.Move.{moved, someTooLarge}
+use Rattle.call_move.specs.Move.{someTooLarge}
 use Rattle.call_move.proofs.WindowSteps.{none-looked, frontier-looked}
 use Rattle.call_move.proofs.window_parts.window_too_large.Statement.{statement}
 
