@@ -76,16 +76,16 @@ pub fn move_record(record: &[u8], v: usize, target: &mut [u8], w: usize)
     ensures { λ r. ⌜ now (target .exit) ≡ moved v w recordParts (now («record» .entry)) ⌝ }
 {
     move_front(record, v, target, w);
-    let mut i = 0;
-    while i < PENDING {
+    let mut next = 0;
+    while next < PENDING {
         move_event(
             record,
-            pending_place(v, i),
+            pending_place(v, next),
             v,
             target,
-            pending_place(w, i),
+            pending_place(w, next),
             w,
         );
-        i = i + 1;
+        next = next + 1;
     }
 }

@@ -19,12 +19,12 @@ use Rattle.call_move.proofs.RecordSteps.{parts-all, front-fits, event-f
 use Rattle.call_move.proofs.record_parts.move_record.Statement.{statement}
 
 abbrev Inv-loop : tie.InvT-loop
-Inv-loop «record» v target₀ w i₀ target i =
-    (i ≤ 32) × (length target₀ ≡ recordLength w) × (length target ≡ recordLength w)
-    × (target ≡ sets target₀ 0 (moved v w (partsTo i) «record»))
+Inv-loop «record» v target₀ w next₀ target next =
+    (next ≤ 32) × (length target₀ ≡ recordLength w) × (length target ≡ recordLength w)
+    × (target ≡ sets target₀ 0 (moved v w (partsTo next) «record»))
 
 abbrev μ-loop : tie.MeasureT-loop
-μ-loop «record» v target₀ w i₀ target i = 32 - i
+μ-loop «record» v target₀ w next₀ target next = 32 - next
 
 -- The loop's head from the end of a turn, and the start from the loop's head.
 abbrev head : tie.After-slice-known3 Inv-loop μ-loop → tie.At-loop Inv-loop μ-loop
@@ -50,8 +50,8 @@ loop-holds : tie.Need-loop-holds Inv-loop μ-loop
 loop-holds c =
     let m = c .before .before in
     let a = start m .args in
-    let begun = front-begins (a .v) (a .w) (now (a .«record»)) (now (a .target)) _ (m .move-front .ensures) in
-    (search needs, search needs, search needs, begun)
+    let holds = front-begins (a .v) (a .w) (now (a .«record»)) (now (a .target)) _ (m .move-front .ensures) in
+    (search needs, search needs, search needs, holds)
 
 pending-place-requires : tie.Need-pending-place-requires Inv-loop μ-loop
 pending-place-requires c κs = search needs
@@ -65,7 +65,7 @@ move-event-requires c κs =
     let b = start (front-moved h) in
     let v = b .args .v in
     let w = b .args .w in
-    let i = h .loop .i in
+    let i = h .loop .next in
     let place = c .before .before .pending-place in
     let s = now (b .args .«record») in
     let from = event-within v i (omega arith) in
@@ -73,8 +73,8 @@ move-event-requires c κs =
     let fit = event-fits v w i s (place .result) (place .ensures .0) (omega arith) (b .pre .1 .1 .1 .1) in
     (search needs, (search needs, (omega (arith, from), (omega (arith, to), fit))))
 
-add-i : tie.Need-add-i Inv-loop μ-loop
-add-i c = search needs
+add-next : tie.Need-add-next Inv-loop μ-loop
+add-next c = search needs
 
 loop-less : tie.Need-loop-less Inv-loop μ-loop
 loop-less c = search needs
@@ -86,10 +86,10 @@ loop-again c =
     let s = now (a .«record») in
     let from = c .before .before .before .before .before .pending-place in
     let to = c .before .before .before .pending-place2 in
-    let within : from .result ≤ length s = omega (arith, event-within (a .v) (l .i) (omega arith)) in
+    let within : from .result ≤ length s = omega (arith, event-within (a .v) (l .next) (omega arith)) in
     let event = moved (a .v) (a .w) eventParts (drop (from .result) s) in
     let more =
-    events-written (a .v) (a .w) (l .i) s (from .result) (begun (head c)) (to .result) (from .ensures .0)
+    events-written (a .v) (a .w) (l .next) s (from .result) (begun (head c)) (to .result) (from .ensures .0)
     (to .ensures .0) within in (
       search needs,
       search needs,
@@ -106,7 +106,7 @@ returns c =
     let a = start (front-moved h) .args in
     let s = now (a .«record») in
     let t = begun h in
-    let all : h .loop .i ≡ 32 = omega arith in
+    let all : h .loop .next ≡ 32 = omega arith in
     let long : lengthOf (a .v) recordParts ≡ length s = omega (arith, length-recordParts (a .v)) in
     h .loop .inv .3 ∙ ap (λ (n : ℕ). sets t 0 (moved (a .v) (a .w) (partsTo n) s)) all
     ∙ ap (λ (ps : List Part). sets t 0 (moved (a .v) (a .w) ps s)) parts-all
@@ -123,7 +123,7 @@ move-record-spec =
     pending-place-requires
     pending-place-requires-2
     move-event-requires
-    add-i
+    add-next
     loop-less
     loop-again
     same-length
