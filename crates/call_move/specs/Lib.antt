@@ -7,6 +7,7 @@ pub mod MoveExact
 -- What is proved
 pub mod PartLaws
 pub mod CountLaws
+pub mod LengthLaws
 pub mod BackLaws
 pub mod PlaceLaws
 pub mod StandLaws

@@ -17,7 +17,8 @@ use Rattle.call_move.specs.PartLaws.{length-recordParts, length-windowPa
 use Rattle.call_move.specs.CountLaws.{none-too-large}
 use Rattle.call_move.specs.BackLaws.{fit-again, moved-back}
 use Rattle.call_move.specs.FieldLaws.{record-same, frontier-moved}
-use Rattle.call_move.specs.MoveCases.{Lengths, right-lengths, lengths-right, whole-window, Passes, passes, too-large}
+use Rattle.call_move.specs.LengthLaws.{Lengths, right-lengths, none-wrong}
+use Rattle.call_move.specs.MoveCases.{Passes, passes, too-large}
 use Rattle.call_move.specs.MoveExact.{SameFields, MoveExact, WidenNever43}
 use Rattle.call_move.specs.Move.{moved, someTooLarge, badLengths, overflows, moveCall}
 
@@ -39,22 +40,17 @@ module _ (v w : ℕ) (s window t target : List ℕ) (b : Bytes s) (c : Bytes win
   unfolding overflows
   fits = or-false-e (someTooLarge v w recordParts s) (someTooLarge v w (windowParts n) window) (p .fits)
 
-  whole : length window ≡ n * frontierLength v
-  whole = whole-window v (length window) (long .window)
-
   length-record : length t′ ≡ recordLength w
   length-record =
       length-moved v w recordParts s (omega (arith, long .source, length-recordParts v)) ∙ length-recordParts w
 
   length-window : length target′ ≡ n * frontierLength w
   length-window =
-      length-moved v w (windowParts n) window (omega (arith, whole, length-windowParts v n)) ∙ length-windowParts w n
+      length-moved v w (windowParts n) window (omega (arith, long .whole, length-windowParts v n)) ∙ length-windowParts w n
 
   -- as long as the buffer that was lent
   window-as-lent : length target′ ≡ length target
-  window-as-lent =
-      length-window ∙ ap (λ (m : ℕ). m * frontierLength w) (long .rooms)
-      ∙ sym (whole-window w (length target) (long .target-window))
+  window-as-lent = length-window ∙ sym (long .target-whole)
 
   room-same : roomOf w (length target′) ≡ n
   room-same = ap (roomOf w) window-as-lent ∙ sym (long .rooms)
@@ -69,14 +65,10 @@ module _ (v w : ℕ) (s window t target : List ℕ) (b : Bytes s) (c : Bytes win
   -- ---- the way back
   module _ (u away : List ℕ) (lu : length u ≡ length s) (la : length away ≡ length window) where
     lengths-back : badLengths w v (length t′) (length target′) (length u) (length away) ≡ false
-    lengths-back = lengths-right w v (length t′) (length target′) (length u) (length away)
-        (record {
-          source = length-record;
-          window = rw window-as-lent (long .target-window);
-          target = lu ∙ long .source;
-          target-window = rw la (long .window);
-          rooms = room-same ∙ ap (roomOf v) (sym la);
-        })
+    lengths-back =
+        none-wrong w v (length t′) (length target′) (length u) (length away) length-record
+        (rw window-as-lent (long .target-window)) (lu ∙ long .source) (rw la (long .window))
+        (room-same ∙ ap (roomOf v) (sym la))
 
     back-moves : moveCall w v t′ target′ u away ≡ record { number = 0; bytes = s; window = window }
     unfolding moveCall overflows
@@ -86,11 +78,11 @@ module _ (v w : ℕ) (s window t target : List ℕ) (b : Bytes s) (c : Bytes win
       room-same,
       p .state,
       fit-again v w recordParts s b (omega (arith, long .source, length-recordParts v)) (fits .0),
-      fit-again v w (windowParts n) window c (omega (arith, whole, length-windowParts v n)) (fits .1),
+      fit-again v w (windowParts n) window c (omega (arith, long .whole, length-windowParts v n)) (fits .1),
       moved-back v w recordParts s b (omega (arith, long .source, length-recordParts v)) (fits .0),
-      moved-back v w (windowParts n) window c (omega (arith, whole, length-windowParts v n)) (fits .1),
+      moved-back v w (windowParts n) window c (omega (arith, long .whole, length-windowParts v n)) (fits .1),
       take-all (lengthOf v recordParts) s (omega (arith, long .source, length-recordParts v)),
-      take-all (lengthOf v (windowParts n)) window (omega (arith, whole, length-windowParts v n)),
+      take-all (lengthOf v (windowParts n)) window (omega (arith, long .whole, length-windowParts v n)),
     )
 
 -- ---- Theorems
@@ -100,7 +92,7 @@ move-exact v w s window t target b c q =
     let p = passes v w s window t target q in
     rw (p .moves) (record {
       same-fields = fields v w s window t target b c p;
-      same-frontiers = λ i l. frontier-moved v w (roomOf v (length window)) window (whole v w s window t target b c p)
+      same-frontiers = λ i l. frontier-moved v w (roomOf v (length window)) window (long v w s window t target b c p .whole)
           (fits v w s window t target b c p .1) i l;
       same-room = room-same v w s window t target b c p;
       same-state = state-same v w s window t target b c p;

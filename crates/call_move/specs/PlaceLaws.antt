@@ -1,8 +1,8 @@
 -- What was moved is read at its own place: bytes as they were, counts as the numbers that they were.
-use Prim.Native.Nat.{ℕ, zero, suc, _+_, _*_, _^_, _≤_, _<_}
+use Prim.Native.Nat.{ℕ, zero, suc, _+_, _-_, _*_, _^_, _≤_, _<_}
 use native.Mathlib.Omega.{arith}
 use native.Mathlib.Nat.{zero-add, suc-add}
-use mathlib.Core.Path.{_≡_, refl, sym, ap, _∙_}
+use mathlib.Core.Path.{_≡_, refl, sym, ap, _∙_, subst}
 use mathlib.Core.Bool.{false}
 use mathlib.Core.List.{List, [], _∷_, _++_, append-assoc}
 use lib.ListN.{length, getD, take, drop, length-drop}
@@ -36,6 +36,23 @@ module _ (v w : ℕ) (ps qs : List Part) (s : List ℕ) where
   fit-behind f =
       or-false-e (someTooLarge v w ps s) (someTooLarge v w qs (drop (lengthOf v ps) s))
       (sym (someTooLarge-append v w ps qs s) ∙ f) .1
+
+-- Where no count is too large, none is in number i of the things of one kind.
+pub none-in-each : (v w : ℕ) (ps qs : List Part) (s : List ℕ) (n i : ℕ) → i < n
+    → someTooLarge v w (ps ++ repeated n qs) s ≡ false
+    → someTooLarge v w qs (drop (lengthOf v (ps ++ repeated i qs)) s) ≡ false
+none-in-each v w ps qs s n i l h =
+    let front = ps ++ repeated i qs in
+    let rest = repeated (n - suc i) qs in
+    let tail = drop (lengthOf v front) s in
+    let all : n ≡ i + suc (n - suc i) = omega arith in
+    let apart : ps ++ repeated n qs ≡ front ++ (qs ++ rest) =
+    ap (λ (m : ℕ). ps ++ repeated m qs) all ∙ ap (λ (l : List Part). ps ++ l) (repeated-apart i (n - suc i) qs)
+    ∙ sym (append-assoc ps (repeated i qs) (qs ++ rest)) in
+    or-false-e (someTooLarge v w qs tail) (someTooLarge v w rest (drop (lengthOf v qs) tail))
+    (sym (someTooLarge-append v w qs rest tail)
+    ∙ fit-behind v w front (qs ++ rest) s (subst (λ (l : List Part). someTooLarge v w l s ≡ false) apart h))
+    .0
 
 -- Bytes behind some parts.
 module _ (v w : ℕ) (ps : List Part) (n : ℕ) (qs : List Part) (s : List ℕ)

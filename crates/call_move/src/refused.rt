@@ -25,7 +25,7 @@ fn bad_lengths(
 ) -> bool
     requires { ⌜ Width v ⌝ }
     requires { ⌜ Width w ⌝ }
-    ensures { λ r. ⌜ r ≡ badLengths v w record_len window_len target_len target_window_len ⌝ }
+    ensures { λ r. ⌜ r ≡ badLengths v w «record_len» «window_len» «target_len» «target_window_len» ⌝ }
 {
     if bad_record_length(v, record_len) {
         return true;
@@ -53,7 +53,8 @@ pub fn move_fault(
 ) -> u64
     requires { ⌜ Width v ⌝ }
     requires { ⌜ Width w ⌝ }
-    ensures { λ r. ⌜ r ≡ moveFault v w (now («record» .entry)) (now (window .entry)) target_len target_window_len ⌝ }
+    ensures { λ r. ⌜ r
+        ≡ moveFault v w (now («record» .entry)) (now (window .entry)) «target_len» «target_window_len» ⌝ }
 {
     if bad_lengths(
         v,

@@ -34,7 +34,8 @@ use Rattle.call_move.specs.CountLaws.{none-too-large}
 use Rattle.call_move.specs.BackLaws.{fit-again}
 use Rattle.call_move.specs.PlaceLaws.{fit-at}
 use Rattle.call_move.specs.StandLaws.{taken-stands, clock-stands}
-use Rattle.call_move.specs.MoveCases.{Passes, Lengths, right-lengths, whole-window}
+use Rattle.call_move.specs.LengthLaws.{Lengths, right-lengths, window-whole}
+use Rattle.call_move.specs.MoveCases.{Passes}
 use Rattle.call_move.specs.Move.{moved, someTooLarge, overflows}
 use Rattle.demands.specs.Ledger.{Ledger}
 use Rattle.demands.specs.Status.{Status, recordBytes}
@@ -175,9 +176,6 @@ module _ (v w k : ℕ) (table : List Line) (start : Cut) (R : Rule v k table sta
     lengths : Lengths v w (length bytes) (length window) (length t) (length target)
     lengths = right-lengths v w (length bytes) (length window) (length t) (length target) (p .lengths)
 
-    whole : length window ≡ n * frontierLength v
-    whole = whole-window v (length window) (lengths .window)
-
     kept-few : length (X .kept) ≤ n
     kept-few = omega (arith, state-within v n bytes (p .state) .4, says-kept v k table start R L bytes window X)
 
@@ -189,9 +187,9 @@ module _ (v w k : ℕ) (table : List Line) (start : Cut) (R : Rule v k table sta
         other-form (fit-where (p .fits)) (moved v w recordParts bytes)
         (moved v w (windowParts n) window) n kept-few
         (ap (moved v w recordParts) (X .bytes-are) ∙ record-moved v w status z)
-        (ap (moved v w (windowParts n)) (X .window-is ∙ ap (λ (m : ℕ). windowBytes v m (X .kept)) whole)
+        (ap (moved v w (windowParts n)) (X .window-is ∙ ap (λ (m : ℕ). windowBytes v m (X .kept)) (lengths .whole))
         ∙ window-moved v w n (X .kept) shaped kept-few)
-        (length-moved v w (windowParts n) window (omega (arith, whole, length-windowParts v n))
+        (length-moved v w (windowParts n) window (omega (arith, lengths .whole, length-windowParts v n))
         ∙ length-windowParts w n)
 
   -- ---- Record and window are bytes
@@ -209,7 +207,7 @@ module _ (v w k : ℕ) (table : List Line) (start : Cut) (R : Rule v k table sta
     room = roomOf v (length window)
 
     wide-enough : length window ≡ room * frontierLength v
-    wide-enough = whole-window v (length window) right
+    wide-enough = window-whole v (length window) right
 
     pub kept-within : length (X .kept) ≤ room
     unfolding roomOf frontierLength

@@ -15,7 +15,8 @@ use Rattle.rules.specs.Reader.{readRule, formed}
 use Rattle.rules.specs.reading.ReaderAccepts.{reader-accepts}
 use Rattle.refusals.specs.Refusals.{roomOf, badState, badWindowLength}
 use Rattle.call_move.specs.Move.{badLengths, overflows, moveCall}
-use Rattle.call_move.specs.MoveCases.{passes, right-lengths, number-6, number-43, number-0}
+use Rattle.call_move.specs.MoveCases.{passes, number-6, number-43, number-0}
+use Rattle.call_move.specs.LengthLaws.{right-lengths}
 use Rattle.demands.specs.Run.{Call, Watch, after, run, opened}
 use Rattle.demands.specs.EveryList.{EightBytes, AllPassed, atEnd}
 use Rattle.demands.specs.Written.{Written, movedTo, opens, calls, moves, OfEveryWatch}
