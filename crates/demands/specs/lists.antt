@@ -19,3 +19,4 @@ pub mod Earlier
 pub mod Close
 pub mod Dropped
 pub mod Moves
+pub mod TakeByLedger
