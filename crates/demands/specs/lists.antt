@@ -20,3 +20,4 @@ pub mod Close
 pub mod Dropped
 pub mod Moves
 pub mod TakeByLedger
+pub mod BothForms
