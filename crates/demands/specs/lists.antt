@@ -20,4 +20,5 @@ pub mod Close
 pub mod Dropped
 pub mod Moves
 pub mod TakeByLedger
+pub mod Twins
 pub mod BothForms

@@ -1,8 +1,7 @@
 -- What an offer to a watch written by calls only answers and leaves in the ledger, said of the ledger alone: neither
 -- the bytes nor the width of a count stands in it.
 use Prim.Native.Nat.{ℕ, _+_}
-use native.Mathlib.Omega.{arith}
-use mathlib.Core.Path.{_≡_, refl, ap, _∙_}
+use mathlib.Core.Path.{_≡_, refl}
 use mathlib.Core.Bool.{Bool, true, false, cond}
 use mathlib.Core.List.{List}
 use lib.Dec.{leb}

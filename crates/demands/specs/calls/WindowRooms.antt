@@ -1,14 +1,14 @@
 -- Windows by the number of their frontiers, with counts of any width: what the calls ask of a window's length depends on
 -- that number alone; and take and close leave a window as long as it was lent. By this the same calls are judged alike
 -- in both forms.
-use Prim.Native.Nat.{ℕ, _-_, _*_, _<_}
+use Prim.Native.Nat.{ℕ, _+_, _-_, _*_, _<_}
 use native.Mathlib.Omega.{arith}
-use native.Mathlib.Nat.{mul-div-cancel, mul-mod-left, mul-lt-mul-of-pos-right, mul-le-mul-right, one-mul}
-use mathlib.Core.Path.{_≡_, refl, sym, ap, _∙_}
+use native.Mathlib.Nat.{mul-div-cancel, mul-mod-left, mul-lt-mul-of-pos-right, mul-le-mul-right, one-mul, add-mul}
+use mathlib.Core.Path.{_≡_, refl, sym, ap, ap₂, _∙_}
 use mathlib.Core.Bool.{Bool, true, false, not, _||_}
-use mathlib.Core.List.{List}
+use mathlib.Core.List.{List, _++_}
 use lib.Dec.{eqb, ltb}
-use lib.ListN.{length, replicate}
+use lib.ListN.{length, replicate, length-append, length-replicate}
 use lib.Seq.{sets, length-sets}
 use borrow.Author.Tests.{ltb-true, ltb-false, lt-ltb, le-ltb}
 use Rattle.frontiers.specs.declared.Frontier.{Frontier}
@@ -57,6 +57,14 @@ module _ (w : ℕ) where
       either true b = refl
       either false true = refl
       either false false = refl
+
+  -- lent with zeros for more of them
+  pub lent-more : (n more : ℕ) (window : List ℕ) → length window ≡ n * frontierLength w
+      → length (window ++ replicate (more * frontierLength w) 0) ≡ (n + more) * frontierLength w
+  lent-more n more window q =
+      length-append window (replicate (more * frontierLength w) 0)
+      ∙ ap₂ (λ (a b : ℕ). a + b) q (length-replicate (more * frontierLength w) 0)
+      ∙ sym (add-mul n more (frontierLength w))
 
 -- ---- What the calls leave
 

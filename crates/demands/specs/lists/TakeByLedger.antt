@@ -1,16 +1,22 @@
 -- What a take comes to is said by the ledger and by how many frontiers it may use: the answer and the ledger after it
 -- are one, whatever the bytes and the width of a count.
-use Prim.Native.Nat.{ℕ}
+use Prim.Native.Nat.{ℕ, min, _+_, _*_}
 use mathlib.Core.Path.{_≡_, refl, sym, ap, subst, _∙_}
-use mathlib.Core.Bool.{Bool}
+use mathlib.Core.Bool.{Bool, true, false, true≢false}
 use mathlib.Core.List.{List, _++_}
 use mathlib.Core.Logic.{_⊎_, inl, inr}
+use lib.Dec.{eqb}
+use lib.ListN.{length}
+use borrow.Author.Tests.{eqb-true, eqb-false}
 use Rattle.clocks.specs.Event.{Cut}
+use Rattle.frontiers.specs.Bytes.{frontierLength}
 use Rattle.rules.specs.Formula.{Formula}
+use Rattle.refusals.specs.Refusals.{badWindowLength, roomOf}
 use Rattle.answers.specs.Answer.{Answer, turnedBack, state, nothingReady}
 use Rattle.demands.specs.Ledger.{Ledger, Settled}
-use Rattle.demands.specs.Run.{Watch, after, takes, takenLedger, stoppedAt, trialOf}
+use Rattle.demands.specs.Run.{Watch, after, takenLedger, stoppedAt, trialOf}
 use Rattle.demands.specs.EveryList.{lentWindow, RightLengths, nextTake}
+use Rattle.demands.specs.calls.WindowRooms.{room-of, as-many, bad-length, lent-more}
 use Rattle.demands.specs.statements.TakeAnswers.{FalseClock, NoRoom, Takes, falsifiedLedger, chosenLedger, allowedNext, nextLedger, AnswersExact}
 use Rattle.demands.specs.lists.SoundRun.{Sound}
 use Rattle.demands.specs.lists.TakeAnswers.{take-exact-of}
@@ -66,7 +72,7 @@ module _ (w k : ℕ) (f : Formula) (start : Cut) (Z : Watch) (S : Sound w k f st
   then-by a q =
       ap (takenLedger w (Z .bytes) (stoppedAt (trialOf w cap (Z .bytes) (lentWindow Z more))) (Z .ledger)) q
 
-  pub wrong-taken : (RightLengths w Z more scratch → ⊥)
+  wrong-taken : (RightLengths w Z more scratch → ⊥)
       → (answer ≡ turnedBack 6 0) × (nextLedger w Z cap more scratch ≡ Z .ledger)
   unfolding takenLedger
   wrong-taken n =
@@ -105,18 +111,68 @@ module _ (w k : ℕ) (f : Formula) (start : Cut) (Z : Watch) (S : Sound w k f st
 
 -- ---- Theorem
 
--- Two watches with the same ledger, each lent right lengths, where both takes may use as many frontiers.
-pub taken-alike : (v w k : ℕ) (f : Formula) (start : Cut) (Y Z : Watch) → Sound v k f start Y → Sound w k f start Z
-    → Y .ledger ≡ Z .ledger
-    → (cap zeros more : ℕ) (scratch scratch′ : List ℕ) → RightLengths v Y zeros scratch → RightLengths w Z more scratch′
-    → allowedNext v Y cap zeros ≡ allowedNext w Z cap more
-    → (nextTake v Y cap zeros scratch .answer ≡ nextTake w Z cap more scratch′ .answer)
-    × (nextLedger v Y cap zeros scratch ≡ nextLedger w Z cap more scratch′)
-taken-alike v w k f start Y Z S U same cap zeros more scratch scratch′ right right′ as-many =
-    decided-once k (allowedNext w Z cap more) f start (Z .ledger) (nextTake v Y cap zeros scratch .answer)
-    (nextTake w Z cap more scratch′ .answer) (nextLedger v Y cap zeros scratch) (nextLedger w Z cap more scratch′)
-    (subst (λ (n : ℕ). Decided k n f start (Z .ledger) (nextTake v Y cap zeros scratch .answer)
-    (nextLedger v Y cap zeros scratch)) as-many
-    (subst (λ (L : Ledger). Decided k (allowedNext v Y cap zeros) f start L (nextTake v Y cap zeros scratch .answer)
-    (nextLedger v Y cap zeros scratch)) same (decides v k f start Y S cap zeros scratch right)))
-    (decides w k f start Z U cap more scratch′ right′)
+-- Two watches with the same ledger, whose windows have room for as many frontiers; both takes are lent as many more, and
+-- a scratch of as many.
+module _ (v w k : ℕ) (f : Formula) (start : Cut) (Y Z : Watch) (S : Sound v k f start Y) (U : Sound w k f start Z)
+    (same-ledger : Y .ledger ≡ Z .ledger) (room : ℕ) (long : length (Y .window) ≡ room * frontierLength v)
+    (other-long : length (Z .window) ≡ room * frontierLength w) (cap more far : ℕ) (scratch scratch′ : List ℕ)
+    (scratch-long : length scratch ≡ far * frontierLength v)
+    (scratch-long′ : length scratch′ ≡ far * frontierLength w) where
+  abbrev zeros : ℕ
+  zeros = more * frontierLength v
+
+  abbrev zeros′ : ℕ
+  zeros′ = more * frontierLength w
+
+  abbrev TakesAlike : Type 0
+  TakesAlike =
+      (nextTake v Y cap zeros scratch .answer ≡ nextTake w Z cap zeros′ scratch′ .answer)
+      × (nextLedger v Y cap zeros scratch ≡ nextLedger w Z cap zeros′ scratch′)
+
+  lent-long : length (lentWindow Y zeros) ≡ (room + more) * frontierLength v
+  lent-long = lent-more v room more (Y .window) long
+
+  lent-long′ : length (lentWindow Z zeros′) ≡ (room + more) * frontierLength w
+  lent-long′ = lent-more w room more (Z .window) other-long
+
+  wrong-alike : badWindowLength v (length (lentWindow Y zeros)) ≡ badWindowLength w (length (lentWindow Z zeros′))
+  wrong-alike =
+      ap (badWindowLength v) lent-long ∙ bad-length v (room + more)
+      ∙ sym (ap (badWindowLength w) lent-long′ ∙ bad-length w (room + more))
+
+  allowed-alike : allowedNext v Y cap zeros ≡ allowedNext w Z cap zeros′
+  allowed-alike =
+      ap (min cap)
+      (ap (roomOf v) lent-long ∙ room-of v (room + more) ∙ sym (ap (roomOf w) lent-long′ ∙ room-of w (room + more)))
+
+  both-turned : (RightLengths v Y zeros scratch → ⊥) → (RightLengths w Z zeros′ scratch′ → ⊥) → TakesAlike
+  both-turned m n =
+      let a = wrong-taken v k f start Y S cap zeros scratch m in
+      let b = wrong-taken w k f start Z U cap zeros′ scratch′ n in
+      (a .0 ∙ sym (b .0), a .1 ∙ same-ledger ∙ sym (b .1))
+
+  both-decided : RightLengths v Y zeros scratch → RightLengths w Z zeros′ scratch′ → TakesAlike
+  both-decided right right′ =
+      decided-once k (allowedNext w Z cap zeros′) f start (Z .ledger) (nextTake v Y cap zeros scratch .answer)
+      (nextTake w Z cap zeros′ scratch′ .answer) (nextLedger v Y cap zeros scratch) (nextLedger w Z cap zeros′ scratch′)
+      (subst (λ (n : ℕ). Decided k n f start (Z .ledger) (nextTake v Y cap zeros scratch .answer)
+      (nextLedger v Y cap zeros scratch)) allowed-alike
+      (subst (λ (L : Ledger). Decided k (allowedNext v Y cap zeros) f start L (nextTake v Y cap zeros scratch .answer)
+      (nextLedger v Y cap zeros scratch)) same-ledger (decides v k f start Y S cap zeros scratch right)))
+      (decides w k f start Z U cap zeros′ scratch′ right′)
+
+  pub takes-alike : TakesAlike
+  takes-alike = go (badWindowLength v (length (lentWindow Y zeros))) refl (eqb far (room + more)) refl
+    where
+      go : (a : Bool) → badWindowLength v (length (lentWindow Y zeros)) ≡ a
+          → (b : Bool) → eqb far (room + more) ≡ b → TakesAlike
+      go true h b i =
+          both-turned (λ r. true≢false (sym h ∙ r .0)) (λ r. true≢false (sym h ∙ wrong-alike ∙ r .0))
+      go false h false i =
+          let differ : far ≡ room + more → ⊥ = eqb-false far (room + more) i in
+          both-turned (λ r. differ (as-many v far (room + more) (sym scratch-long ∙ r .1 ∙ lent-long)))
+          (λ r. differ (as-many w far (room + more) (sym scratch-long′ ∙ r .1 ∙ lent-long′)))
+      go false h true i =
+          let e : far ≡ room + more = eqb-true far (room + more) i in
+          both-decided (h, scratch-long ∙ ap (λ (n : ℕ). n * frontierLength v) e ∙ sym lent-long)
+          (sym wrong-alike ∙ h, scratch-long′ ∙ ap (λ (n : ℕ). n * frontierLength w) e ∙ sym lent-long′)
