@@ -21,4 +21,5 @@ pub mod Dropped
 pub mod Moves
 pub mod TakeByLedger
 pub mod Twins
+pub mod TwinCalls
 pub mod BothForms

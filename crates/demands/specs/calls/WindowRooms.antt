@@ -1,6 +1,6 @@
--- Windows by the number of their frontiers, with counts of any width: what the calls ask of a window's length depends on
--- that number alone; and take and close leave a window as long as it was lent. By this the same calls are judged alike
--- in both forms.
+-- Windows by the number of their frontiers, with counts of any width: what the calls ask of a window's length depends
+-- on that number alone; and take and close leave a window as long as it was lent. By this the same calls are judged
+-- alike in both forms.
 use Prim.Native.Nat.{ℕ, _+_, _-_, _*_, _<_}
 use native.Mathlib.Omega.{arith}
 use native.Mathlib.Nat.{mul-div-cancel, mul-mod-left, mul-lt-mul-of-pos-right, mul-le-mul-right, one-mul, add-mul}

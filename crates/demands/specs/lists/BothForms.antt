@@ -1,5 +1,5 @@
--- The same calls on watches of both forms: an accepted open makes twins of them, every pair of calls leaves twins, and of
--- twins the one is the other, moved.
+-- The same calls on watches of both forms (02 [6]): accepted opens make twins of them, every pair of calls leaves
+-- twins, and of twins the one is the other, moved.
 use Prim.Native.Nat.{ℕ, _<_}
 use native.Mathlib.Omega.{arith}
 use mathlib.Core.Path.{_≡_, refl, sym, ap, subst, _∙_}
@@ -18,7 +18,8 @@ use Rattle.demands.specs.EveryList.{Accepts, EightBytes, AllPassed}
 use Rattle.demands.specs.calls.OpenLaws.{OpenCase, open-case, turned-back, opens, opened-long}
 use Rattle.demands.specs.statements.BothForms.{SameCalls, BothFormsAlike}
 use Rattle.demands.specs.lists.SoundRun.{Sound, sound-run}
-use Rattle.demands.specs.lists.Twins.{Twins, twins-moved, after-same}
+use Rattle.demands.specs.lists.Twins.{Twins, twins-moved}
+use Rattle.demands.specs.lists.TwinCalls.{after-same}
 
 -- ---- Lists of calls
 

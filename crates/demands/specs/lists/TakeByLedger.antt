@@ -111,8 +111,8 @@ module _ (w k : ℕ) (f : Formula) (start : Cut) (Z : Watch) (S : Sound w k f st
 
 -- ---- Theorem
 
--- Two watches with the same ledger, whose windows have room for as many frontiers; both takes are lent as many more, and
--- a scratch of as many.
+-- Two watches with the same ledger, whose windows have room for as many frontiers; both takes are lent as many more,
+-- and a scratch of as many.
 module _ (v w k : ℕ) (f : Formula) (start : Cut) (Y Z : Watch) (S : Sound v k f start Y) (U : Sound w k f start Z)
     (same-ledger : Y .ledger ≡ Z .ledger) (room : ℕ) (long : length (Y .window) ≡ room * frontierLength v)
     (other-long : length (Z .window) ≡ room * frontierLength w) (cap more far : ℕ) (scratch scratch′ : List ℕ)
