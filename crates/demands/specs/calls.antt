@@ -13,3 +13,5 @@ pub mod TakeLaws
 pub mod TakeLedger
 pub mod TakeLowers
 pub mod AfterCall
+pub mod WindowRooms
+pub mod OfferByLedger

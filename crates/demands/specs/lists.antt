@@ -19,3 +19,7 @@ pub mod Earlier
 pub mod Close
 pub mod Dropped
 pub mod Moves
+pub mod TakeByLedger
+pub mod Twins
+pub mod TwinCalls
+pub mod BothForms

@@ -9,3 +9,4 @@ pub mod Messages
 pub mod Earlier
 pub mod Close
 pub mod Moves
+pub mod BothForms

@@ -157,8 +157,24 @@ module _ (w : ℕ) (text : List ℕ) (k : ℕ) (labels window : List ℕ) (some-
       subst (λ (ls : List ℕ). Represents (worldOf k 0 table (at labels)) [] (startFrontier 8 ls table ∷ []))
       (listOf-at 8 labels eight) (start-represents (worldOf k 0 table (at labels)) Valid P)
 
+  one-frontier : 1 * frontierLength w ≤ length window
+  unfolding badWindowLength
+  one-frontier = omega (
+    arith,
+    ltb-false (length window) (frontierLength w)
+        (or-false-e (ltb (length window) (frontierLength w))
+        (ltb (1024 * frontierLength w) (length window) || not (eqb (length window % frontierLength w) 0)) h6 .0),
+  )
+
+  -- ... and is as long as it was lent
+  pub opened-long : length (windowBytes w (length window) (startFrontier 8 labels table ∷ [])) ≡ length window
+  opened-long =
+      length-windowBytes w (length window) (startFrontier 8 labels table ∷ [])
+      (all-shaped w [] tt (λ e m. absurd (List·Memᴰ·not-nil m)) k 0 table (at labels) (opened-rule .short) bytes
+      (startFrontier 8 labels table ∷ []) opened-start) one-frontier
+
   pub opened-right : WatchRight w k table (at labels) W
-  unfolding openTable badWindowLength taken lastClock clockOf event
+  unfolding openTable taken lastClock clockOf event
   opened-right = record {
     kept = startFrontier 8 labels table ∷ [];
     bytes-are =
@@ -166,8 +182,8 @@ module _ (w : ℕ) (text : List ℕ) (k : ℕ) (labels window : List ℕ) (some-
         ∙ ap₂ (λ (c : Cut) (d : ℕ → Cut). recordBytes w
         (record { processes = k; table = table; closed = 0; kept = 1; counts = c; clocks = d; pending = [] }))
         no-counts no-clocks;
-    window-is = ap (λ (t : ℕ). windowBytes w t (startFrontier 8 labels table ∷ [])) (sym long);
-    room = omega (arith, long, one-frontier);
+    window-is = ap (λ (t : ℕ). windowBytes w t (startFrontier 8 labels table ∷ [])) (sym opened-long);
+    room = omega (arith, opened-long, one-frontier);
     few = omega arith;
     represents = opened-start;
     right = record {
@@ -188,22 +204,8 @@ module _ (w : ℕ) (text : List ℕ) (k : ℕ) (labels window : List ℕ) (some-
     names-open = λ e m. absurd (List·Memᴰ·not-nil m);
   }
     where
-      one-frontier : 1 * frontierLength w ≤ length window
-      one-frontier = omega (
-        arith,
-        ltb-false (length window) (frontierLength w)
-            (or-false-e (ltb (length window) (frontierLength w))
-            (ltb (1024 * frontierLength w) (length window) || not (eqb (length window % frontierLength w) 0)) h6 .0),
-      )
-
       no-counts : _≡_ {A = Cut} (λ p. 0) (taken [])
       no-counts = fun-ext (λ p. refl)
 
       no-clocks : _≡_ {A = ℕ → Cut} (λ p q. 0) (lastClock [])
       no-clocks = fun-ext (λ p. fun-ext (λ q. refl))
-
-      long : length (windowBytes w (length window) (startFrontier 8 labels table ∷ [])) ≡ length window
-      long =
-          length-windowBytes w (length window) (startFrontier 8 labels table ∷ [])
-          (all-shaped w [] tt (λ e m. absurd (List·Memᴰ·not-nil m)) k 0 table (at labels) (opened-rule .short) bytes
-          (startFrontier 8 labels table ∷ []) opened-start) one-frontier
