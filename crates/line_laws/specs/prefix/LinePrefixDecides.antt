@@ -1,4 +1,4 @@
--- The program may hand over 4,102 bytes of a longer line: the answer is that of the whole line.
+-- The program may hand over 4,107 bytes of a longer line: the answer is that of the whole line.
 use Prim.Native.Nat.{ℕ, _≤_, _<_}
 use native.Mathlib.Omega.{arith}
 use mathlib.Core.Path.{_≡_, refl, sym, ap, _∙_}
