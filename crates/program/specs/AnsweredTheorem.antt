@@ -19,7 +19,8 @@ session-known a s rule bytes window e =
 pub line-printed : EachLineIsPrinted
 line-printed t line r rule bytes window text again l h laid follow =
     let a = lineRead t line .answer in
-    let told : Possible (eqb (t .stage) eventStage) (takenCounts programWidth bytes) a = rw (h .bytes) (line-possible t line l) in
+    let told : Possible (eqb (t .stage) eventStage) (takenCounts programWidth bytes) a =
+    rw (h .bytes) (line-possible t line l) in
     (rw (← h .processes) (laid a told (h .replied)), follow (takenCounts programWidth bytes) a told (h .replied))
 
 pub take-printed : EachTakeIsPrinted

@@ -70,17 +70,18 @@ open-fits w text k labels s window =
         (h .0, omega (arith, h .1), omega (arith, fault-place text k n i e))
 
 -- What open answers is possible with the record that it leaves.
-abbrev OpenTold : Opened → Type 0
+abbrev pub OpenTold : Opened → Type 0
 OpenTold o = Possible false (takenCounts programWidth (o .bytes)) (o .answer)
 
 -- A watch is opened with one frontier and the counts that stand in its record, or refused.
 pub open-possible : (text : List ℕ) (k : ℕ) (labels s window : List ℕ)
-    → let r = openCall programWidth text k labels s window in Possible false (takenCounts programWidth (r .bytes)) (r .answer)
+    → OpenTold (openCall programWidth text k labels s window)
 unfolding openCall openRead openTable stateOf
 open-possible text k labels s window =
     let by = chosen OpenTold in
     let turned : ℕ → Opened = λ n. record { answer = turnedBack n 0; bytes = s; window = window } in
-    by (badRecordLength programWidth (length s) || badWindowLength programWidth (length window)) (turned 6) _ (omega arith) λ _.
+    by (badRecordLength programWidth (length s) || badWindowLength programWidth (length window)) (turned 6) _
+    (omega arith) λ _.
     by (badProcesses k) (turned 5) _ (omega arith) λ _.
     by (badStart k labels) (turned 9) _ (omega arith) λ _.
     go (readRule text k) refl

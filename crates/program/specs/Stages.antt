@@ -71,7 +71,8 @@ startRead s (StartRefused n place) = refuse s n place
 -- An event is offered.
 unfoldable pub didRead : Standing → DidLine → Standing
 didRead s (Did mask c01 c23 c45 c67 labels) =
-    let r = offerCall programWidth mask (unpackCounts programWidth (c01 ∷ c23 ∷ c45 ∷ c67 ∷ [])) (unpackLabels labels) (s .bytes) in
+    let clock = unpackCounts programWidth (c01 ∷ c23 ∷ c45 ∷ c67 ∷ []) in
+    let r = offerCall programWidth mask clock (unpackLabels labels) (s .bytes) in
     record { answer = r .answer; stage = nextStage (s .stage) (refused (r .answer)); k = s .k; room = s .room; rule = s .rule; bytes = r .bytes; window = s .window }
 didRead s (DidRefused n place) = refuse s n place
 

@@ -127,7 +127,8 @@ reached-fit w s i b r p l = rw (← apply-ready 8 e (at (takenCounts w s)) r p l
 -- ---- Theorems
 
 -- A new watch has taken nothing.
-pub first-taken : (k : ℕ) (table : List Line) → takenCounts programWidth (firstRecord programWidth k table) ≡ replicate 8 0
+pub first-taken : (k : ℕ) (table : List Line)
+    → takenCounts programWidth (firstRecord programWidth k table) ≡ replicate 8 0
 unfolding takenCounts listOf number valueOf firstRecord bytesOf
 first-taken k table = refl
 

@@ -66,7 +66,8 @@ pub(crate) fn respond(
     scratch: &mut [u8],
 ) -> Turn
     requires { ⌜ Within programWindow session ⌝ }
-    requires { ⌜ (length (now line) ≤ programWindow) × (length (now «record») ≡ recordLength programWidth) × (length (now scratch) ≡ programWindow) ⌝ }
+    requires { ⌜ (length (now line) ≤ programWindow) × (length (now «record») ≡ recordLength programWidth)
+        × (length (now scratch) ≡ programWindow) ⌝ }
     ensures { λ r. ⌜ Within programWindow (r .session) ⌝ }
 {
     let bytes = FRONTIER_BYTES * session.room;

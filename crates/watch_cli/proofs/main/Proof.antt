@@ -13,7 +13,8 @@ use Rattle.watch_cli.proofs.main.Tie as tie
 
 abbrev Inv-loop : tie.InvT-loop
 Inv-loop chunk₀ line₀ state₀ window₀ scratch₀ session₀ input₀ left₀ chunk line state window scratch session input left =
-    (input .end ≤ 4096) × Within programWindow session × (length chunk ≡ 4096) × (length line ≡ 4112) × (length state ≡ recordLength programWidth) × (length window ≡ programWindow) × (length scratch ≡ programWindow)
+    (input .end ≤ 4096) × Within programWindow session × (length chunk ≡ 4096) × (length line ≡ 4112)
+    × (length state ≡ recordLength programWidth) × (length window ≡ programWindow) × (length scratch ≡ programWindow)
 
 abbrev μ-loop : tie.MeasureT-loop
 μ-loop chunk₀ line₀ state₀ window₀ scratch₀ session₀ input₀ left₀ chunk line state window scratch session input left = left

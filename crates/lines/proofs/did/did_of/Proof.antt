@@ -46,8 +46,8 @@ returns c = let clocked = c .before .before in
     let told = marked .before .before .enum-told .given in
     let l : length (a .counts) ≡ 8 = search needs in
     rw (told .1)
-    (words-made (a .n) (a .processes) (a .counts) (a .labels) _ _ (told .0 .0) (told .0 .1 .0) _ _ _ _ _ _ (begun .pre) l
-    (marked .before .place .ensures) (marked .word-of .ensures)
+    (words-made (a .n) (a .processes) (a .counts) (a .labels) _ _ (told .0 .0) (told .0 .1 .0) _ _ _ _ _ _ (begun .pre)
+    l (marked .before .place .ensures) (marked .word-of .ensures)
     (clocked .before .before .before .word-of2 .ensures) (clocked .before .before .word-of3 .ensures)
     (clocked .before .word-of4 .ensures) (clocked .word-of5 .ensures) (c .before .place2 .ensures)
     (c .word-of6 .ensures))

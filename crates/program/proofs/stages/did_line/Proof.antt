@@ -38,7 +38,8 @@ returns-2 c = let offer = c .before .before .before .watch32-offer in
     let known = c .before .before .before .before .before .before in
     let a = known .before .before .before .before .before .args in
     let q = c .replied .ensures in (
-      λ t rule window h. did-stands t (a .session) rule (a .«record» .now) window h (a .line .now) _ (known .before .before .read-did .ensures) _ _ _ _ _ _ _ _ _ (known .read2 .given .1) q (offer .ensures .0) (offer .ensures .1),
+      λ t rule window h. did-stands t (a .session) rule (a .«record» .now) window h (a .line .now) _
+          (known .before .before .read-did .ensures) _ _ _ _ _ _ _ _ _ (known .read2 .given .1) q (offer .ensures .0) (offer .ensures .1),
       λ n w. record { processes = rw (q .processes) (w .processes); frontiers = rw (q .frontiers) (w .frontiers); text = rw (q .text) (w .text) },
     )
 
