@@ -2,9 +2,9 @@
 
 // A count.
 pub const WIDTH: usize = 4;
-// A frontier.
-pub const FRONTIER_BYTES: usize = 56;
-// A record.
-pub const RECORD_BYTES: usize = 2024;
-// The longest window.
-pub const WINDOW_BYTES: usize = 57344;
+// A frontier: 56.
+pub const FRONTIER_BYTES: usize = 8 * WIDTH + 24;
+// A record: 2,024.
+pub const RECORD_BYTES: usize = 200 + 72 * WIDTH + 32 * (8 * WIDTH + 16);
+// The longest window: 57,344.
+pub const WINDOW_BYTES: usize = 1024 * FRONTIER_BYTES;

@@ -4,7 +4,7 @@ use mathlib.Core.Path.{_≡_, sym, _∙_}
 use Prim.Native.Nat.{_≤_, _*_}
 use lib.ListN.{length}
 use Rattle.records.specs.Record.{recordLength}
-use Rattle.reply_text.specs.Form.{programWidth, programWindow}
+use Rattle.reply_text.specs.Form.{programWidth, programFrontier, programWindow}
 use Rattle.program.specs.Stages.{Within}
 use lib.Seq.{length-take-le, length-front}
 use borrow.Author.Needs.{needs}
@@ -69,7 +69,7 @@ loop-less c = c .turns .ensures
 loop-again : tie.Need-loop-again Inv-loop μ-loop
 loop-again c = let l = c .before .before .before .before .before .before .before .before .before .before .before .before .before .before .before .before .before .before .before .before .loop in
     let n = c .before .before .before .before .before .before .before .before .before .before .before .before .before .before .before .before .next-line in
-    (omega (arith, n .ensures .1, c .before .before .before .before .before .before .before .before .before .before .before .before .before .before .before .chunk2 .given), c .before .before .before .before .before .respond .ensures, omega (arith, c .before .before .before .before .before .before .before .before .before .before .before .before .before .before .before .chunk2 .given), omega (arith, c .before .before .before .before .before .before .before .before .before .before .before .before .before .before .line2 .given), omega (arith, c .before .before .before .before .record2 .given, l .inv .4), length-front (l .window) (c .before .before .before .before .before .respond .last .1 .1 .1 .0) (56 * l .session .room) (c .before .before .before .window2 .given) ∙ l .inv .5, omega (arith, c .before .before .scratch2 .given, l .inv .6))
+    (omega (arith, n .ensures .1, c .before .before .before .before .before .before .before .before .before .before .before .before .before .before .before .chunk2 .given), c .before .before .before .before .before .respond .ensures, omega (arith, c .before .before .before .before .before .before .before .before .before .before .before .before .before .before .before .chunk2 .given), omega (arith, c .before .before .before .before .before .before .before .before .before .before .before .before .before .before .line2 .given), omega (arith, c .before .before .before .before .record2 .given, l .inv .4), length-front (l .window) (c .before .before .before .before .before .respond .last .1 .1 .1 .0) (programFrontier * l .session .room) (c .before .before .before .window2 .given) ∙ l .inv .5, omega (arith, c .before .before .scratch2 .given, l .inv .6))
 
 returns-2 : tie.Need-returns-2 Inv-loop μ-loop
 returns-2 c = search needs
