@@ -1,5 +1,6 @@
 // Move (02 [6]): a watch with counts of two bytes is written as one with counts of four, or the other way.
 
+pub mod bytes;
 pub mod counts;
 pub mod record_parts;
 pub mod refused;
@@ -24,9 +25,12 @@ pub fn move_watch(
 ) -> u64
     requires { ⌜ Width v ⌝ }
     requires { ⌜ Width w ⌝ }
-    ensures reply { λ r. ⌜ r ≡ moveCall v w (now («record» .entry)) (now (window .entry)) (now (target .entry)) (now (target_window .entry)) .number ⌝ }
-    ensures bytes { λ r. ⌜ now (target .exit) ≡ moveCall v w (now («record» .entry)) (now (window .entry)) (now (target .entry)) (now (target_window .entry)) .bytes ⌝ }
-    ensures window { λ r. ⌜ now (target_window .exit) ≡ moveCall v w (now («record» .entry)) (now (window .entry)) (now (target .entry)) (now (target_window .entry)) .window ⌝ }
+    ensures reply { λ r. ⌜ r ≡ moveCall v w (now («record» .entry)) (now (window .entry))
+        (now (target .entry)) (now («target_window» .entry)) .number ⌝ }
+    ensures bytes { λ r. ⌜ now (target .exit) ≡ moveCall v w (now («record» .entry)) (now (window .entry))
+        (now (target .entry)) (now («target_window» .entry)) .bytes ⌝ }
+    ensures window { λ r. ⌜ now («target_window» .exit) ≡ moveCall v w (now («record» .entry)) (now (window .entry))
+        (now (target .entry)) (now («target_window» .entry)) .window ⌝ }
 {
     let fault = move_fault(v, w, record, window, target.len(), target_window.len());
     if fault != 0 {

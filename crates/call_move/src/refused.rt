@@ -10,7 +10,6 @@ use refusals::bad_state;
 use refusals::bad_window_length;
 use refusals::room_of;
 ghost use mathlib.Core.Path.{_≡_};
-ghost use lib.ListN.{length};
 ghost use Rattle.frontiers.specs.Width.{Width};
 ghost use Rattle.call_move.specs.Move.{badLengths};
 ghost use Rattle.call_move.specs.MoveCode.{moveFault};
@@ -26,7 +25,7 @@ fn bad_lengths(
 ) -> bool
     requires { ⌜ Width v ⌝ }
     requires { ⌜ Width w ⌝ }
-    ensures { λ r. ⌜ r ≡ badLengths v w record_len window_len target_len target_window_len ⌝ }
+    ensures { λ r. ⌜ r ≡ badLengths v w «record_len» «window_len» «target_len» «target_window_len» ⌝ }
 {
     if bad_record_length(v, record_len) {
         return true;
@@ -54,7 +53,8 @@ pub fn move_fault(
 ) -> u64
     requires { ⌜ Width v ⌝ }
     requires { ⌜ Width w ⌝ }
-    ensures { λ r. ⌜ r ≡ moveFault v w (now («record» .entry)) (now (window .entry)) target_len target_window_len ⌝ }
+    ensures { λ r. ⌜ r
+        ≡ moveFault v w (now («record» .entry)) (now (window .entry)) «target_len» «target_window_len» ⌝ }
 {
     if bad_lengths(
         v,

@@ -1,24 +1,25 @@
 // The window moved, frontier by frontier.
 
+use crate::bytes::copy_part;
 use crate::counts::any_too_large;
 use crate::counts::move_counts;
-use frontiers::moving::copy_in;
 use frontiers::place::frontier_place;
-ghost use Prim.Native.Nat.{_*_, _≤_};
+ghost use Prim.Native.Nat.{_+_, _*_, _≤_};
 ghost use mathlib.Core.Path.{_≡_};
 ghost use mathlib.Core.Bool.{false};
-ghost use lib.ListN.{length};
+ghost use lib.ListN.{length, drop};
+ghost use lib.Seq.{sets};
 ghost use Rattle.frontiers.specs.Width.{Width};
 ghost use Rattle.frontiers.specs.Bytes.{frontierLength};
-ghost use Rattle.call_move.specs.Parts.{windowParts};
+ghost use Rattle.call_move.specs.Parts.{frontierParts, windowParts};
 ghost use Rattle.call_move.specs.Move.{moved, someTooLarge};
 
-// 43, of the window: the counts of each of its n places, used or not.
+// 43, of the window's first n places, used or not: the counts of each.
 pub fn window_too_large(window: &[u8], n: usize, v: usize, w: usize) -> bool
     requires { ⌜ Width v ⌝ }
     requires { ⌜ Width w ⌝ }
     requires { ⌜ n ≤ 1024 ⌝ }
-    requires { ⌜ length (now window) ≡ n * frontierLength v ⌝ }
+    requires { ⌜ n * frontierLength v ≤ length (now window) ⌝ }
     ensures { λ r. ⌜ r ≡ someTooLarge v w (windowParts n) (now (window .entry)) ⌝ }
 {
     let mut some = false;
@@ -31,23 +32,41 @@ pub fn window_too_large(window: &[u8], n: usize, v: usize, w: usize) -> bool
     some
 }
 
-// Writes a window of n frontiers with counts of v bytes as one with counts of w bytes.
+// Writes the frontier from a place on to a place of the other window.
+fn move_frontier(window: &[u8], from: usize, v: usize, target: &mut [u8], to: usize, w: usize)
+    requires { ⌜ Width v ⌝ }
+    requires { ⌜ Width w ⌝ }
+    requires { ⌜ from + frontierLength v ≤ length (now window) ⌝ }
+    requires { ⌜ to + frontierLength w ≤ length (now target) ⌝ }
+    requires { ⌜ someTooLarge v w frontierParts (drop from (now window)) ≡ false ⌝ }
+    ensures { λ r. ⌜ now (target .exit)
+        ≡ sets (now (target .entry)) to (moved v w frontierParts (drop from (now (window .entry)))) ⌝ }
+{
+    move_counts(window, from, v, 8, target, to, w);
+    copy_part(window, from + 8 * v, 24, target, to + 8 * w);
+}
+
+// Writes a window's first n frontiers with counts of v bytes as such with counts of w bytes.
 pub fn move_window(window: &[u8], n: usize, v: usize, target: &mut [u8], w: usize)
     requires { ⌜ Width v ⌝ }
     requires { ⌜ Width w ⌝ }
     requires { ⌜ n ≤ 1024 ⌝ }
-    requires { ⌜ length (now window) ≡ n * frontierLength v ⌝ }
-    requires { ⌜ length (now target) ≡ n * frontierLength w ⌝ }
+    requires { ⌜ n * frontierLength v ≤ length (now window) ⌝ }
+    requires { ⌜ n * frontierLength w ≤ length (now target) ⌝ }
     requires { ⌜ someTooLarge v w (windowParts n) (now window) ≡ false ⌝ }
-    ensures { λ r. ⌜ now (target .exit) ≡ moved v w (windowParts n) (now (window .entry)) ⌝ }
+    ensures { λ r. ⌜ now (target .exit)
+        ≡ sets (now (target .entry)) 0 (moved v w (windowParts n) (now (window .entry))) ⌝ }
 {
     let mut i = 0;
     while i < n {
-        let from = frontier_place(v, i);
-        let to = frontier_place(w, i);
-        move_counts(window, from, v, 8, target, to, w);
-        let rest = from + 8 * v;
-        copy_in(target, to + 8 * w, &window[rest..], 24);
+        move_frontier(
+            window,
+            frontier_place(v, i),
+            v,
+            target,
+            frontier_place(w, i),
+            w,
+        );
         i = i + 1;
     }
 }

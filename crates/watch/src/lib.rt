@@ -26,9 +26,12 @@ pub extern "C" fn watch_open(
     record: &mut [u8],
     window: &mut [u8],
 ) -> u64
-    ensures reply { λ r. ⌜ r ≡ replyWord (openCall 2 (now (rule .entry)) k (unpackLabels labels) (now («record» .entry)) (now (window .entry)) .answer) ⌝ }
-    ensures bytes { λ r. ⌜ now («record» .exit) ≡ openCall 2 (now (rule .entry)) k (unpackLabels labels) (now («record» .entry)) (now (window .entry)) .bytes ⌝ }
-    ensures window { λ r. ⌜ now (window .exit) ≡ openCall 2 (now (rule .entry)) k (unpackLabels labels) (now («record» .entry)) (now (window .entry)) .window ⌝ }
+    ensures reply { λ r. ⌜ r ≡ replyWord (openCall 2 (now (rule .entry)) k (unpackLabels labels)
+        (now («record» .entry)) (now (window .entry)) .answer) ⌝ }
+    ensures bytes { λ r. ⌜ now («record» .exit) ≡ openCall 2 (now (rule .entry)) k (unpackLabels labels)
+        (now («record» .entry)) (now (window .entry)) .bytes ⌝ }
+    ensures window { λ r. ⌜ now (window .exit) ≡ openCall 2 (now (rule .entry)) k (unpackLabels labels)
+        (now («record» .entry)) (now (window .entry)) .window ⌝ }
 {
     let bytes = crate::words::unpack_labels(labels);
     call_open::open(2, rule, k, bytes, record, window)
@@ -38,8 +41,10 @@ pub extern "C" fn watch_open(
 // its labels are the bytes of a word.
 #[no_mangle]
 pub extern "C" fn watch_offer(mask: u64, low: u64, high: u64, labels: u64, record: &mut [u8]) -> u64
-    ensures reply { λ r. ⌜ r ≡ replyWord (offerCall 2 mask (unpackCounts 2 (low ∷ high ∷ [])) (unpackLabels labels) (now («record» .entry)) .answer) ⌝ }
-    ensures bytes { λ r. ⌜ now («record» .exit) ≡ offerCall 2 mask (unpackCounts 2 (low ∷ high ∷ [])) (unpackLabels labels) (now («record» .entry)) .bytes ⌝ }
+    ensures reply { λ r. ⌜ r ≡ replyWord (offerCall 2 mask (unpackCounts 2 (low ∷ high ∷ [])) (unpackLabels labels)
+        (now («record» .entry)) .answer) ⌝ }
+    ensures bytes { λ r. ⌜ now («record» .exit) ≡ offerCall 2 mask (unpackCounts 2 (low ∷ high ∷ []))
+        (unpackLabels labels) (now («record» .entry)) .bytes ⌝ }
 {
     let clock = crate::words::unpack_counts(low, high);
     let bytes = crate::words::unpack_labels(labels);
@@ -49,10 +54,14 @@ pub extern "C" fn watch_offer(mask: u64, low: u64, high: u64, labels: u64, recor
 // Takes the first pending event that is decided on.
 #[no_mangle]
 pub extern "C" fn watch_take(record: &mut [u8], window: &mut [u8], scratch: &mut [u8]) -> u64
-    ensures reply { λ r. ⌜ r ≡ replyWord (takeCall 2 (now («record» .entry)) (now (window .entry)) (now (scratch .entry)) .answer) ⌝ }
-    ensures bytes { λ r. ⌜ now («record» .exit) ≡ takeCall 2 (now («record» .entry)) (now (window .entry)) (now (scratch .entry)) .bytes ⌝ }
-    ensures window { λ r. ⌜ now (window .exit) ≡ takeCall 2 (now («record» .entry)) (now (window .entry)) (now (scratch .entry)) .window ⌝ }
-    ensures scratch { λ r. ⌜ now (scratch .exit) ≡ takeCall 2 (now («record» .entry)) (now (window .entry)) (now (scratch .entry)) .scratch ⌝ }
+    ensures reply { λ r. ⌜ r ≡ replyWord (takeCall 2 (now («record» .entry)) (now (window .entry))
+        (now (scratch .entry)) .answer) ⌝ }
+    ensures bytes { λ r. ⌜ now («record» .exit) ≡ takeCall 2 (now («record» .entry)) (now (window .entry))
+        (now (scratch .entry)) .bytes ⌝ }
+    ensures window { λ r. ⌜ now (window .exit) ≡ takeCall 2 (now («record» .entry)) (now (window .entry))
+        (now (scratch .entry)) .window ⌝ }
+    ensures scratch { λ r. ⌜ now (scratch .exit) ≡ takeCall 2 (now («record» .entry)) (now (window .entry))
+        (now (scratch .entry)) .scratch ⌝ }
 {
     call_take::take(2, record, window, scratch)
 }

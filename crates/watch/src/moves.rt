@@ -11,9 +11,12 @@ pub extern "C" fn watch_widen(
     record32: &mut [u8],
     window32: &mut [u8],
 ) -> u64
-    ensures reply { λ r. ⌜ r ≡ moveCall 2 4 (now («record» .entry)) (now (window .entry)) (now (record32 .entry)) (now (window32 .entry)) .number ⌝ }
-    ensures bytes { λ r. ⌜ now (record32 .exit) ≡ moveCall 2 4 (now («record» .entry)) (now (window .entry)) (now (record32 .entry)) (now (window32 .entry)) .bytes ⌝ }
-    ensures window { λ r. ⌜ now (window32 .exit) ≡ moveCall 2 4 (now («record» .entry)) (now (window .entry)) (now (record32 .entry)) (now (window32 .entry)) .window ⌝ }
+    ensures reply { λ r. ⌜ r ≡ moveCall 2 4 (now («record» .entry)) (now (window .entry)) (now (record32 .entry))
+        (now (window32 .entry)) .number ⌝ }
+    ensures bytes { λ r. ⌜ now (record32 .exit) ≡ moveCall 2 4 (now («record» .entry)) (now (window .entry))
+        (now (record32 .entry)) (now (window32 .entry)) .bytes ⌝ }
+    ensures window { λ r. ⌜ now (window32 .exit) ≡ moveCall 2 4 (now («record» .entry)) (now (window .entry))
+        (now (record32 .entry)) (now (window32 .entry)) .window ⌝ }
 {
     call_move::move_watch(2, 4, record, window, record32, window32)
 }
@@ -26,9 +29,12 @@ pub extern "C" fn watch_narrow(
     record: &mut [u8],
     window: &mut [u8],
 ) -> u64
-    ensures reply { λ r. ⌜ r ≡ moveCall 4 2 (now (record32 .entry)) (now (window32 .entry)) (now («record» .entry)) (now (window .entry)) .number ⌝ }
-    ensures bytes { λ r. ⌜ now («record» .exit) ≡ moveCall 4 2 (now (record32 .entry)) (now (window32 .entry)) (now («record» .entry)) (now (window .entry)) .bytes ⌝ }
-    ensures window { λ r. ⌜ now (window .exit) ≡ moveCall 4 2 (now (record32 .entry)) (now (window32 .entry)) (now («record» .entry)) (now (window .entry)) .window ⌝ }
+    ensures reply { λ r. ⌜ r ≡ moveCall 4 2 (now (record32 .entry)) (now (window32 .entry)) (now («record» .entry))
+        (now (window .entry)) .number ⌝ }
+    ensures bytes { λ r. ⌜ now («record» .exit) ≡ moveCall 4 2 (now (record32 .entry)) (now (window32 .entry))
+        (now («record» .entry)) (now (window .entry)) .bytes ⌝ }
+    ensures window { λ r. ⌜ now (window .exit) ≡ moveCall 4 2 (now (record32 .entry)) (now (window32 .entry))
+        (now («record» .entry)) (now (window .entry)) .window ⌝ }
 {
     call_move::move_watch(4, 2, record32, window32, record, window)
 }

@@ -19,9 +19,12 @@ pub extern "C" fn watch32_open(
     record: &mut [u8],
     window: &mut [u8],
 ) -> u64
-    ensures reply { λ r. ⌜ r ≡ replyWord (openCall 4 (now (rule .entry)) k (unpackLabels labels) (now («record» .entry)) (now (window .entry)) .answer) ⌝ }
-    ensures bytes { λ r. ⌜ now («record» .exit) ≡ openCall 4 (now (rule .entry)) k (unpackLabels labels) (now («record» .entry)) (now (window .entry)) .bytes ⌝ }
-    ensures window { λ r. ⌜ now (window .exit) ≡ openCall 4 (now (rule .entry)) k (unpackLabels labels) (now («record» .entry)) (now (window .entry)) .window ⌝ }
+    ensures reply { λ r. ⌜ r ≡ replyWord (openCall 4 (now (rule .entry)) k (unpackLabels labels)
+        (now («record» .entry)) (now (window .entry)) .answer) ⌝ }
+    ensures bytes { λ r. ⌜ now («record» .exit) ≡ openCall 4 (now (rule .entry)) k (unpackLabels labels)
+        (now («record» .entry)) (now (window .entry)) .bytes ⌝ }
+    ensures window { λ r. ⌜ now (window .exit) ≡ openCall 4 (now (rule .entry)) k (unpackLabels labels)
+        (now («record» .entry)) (now (window .entry)) .window ⌝ }
 {
     let bytes = crate::words::unpack_labels(labels);
     call_open::open(4, rule, k, bytes, record, window)
@@ -39,8 +42,10 @@ pub extern "C" fn watch32_offer(
     labels: u64,
     record: &mut [u8],
 ) -> u64
-    ensures reply { λ r. ⌜ r ≡ replyWord (offerCall 4 mask (unpackCounts 4 (c01 ∷ c23 ∷ c45 ∷ c67 ∷ [])) (unpackLabels labels) (now («record» .entry)) .answer) ⌝ }
-    ensures bytes { λ r. ⌜ now («record» .exit) ≡ offerCall 4 mask (unpackCounts 4 (c01 ∷ c23 ∷ c45 ∷ c67 ∷ [])) (unpackLabels labels) (now («record» .entry)) .bytes ⌝ }
+    ensures reply { λ r. ⌜ r ≡ replyWord (offerCall 4 mask (unpackCounts 4 (c01 ∷ c23 ∷ c45 ∷ c67 ∷ []))
+        (unpackLabels labels) (now («record» .entry)) .answer) ⌝ }
+    ensures bytes { λ r. ⌜ now («record» .exit) ≡ offerCall 4 mask (unpackCounts 4 (c01 ∷ c23 ∷ c45 ∷ c67 ∷ []))
+        (unpackLabels labels) (now («record» .entry)) .bytes ⌝ }
 {
     let clock = crate::words::unpack_wide_counts(c01, c23, c45, c67);
     let bytes = crate::words::unpack_labels(labels);
@@ -50,10 +55,14 @@ pub extern "C" fn watch32_offer(
 // Takes the first pending event that is decided on.
 #[no_mangle]
 pub extern "C" fn watch32_take(record: &mut [u8], window: &mut [u8], scratch: &mut [u8]) -> u64
-    ensures reply { λ r. ⌜ r ≡ replyWord (takeCall 4 (now («record» .entry)) (now (window .entry)) (now (scratch .entry)) .answer) ⌝ }
-    ensures bytes { λ r. ⌜ now («record» .exit) ≡ takeCall 4 (now («record» .entry)) (now (window .entry)) (now (scratch .entry)) .bytes ⌝ }
-    ensures window { λ r. ⌜ now (window .exit) ≡ takeCall 4 (now («record» .entry)) (now (window .entry)) (now (scratch .entry)) .window ⌝ }
-    ensures scratch { λ r. ⌜ now (scratch .exit) ≡ takeCall 4 (now («record» .entry)) (now (window .entry)) (now (scratch .entry)) .scratch ⌝ }
+    ensures reply { λ r. ⌜ r ≡ replyWord (takeCall 4 (now («record» .entry)) (now (window .entry))
+        (now (scratch .entry)) .answer) ⌝ }
+    ensures bytes { λ r. ⌜ now («record» .exit) ≡ takeCall 4 (now («record» .entry)) (now (window .entry))
+        (now (scratch .entry)) .bytes ⌝ }
+    ensures window { λ r. ⌜ now (window .exit) ≡ takeCall 4 (now («record» .entry)) (now (window .entry))
+        (now (scratch .entry)) .window ⌝ }
+    ensures scratch { λ r. ⌜ now (scratch .exit) ≡ takeCall 4 (now («record» .entry)) (now (window .entry))
+        (now (scratch .entry)) .scratch ⌝ }
 {
     call_take::take(4, record, window, scratch)
 }

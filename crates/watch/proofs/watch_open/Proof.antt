@@ -1,14 +1,12 @@
 -- The labels out of a word; the rest is the call's own promise.
 use Rattle.watch.proofs.watch_open.Tie as tie
-use Prim.Native.Nat.{ℕ}
-use mathlib.Core.Path.{_≡_, ap, _∙_}
-use mathlib.Core.List.{List}
 use borrow.Author.Needs.{needs}
-use denote.Ref.{now}
 use Rattle.watch.proofs.watch_open.Statement.{statement}
-use Rattle.call_open.specs.Open.{Opened, openCall}
-use Rattle.answers.specs.Answer.{replyWord}
-use Rattle.call_words.specs.Words.{unpackLabels}
+use Rattle.watch.proofs.UnpackedSteps.{open-unpacked}
+
+-- Where the labels are unpacked, from where the watch is opened.
+abbrev unpacked : tie.After-open → tie.After-unpack-labels
+unpacked c = c .before .before .before
 
 unpack-labels-requires : tie.Need-unpack-labels-requires
 unpack-labels-requires c κs = search needs
@@ -24,11 +22,8 @@ same-length-2 c = search needs
 
 returns : tie.Need-returns
 returns c =
-    let a = c .before .before .before .before .before .before .before .before .before .before .before .args in
-    let same : openCall 2 (now (a .rule)) (a .k) (c .before .before .before .before .before .before .before .unpack-labels .result) (now (a .«record»)) (now (a .window)) ≡ openCall 2 (now (a .rule)) (a .k) (unpackLabels (a .labels)) (now (a .«record»)) (now (a .window)) =
-    ap (λ (labels : List ℕ). openCall 2 (now (a .rule)) (a .k) labels (now (a .«record»)) (now (a .window))) (c .before .before .before .before .before .before .before .unpack-labels .ensures) in
-    let o = c .before .before .before .before .open .ensures in
-    (o .0 ∙ ap (λ (r : Opened). replyWord (r .answer)) same, (o .1 .0 ∙ ap (λ (r : Opened). r .bytes) same, o .1 .1 ∙ ap (λ (r : Opened). r .window) same))
+    let o = c .before .before .before .before in
+    open-unpacked 2 _ _ _ _ _ _ _ _ _ (unpacked o .unpack-labels .ensures) (o .open .ensures)
 
 pub watch-open-spec : {M : Type 1} → statement M
 watch-open-spec =

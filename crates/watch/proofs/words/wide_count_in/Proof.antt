@@ -1,0 +1,25 @@
+-- A shift is a division by a power of 2.
+use Rattle.watch.proofs.words.wide_count_in.Tie as tie
+use mathlib.Core.Path.{refl}
+use borrow.Author.Needs.{needs}
+use Rattle.watch.proofs.words.wide_count_in.Statement.{statement}
+use Rattle.call_words.specs.Words.{part}
+
+mul-result : tie.Need-mul-result
+mul-result c = search needs
+
+cast-result : tie.Need-cast-result
+cast-result c = search needs
+
+shr-result : tie.Need-shr-result
+shr-result c = search needs
+
+cast-result-2 : tie.Need-cast-result-2
+cast-result-2 c = search needs
+
+returns : tie.Need-returns
+unfolding part
+returns c = refl
+
+pub wide-count-in-spec : {M : Type 1} → statement M
+wide-count-in-spec = tie.close (tie.spec mul-result cast-result shr-result cast-result-2 returns)
