@@ -39,7 +39,8 @@ DidFindsFirstFault =
 abbrev pub DidAcceptsFaultless : Type 0
 DidAcceptsFaultless =
     (s : List ℕ) (k m : ℕ) → Names s m
-    → ((mask : ℕ) × (low : ℕ) × (high : ℕ) × (labels : ℕ) × (didLine s k ≡ Did mask low high labels))
+    → ((mask : ℕ) × (c01 : ℕ) × (c23 : ℕ) × (c45 : ℕ) × (c67 : ℕ) × (labels : ℕ)
+    × (didLine s k ≡ Did mask c01 c23 c45 c67 labels))
     ↔ ((n i : ℕ) → Fault n (didPieces k m) s i → ⊥)
 
 abbrev pub EachLineNames : Type 0

@@ -9,7 +9,7 @@ use lib.ListN.{length, take}
 use Rattle.rules.specs.Text.{byteAt, ascii}
 use Rattle.rules.specs.Fault.{Stands}
 use Rattle.line_pieces.specs.Number.{isDigit}
-use Rattle.lines.specs.Lines.{countLimit, labelLimit, processLimit, roomLimit}
+use Rattle.lines.specs.Lines.{kLimit, countLimit, labelLimit, processLimit, roomLimit}
 
 -- The text of a number: digits, the first of them no needless 0.
 unfoldable pub AllDigits : List ℕ → Type 0
@@ -56,7 +56,7 @@ TextOf (p ∷ ps) t = (x y : List ℕ) × (PieceText p x × (TextOf ps y × (t �
 
 -- The lines: (watch k room), (start l ..) and (did (p ..) (c ..) (l ..)), for k processes of which n take part.
 unfoldable pub watchPieces : List Piece
-watchPieces = map one (ascii "(watch ") ++ number 0 countLimit 32 ∷ number 1 roomLimit 41 ∷ []
+watchPieces = map one (ascii "(watch ") ++ number 0 kLimit 32 ∷ number 1 roomLimit 41 ∷ []
 
 unfoldable pub startPieces : ℕ → List Piece
 startPieces k = map one (ascii "(start") ++ spacedList labelLimit k k ∷ []

@@ -31,10 +31,13 @@ unfolding digits valueFrom numberOf numberAt thenByte thenBytes thenEnd limited 
     thenClose listOf word startOf startLine
 starts s = startLine s 2
 
-dids : List ℕ → DidLine
+didLines : ℕ → List ℕ → DidLine
 unfolding digits valueFrom numberOf numberAt valueOf thenByte thenBytes thenEnd limited afterNumber numbersAt thenList
     thenClose listOf word placed thenLast didOf didLine
-dids s = didLine s 2
+didLines k s = didLine s k
+
+dids : List ℕ → DidLine
+dids s = didLines 2 s
 
 rules : List ℕ → RuleLine
 unfolding restAt aWordAt eWordAt wordAt andThen expect expectDigit closeAt atomAt innerWith unaryWith binaryWith
@@ -45,10 +48,19 @@ rules s = ruleLine s 2
 -- Lines that are taken.
 example-taken : (watches (ascii "(watch 2 4)") ≡ Watch 2 4) × (watches (ascii "(watch 0 1024)") ≡ Watch 0 1024)
     × (watches (ascii "(watch 65535 1)") ≡ Watch 65535 1) × (starts (ascii "(start 0 255)") ≡ Start 65280)
-    × (dids (ascii "(did (0) (2 0) (0))") ≡ Did 1 2 0 0) × (dids (ascii "(did (1) (0 1) (1))") ≡ Did 2 65536 0 256)
-    × (dids (ascii "(did (0 7) (1 65535) (3 4))") ≡ Did 129 4294901761 0 288230376151711747)
-unfolding watches starts dids
+    × (dids (ascii "(did (0) (2 0) (0))") ≡ Did 1 2 0 0 0 0)
+    × (dids (ascii "(did (1) (0 1) (1))") ≡ Did 2 4294967296 0 0 0 256)
+    × (dids (ascii "(did (0 7) (1 65535) (3 4))") ≡ Did 129 281470681743361 0 0 0 288230376151711747)
+unfolding watches starts dids didLines
 example-taken = (refl, refl, refl, refl, refl, refl, refl)
+
+-- Counts of 32 bits, two in a word.
+example-counts : (dids (ascii "(did (0) (65536 4294967295) (0))") ≡ Did 1 18446744069414649856 0 0 0 0)
+    × (didLines 8 (ascii "(did (7) (0 1 2 3 4 5 4294967295 65536) (9))")
+    ≡ Did 128 4294967296 12884901890 21474836484 281479271677951 648518346341351424)
+    × (dids (ascii "(did (0) (42949672950 1) (1))") ≡ DidRefused 10 10)
+unfolding dids didLines
+example-counts = (refl, refl, refl)
 
 -- 1: another byte, or the end too early; a needless leading 0.
 example-1 : map watches
@@ -81,14 +93,14 @@ example-start = refl
 example-did : map dids
     (ascii "(di" ∷ ascii "(did () (1 0) ())" ∷ ascii "(did (1 0x" ∷ ascii "(did (8) (1 0) (1))"
     ∷ ascii "(did (0 0) (1 0) (1 1))" ∷ ascii "(did (0) () (1))"
-    ∷ ascii "(did (0) (1 0 0) (1))" ∷ ascii "(did (0) (1 0) (1 1))" ∷ ascii "(did (0) (1 65536) (1))"
+    ∷ ascii "(did (0) (1 0 0) (1))" ∷ ascii "(did (0) (1 0) (1 1))" ∷ ascii "(did (0) (1 4294967296) (1))"
     ∷ ascii "(did (0) (1 0) (256))"
     ∷ ascii "(did (0)(1 0) (1))" ∷ ascii "(did (0) (1 0) (1)" ∷ ascii "(did (0) (1 0) (1)))"
     ∷ ascii "(did ( 0) (1 0) (1))" ∷ ascii "(did (0 ) (1 0) (1))" ∷ [])
     ≡ (DidRefused 1 3 ∷ DidRefused 10 6 ∷ DidRefused 10 8 ∷ DidRefused 10 6 ∷ DidRefused 10 8 ∷ DidRefused 10 10
     ∷ DidRefused 10 15 ∷ DidRefused 10 19 ∷ DidRefused 10 12 ∷ DidRefused 10 16
     ∷ DidRefused 1 8 ∷ DidRefused 1 18 ∷ DidRefused 1 19 ∷ DidRefused 1 6 ∷ DidRefused 1 8 ∷ [])
-unfolding dids
+unfolding dids didLines
 example-did = refl
 
 -- A rule's line: its head, the rule's own faults counted from the rule's first byte, the last byte.

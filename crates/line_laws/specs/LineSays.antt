@@ -18,7 +18,7 @@ use Rattle.lines.specs.declared.WatchLine.the-variants.{Watch}
 use Rattle.lines.specs.declared.StartLine.the-variants.{Start}
 use Rattle.lines.specs.declared.DidLine.the-variants.{Did}
 use Rattle.lines.specs.declared.RuleLine.the-variants.{Rule}
-use Rattle.lines.specs.Lines.{ruleText, ruleLine, countLimit, labelLimit, processLimit, roomLimit, watchLine, startLine, didLine}
+use Rattle.lines.specs.Lines.{ruleText, ruleLine, kLimit, countLimit, labelLimit, processLimit, roomLimit, watchLine, startLine, didLine}
 use Rattle.line_laws.specs.Grammar.{Numeral, Numerals, spaced, between}
 
 -- Numbers that a list may have: none is above `most`, the first is not below `least`, and in an ascending list each
@@ -35,7 +35,7 @@ pub record WatchSays (s : List ℕ) (k room : ℕ) : Type 0 where
   pub numerals : Numeral k-digits × Numeral room-digits
   pub text : s ≡ ascii "(watch " ++ (k-digits ++ 32 ∷ (room-digits ++ 41 ∷ []))
   pub values : (value k-digits ≡ k) × (value room-digits ≡ room)
-  pub limits : (k ≤ countLimit) × ((1 ≤ room) × (room ≤ roomLimit))
+  pub limits : (k ≤ kLimit) × ((1 ≤ room) × (room ≤ roomLimit))
   pub short : length s ≤ lineLimit
 
 -- (start l ..), with a label byte for each of k processes.
@@ -75,9 +75,9 @@ Named p ps = (j : ℕ) × ((j < length ps) × (at ps j ≡ p))
 
 -- The words offer the event of the processes ps with the counts cs and the labels ls: what the call reads from the
 -- words are these numbers.
-pub record Offers (mask low high labels : ℕ) (ps cs ls : List ℕ) : Type 0 where
+pub record Offers (mask c01 c23 c45 c67 labels : ℕ) (ps cs ls : List ℕ) : Type 0 where
   pub take-part : (p : ℕ) → (bit mask p ≡ true) ↔ Named p ps
-  pub counts : unpackCounts low high ≡ eight cs
+  pub counts : unpackCounts 4 (c01 ∷ c23 ∷ c45 ∷ c67 ∷ []) ≡ eight cs
   pub labelled : (j : ℕ) → j < length ps → at (unpackLabels labels) (at ps j) ≡ at ls j
   pub unlabelled : (p : ℕ) → (Named p ps → ⊥) → at (unpackLabels labels) p ≡ 0
 
@@ -108,13 +108,14 @@ StartSaidIsRead =
 -- The event that is offered is the one that the line says; and a line that says an event is read, and offers it.
 abbrev pub EventIsAsSaid : Type 0
 EventIsAsSaid =
-    (s : List ℕ) (k mask low high labels : ℕ) → didLine s k ≡ Did mask low high labels
-    → (ps cs ls : List ℕ) × (DidSays s k ps cs ls × Offers mask low high labels ps cs ls)
+    (s : List ℕ) (k mask c01 c23 c45 c67 labels : ℕ) → didLine s k ≡ Did mask c01 c23 c45 c67 labels
+    → (ps cs ls : List ℕ) × (DidSays s k ps cs ls × Offers mask c01 c23 c45 c67 labels ps cs ls)
 
 abbrev pub EventSaidIsRead : Type 0
 EventSaidIsRead =
     (s : List ℕ) (k : ℕ) (ps cs ls : List ℕ) → DidSays s k ps cs ls
-    → (mask low high labels : ℕ) × ((didLine s k ≡ Did mask low high labels) × Offers mask low high labels ps cs ls)
+    → (mask c01 c23 c45 c67 labels : ℕ)
+    × ((didLine s k ≡ Did mask c01 c23 c45 c67 labels) × Offers mask c01 c23 c45 c67 labels ps cs ls)
 
 -- A rule's line is accepted exactly if it says a form; the rule is handed over from behind the head to before the
 -- last byte, and these bytes are the form's text.

@@ -1,5 +1,5 @@
 -- The program's lines (01, Examples: the program): what each gives, or its fault by 1 or 10.
-use Prim.Native.Nat.{ℕ, _-_, _≤_}
+use Prim.Native.Nat.{ℕ, _+_, _-_, _*_, _≤_}
 use mathlib.Core.Bool.{true, false, cond}
 use mathlib.Core.List.{List}
 use lib.Dec.{eqb}
@@ -21,10 +21,13 @@ use Rattle.line_pieces.specs.Reading.{valueOf, thenByte, thenBytes, headRead, t
 use Rattle.line_pieces.specs.NumberList.{thenList, thenSpacedList, thenClose, eight}
 use Rattle.lines.specs.Words.{word, placed}
 
--- The limits on numbers (01, Turned back, from the input: 10): the processes and counts, labels, process numbers, and
--- frontiers in a window.
+-- The limits on numbers (01, Turned back, from the input: 10): k, the number of processes; clock counts, which have 32
+-- bits (02 [6]); labels; a process's own number; and frontiers in a window.
+abbrev pub kLimit : ℕ
+kLimit = 65535
+
 abbrev pub countLimit : ℕ
-countLimit = 65535
+countLimit = 4294967295
 
 abbrev pub labelLimit : ℕ
 labelLimit = 255
@@ -42,7 +45,7 @@ watchOf k (Refused n i) = WatchRefused n i
 
 unfoldable pub watchLine : List ℕ → WatchLine
 watchLine s =
-    let k = thenNumber s 0 countLimit (headRead s (ascii "(watch ")) in
+    let k = thenNumber s 0 kLimit (headRead s (ascii "(watch ")) in
     let room = thenNumber s 1 roomLimit (thenByte s 32 k) in
     watchOf (valueOf k) (thenLast s room)
 
@@ -56,13 +59,16 @@ startLine s k =
     let labels = thenSpacedList s labelLimit (headRead s (ascii "(start")) in
     startOf (eight (labels .numbers)) (limited s (thenEnd s (thenClose s k k (labels .read))))
 
+-- Word i of the four that hold a clock: two counts, the lower process in the lower half.
+abbrev pub clockWord : List ℕ → ℕ → ℕ
+clockWord counts i = word (countLimit + 1) (take 2 (drop (2 * i) (eight counts)))
+
 -- (did (p ..) (c ..) (l ..)): some processes, ascending; a count for each of k processes; a label byte for each of
 -- those that take part.
 unfoldable pub didOf : ℕ → List ℕ → List ℕ → List ℕ → Read → DidLine
 didOf n processes counts labels (At i v) =
     Did (word 2 (placed n (at processes) (λ j. 1)))
-    (word 65536 (take 4 (eight counts)))
-    (word 65536 (drop 4 (eight counts)))
+    (clockWord counts 0) (clockWord counts 1) (clockWord counts 2) (clockWord counts 3)
     (word 256 (placed n (at processes) (at labels)))
 didOf n processes counts labels (Refused m i) = DidRefused m i
 

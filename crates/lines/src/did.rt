@@ -1,6 +1,7 @@
 // An event's line.
 
 use crate::DidLine;
+use crate::limits::COUNT_BASE;
 use crate::limits::COUNT_LIMIT;
 use crate::limits::LABEL_LIMIT;
 use crate::limits::PROCESS_LIMIT;
@@ -25,8 +26,10 @@ fn did_of(n: u64, processes: [u64; 8], counts: [u64; 8], labels: [u64; 8], whole
     match whole {
         Read::At { place: _, value: _ } => DidLine::Did {
             mask: word_of(2, place(n, processes, [1u64; 8]), 0, 8),
-            low: word_of(65536, counts, 0, 4),
-            high: word_of(65536, counts, 4, 8),
+            c01: word_of(COUNT_BASE, counts, 0, 2),
+            c23: word_of(COUNT_BASE, counts, 2, 4),
+            c45: word_of(COUNT_BASE, counts, 4, 6),
+            c67: word_of(COUNT_BASE, counts, 6, 8),
             labels: word_of(256, place(n, processes, labels), 0, 8),
         },
         Read::Refused { number, place } => DidLine::Refused { number, place },

@@ -32,13 +32,15 @@ pub enum StartLine {
     Refused { number: u8, place: usize },
 }
 
-// An event's line: a bit for each process that takes part, a clock in two words of four counts, and labels as the
-// bytes of a word.
+// An event's line: a bit for each process that takes part, a clock in four words of two counts each, the lower process
+// in the lower half, and labels as the bytes of a word.
 pub enum DidLine {
     Did {
         mask: u64,
-        low: u64,
-        high: u64,
+        c01: u64,
+        c23: u64,
+        c45: u64,
+        c67: u64,
         labels: u64,
     },
     Refused {

@@ -1,7 +1,7 @@
 // The line that opens: processes and room.
 
 use crate::WatchLine;
-use crate::limits::COUNT_LIMIT;
+use crate::limits::K_LIMIT;
 use crate::limits::ROOM_LIMIT;
 use line_pieces::Read;
 use line_pieces::reading::head;
@@ -26,7 +26,7 @@ fn watch_of(k: u64, room: Read) -> WatchLine
 pub fn read_watch(line: &[u8]) -> WatchLine
     ensures { λ x. ⌜ x ≡ watchLine (now (line .entry)) ⌝ }
 {
-    let k = then_number(line, 0, COUNT_LIMIT, head(line, b"(watch "));
+    let k = then_number(line, 0, K_LIMIT, head(line, b"(watch "));
     let room = then_number(line, 1, ROOM_LIMIT, then_byte(line, b' ', k));
     watch_of(value_of(k), then_last(line, room))
 }

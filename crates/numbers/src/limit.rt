@@ -9,7 +9,3 @@ pub const FRONTIERS: usize = 1024;
 pub const LINES: u32 = 64;
 // Pending events of a record.
 pub const PENDING: usize = 32;
-// A record with counts of two bytes.
-pub const RECORD_BYTES: usize = 1368;
-// The longest window with counts of two bytes.
-pub const WINDOW_BYTES: usize = 40960;

@@ -2,7 +2,7 @@
 use Prim.Native.Nat.{ℕ}
 use mathlib.Core.Path.{_≡_, refl, sym, ap, _∙_}
 use mathlib.Core.Bool.{true, false}
-use mathlib.Core.List.{List}
+use mathlib.Core.List.{List, [], _∷_}
 use lib.ListN.{take}
 use Rattle.lines.specs.declared.WatchLine.{WatchLine}
 use Rattle.lines.specs.declared.WatchLine.the-variants.{Watch, Refused as WatchRefused}
@@ -15,9 +15,10 @@ use Rattle.lines.specs.declared.DidLine.the-variants.{Did, Refused as DidRefuse
 use Rattle.lines.specs.Lines.{watchLine, ruleText, ruleLine, startLine, didLine}
 use Rattle.refusals.specs.Refusals.{badProcesses}
 use Rattle.answers.specs.Answer.{replyWord}
+use Rattle.reply_text.specs.Form.{programWidth}
 use Rattle.call_words.specs.Words.{unpackCounts, unpackLabels}
-use Rattle.call_open.specs.Open.{openCall}
-use Rattle.call_offer.specs.Offer.{offerCall}
+use Rattle.call_open.specs.Open.{Opened, openCall}
+use Rattle.call_offer.specs.Offer.{Offered, offerCall}
 use Rattle.replies.specs.declared.Reply.{Reply}
 use Rattle.program.specs.declared.Session.{Session}
 use Rattle.replies.specs.Replies.{partsOf}
@@ -80,19 +81,23 @@ module _ (t : Standing) (s : Session) (rule bytes window : List ℕ) (h : Stands
     same-start : read ≡ startLine line (t .k)
     same-start = e ∙ ap (startLine line) (h .processes)
 
+    -- The call that is made.
+    abbrev pub opening : ℕ → Opened
+    opening labels = openCall programWidth (take (s .text) rule) (s .k) (unpackLabels labels) bytes window
+
     pub start-refused : (n i : ℕ) → read ≡ StartRefused n i → startRead t (startLine line (t .k)) ≡ refuse t n i
     unfolding startRead
     start-refused n i told = rw (sym same-start ∙ told)
 
     pub start-stands : (labels word : ℕ) (r : Session) (after opened : List ℕ) → read ≡ Start labels → Replied s word r
-        → word ≡ replyWord (openCall 2 (take (s .text) rule) (s .k) (unpackLabels labels) bytes window .answer)
-        → after ≡ openCall 2 (take (s .text) rule) (s .k) (unpackLabels labels) bytes window .bytes
-        → opened ≡ openCall 2 (take (s .text) rule) (s .k) (unpackLabels labels) bytes window .window
+        → word ≡ replyWord (opening labels .answer)
+        → after ≡ opening labels .bytes
+        → opened ≡ opening labels .window
         → Stands (startRead t (startLine line (t .k))) r rule after opened
     unfolding startRead
     start-stands labels word r after opened told q u b w = rw (sym same-start ∙ told, ← h .text, ← h .processes, ← h .bytes, ← h .kept) (record {
-      replied = q .reply (openCall 2 (take (s .text) rule) (s .k) (unpackLabels labels) bytes window .answer) (open-fits 2 _ (s .k) _ bytes window) u .0;
-      stage = q .reply (openCall 2 (take (s .text) rule) (s .k) (unpackLabels labels) bytes window .answer) (open-fits 2 _ (s .k) _ bytes window) u .1 ∙ rw (h .stage);
+      replied = q .reply (opening labels .answer) (open-fits programWidth _ (s .k) _ bytes window) u .0;
+      stage = q .reply (opening labels .answer) (open-fits programWidth _ (s .k) _ bytes window) u .1 ∙ rw (h .stage);
       processes = q .processes;
       frontiers = q .frontiers ∙ h .frontiers;
       text = ap (λ (n : ℕ). take n rule) (q .text);
@@ -105,18 +110,24 @@ module _ (t : Standing) (s : Session) (rule bytes window : List ℕ) (h : Stands
     same-did : read ≡ didLine line (t .k)
     same-did = e ∙ ap (didLine line) (h .processes)
 
+    -- The call that is made.
+    abbrev pub offering : (mask c01 c23 c45 c67 labels : ℕ) → Offered
+    offering mask c01 c23 c45 c67 labels =
+        offerCall programWidth mask (unpackCounts programWidth (c01 ∷ c23 ∷ c45 ∷ c67 ∷ [])) (unpackLabels labels) bytes
+
     pub did-refused : (n i : ℕ) → read ≡ DidRefused n i → didRead t (didLine line (t .k)) ≡ refuse t n i
     unfolding didRead
     did-refused n i told = rw (sym same-did ∙ told)
 
-    pub did-stands : (mask low high labels word : ℕ) (r : Session) (after : List ℕ) → read ≡ Did mask low high labels → Replied s word r
-        → word ≡ replyWord (offerCall 2 mask (unpackCounts low high) (unpackLabels labels) bytes .answer)
-        → after ≡ offerCall 2 mask (unpackCounts low high) (unpackLabels labels) bytes .bytes
+    pub did-stands : (mask c01 c23 c45 c67 labels word : ℕ) (r : Session) (after : List ℕ)
+        → read ≡ Did mask c01 c23 c45 c67 labels → Replied s word r
+        → word ≡ replyWord (offering mask c01 c23 c45 c67 labels .answer)
+        → after ≡ offering mask c01 c23 c45 c67 labels .bytes
         → Stands (didRead t (didLine line (t .k))) r rule after window
     unfolding didRead
-    did-stands mask low high labels word r after told q u b = rw (sym same-did ∙ told, ← h .bytes) (record {
-      replied = q .reply (offerCall 2 mask (unpackCounts low high) (unpackLabels labels) bytes .answer) (offer-fits 2 mask _ _ bytes) u .0;
-      stage = q .reply (offerCall 2 mask (unpackCounts low high) (unpackLabels labels) bytes .answer) (offer-fits 2 mask _ _ bytes) u .1 ∙ rw (h .stage);
+    did-stands mask c01 c23 c45 c67 labels word r after told q u b = rw (sym same-did ∙ told, ← h .bytes) (record {
+      replied = q .reply (offering mask c01 c23 c45 c67 labels .answer) (offer-fits programWidth mask _ _ bytes) u .0;
+      stage = q .reply (offering mask c01 c23 c45 c67 labels .answer) (offer-fits programWidth mask _ _ bytes) u .1 ∙ rw (h .stage);
       processes = q .processes ∙ h .processes;
       frontiers = q .frontiers ∙ h .frontiers;
       text = ap (λ (n : ℕ). take n rule) (q .text) ∙ h .text;

@@ -11,6 +11,7 @@ use Rattle.answers.specs.Answer.{Answer, replyWord}
 use Rattle.call_take.specs.Take.{takeCall}
 use Rattle.replies.specs.declared.Reply.{Reply}
 use Rattle.program.specs.declared.Session.{Session}
+use Rattle.reply_text.specs.Form.{programWidth}
 use Rattle.reply_text.specs.Texts.{answerText}
 use Rattle.replies.specs.Replies.{partsOf}
 use Rattle.replies.specs.Following.{accepted, takesAgain, eventStage, overStage}
@@ -46,12 +47,12 @@ EachLineIsPrinted =
     → FollowPromised accepted (eqb (t .stage) eventStage) (r .reply) again
     → (text ≡ answerText (lineRead t line .k) (lineRead t line .answer)) × (again ≡ accepted (lineRead t line .answer))
 
--- A take, of whatever bytes: its reply word and record are as `watch_take` leaves them.
+-- A take, of whatever bytes: its reply word and record are as `watch32_take` leaves them.
 abbrev pub EachTakeIsPrinted : Type 0
 EachTakeIsPrinted =
     (k word : ℕ) (s window scratch text : List ℕ) (reply : Reply) (again : Bool)
-    → Bytes s → word ≡ replyWord (takeCall 2 s window scratch .answer) → PartsPromised word reply
-    → TextPromised k false (takeCall 2 s window scratch .bytes) reply text
+    → Bytes s → word ≡ replyWord (takeCall programWidth s window scratch .answer) → PartsPromised word reply
+    → TextPromised k false (takeCall programWidth s window scratch .bytes) reply text
     → FollowPromised takesAgain false reply again
-    → (text ≡ answerText k (takeCall 2 s window scratch .answer))
-    × (again ≡ takesAgain (takeCall 2 s window scratch .answer))
+    → (text ≡ answerText k (takeCall programWidth s window scratch .answer))
+    × (again ≡ takesAgain (takeCall programWidth s window scratch .answer))

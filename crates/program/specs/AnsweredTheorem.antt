@@ -3,6 +3,7 @@ use mathlib.Core.Path.{refl}
 use lib.Dec.{eqb}
 use Rattle.records.specs.Record.{takenCounts}
 use Rattle.call_take.specs.Take.{takeCall}
+use Rattle.reply_text.specs.Form.{programWidth}
 use Rattle.replies.specs.Replies.{Possible}
 use Rattle.replies.specs.Following.{eventStage}
 use Rattle.program.specs.Stages.{lineRead}
@@ -18,12 +19,13 @@ session-known a s rule bytes window e =
 pub line-printed : EachLineIsPrinted
 line-printed t line r rule bytes window text again l h laid follow =
     let a = lineRead t line .answer in
-    let told : Possible (eqb (t .stage) eventStage) (takenCounts 2 bytes) a = rw (h .bytes) (line-possible t line l) in
-    (rw (← h .processes) (laid a told (h .replied)), follow (takenCounts 2 bytes) a told (h .replied))
+    let told : Possible (eqb (t .stage) eventStage) (takenCounts programWidth bytes) a =
+    rw (h .bytes) (line-possible t line l) in
+    (rw (← h .processes) (laid a told (h .replied)), follow (takenCounts programWidth bytes) a told (h .replied))
 
 pub take-printed : EachTakeIsPrinted
 take-printed k word s window scratch text reply again b e parts laid follow =
-    let o = takeCall 2 s window scratch in
-    let told = take-told 2 s window scratch b in
+    let o = takeCall programWidth s window scratch in
+    let told = take-told programWidth s window scratch b in
     let known = parts (o .answer) (told .0) e in
-    (laid (o .answer) (told .1) known, follow (takenCounts 2 (o .bytes)) (o .answer) (told .1) known)
+    (laid (o .answer) (told .1) known, follow (takenCounts programWidth (o .bytes)) (o .answer) (told .1) known)

@@ -37,6 +37,7 @@ use Rattle.call_open.specs.Open.{Opened, openTable, openRead, openCall}
 use Rattle.answers.specs.Turns.{by-test}
 use Rattle.call_offer.specs.Offer.{offerCall}
 use Rattle.call_offer.specs.OfferCases.{OfferCase, offer-case, turned, repeats, accepted}
+use Rattle.reply_text.specs.Form.{programWidth}
 use Rattle.replies.specs.Replies.{Fits, Possible}
 
 -- A rule's fault has a number of 1 to 4.
@@ -69,22 +70,23 @@ open-fits w text k labels s window =
         (h .0, omega (arith, h .1), omega (arith, fault-place text k n i e))
 
 -- What open answers is possible with the record that it leaves.
-abbrev OpenTold : Opened → Type 0
-OpenTold o = Possible false (takenCounts 2 (o .bytes)) (o .answer)
+abbrev pub OpenTold : Opened → Type 0
+OpenTold o = Possible false (takenCounts programWidth (o .bytes)) (o .answer)
 
 -- A watch is opened with one frontier and the counts that stand in its record, or refused.
 pub open-possible : (text : List ℕ) (k : ℕ) (labels s window : List ℕ)
-    → let r = openCall 2 text k labels s window in Possible false (takenCounts 2 (r .bytes)) (r .answer)
+    → OpenTold (openCall programWidth text k labels s window)
 unfolding openCall openRead openTable stateOf
 open-possible text k labels s window =
     let by = chosen OpenTold in
     let turned : ℕ → Opened = λ n. record { answer = turnedBack n 0; bytes = s; window = window } in
-    by (badRecordLength 2 (length s) || badWindowLength 2 (length window)) (turned 6) _ (omega arith) λ _.
+    by (badRecordLength programWidth (length s) || badWindowLength programWidth (length window)) (turned 6) _
+    (omega arith) λ _.
     by (badProcesses k) (turned 5) _ (omega arith) λ _.
     by (badStart k labels) (turned 9) _ (omega arith) λ _.
     go (readRule text k) refl
   where
-    go : (r : Reading) → readRule text k ≡ r → OpenTold (openRead 2 k labels s window r)
+    go : (r : Reading) → readRule text k ≡ r → OpenTold (openRead programWidth k labels s window r)
     go (formed i f) e = (refl, sym (first-taken k (linesAt 0 f)), omega arith)
     go (refused n i) e = rule-number n text k i (reader-first-fault text k n i .0 e .here) .0
 

@@ -23,7 +23,8 @@ use Rattle.line_laws.specs.faults.RuleLineFirstFault.{rule-line-first-fault}
 use Rattle.line_laws.specs.faults.NamedProcesses.{names-some}
 use Rattle.refusals.specs.Refusals.{badProcesses}
 use Rattle.records.specs.Record.{takenCounts}
-use Rattle.call_words.specs.Words.{unpackCounts, unpackLabels}
+use Rattle.reply_text.specs.Form.{programWidth}
+use Rattle.call_words.specs.Words.{unpackLabels}
 use Rattle.replies.specs.Replies.{Possible}
 use Rattle.replies.specs.Following.{watchStage, ruleStage, startStage, eventStage, overStage}
 use Rattle.program.specs.Stages.{Standing, refuse, watchRead, ruleRead, startRead, didRead, lineRead}
@@ -48,7 +49,7 @@ rule-fault-number (suc (suc (suc (suc turn)))) n s k i h = absurd h
 
 -- A line's answer is possible with the record that it leaves.
 abbrev Told : Bool → Standing → Type 0
-Told offered t = Possible offered (takenCounts 2 (t .bytes)) (t .answer)
+Told offered t = Possible offered (takenCounts programWidth (t .bytes)) (t .answer)
 
 watch-possible : (t : Standing) (s : List ℕ) → Told false (watchRead t (watchLine s))
 unfolding watchRead refuse
@@ -85,14 +86,14 @@ unfolding didRead refuse
 did-possible t s = go (didLine s (t .k)) refl
   where
     go : (r : DidLine) → didLine s (t .k) ≡ r → Told true (didRead t r)
-    go (Did mask low high labels) e = offer-possible 2 mask (unpackCounts low high) (unpackLabels labels) (t .bytes) _
+    go (Did mask c01 c23 c45 c67 labels) e = offer-possible programWidth mask _ (unpackLabels labels) (t .bytes) _
     go (DidRefused n i) e =
         let m = names-some s in
         fault-number n (didPieces (t .k) (m .0)) s i (did-first-fault s (t .k) (m .0) n i (m .1) .0 e .here)
 
 -- ---- Theorem
 pub line-possible : (t : Standing) (line : List ℕ) → t .stage < overStage
-    → Possible (eqb (t .stage) eventStage) (takenCounts 2 (lineRead t line .bytes)) (lineRead t line .answer)
+    → Possible (eqb (t .stage) eventStage) (takenCounts programWidth (lineRead t line .bytes)) (lineRead t line .answer)
 unfolding lineRead
 line-possible t line l = go (t .stage) l
   where

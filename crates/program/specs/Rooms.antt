@@ -12,7 +12,7 @@ use Rattle.lines.specs.declared.WatchLine.{WatchLine}
 use Rattle.lines.specs.declared.WatchLine.the-variants.{Watch, Refused as WatchRefused}
 use Rattle.line_pieces.specs.Number.{digits, value, numberOf, numberAt}
 use Rattle.line_pieces.specs.Reading.{lineLimit, thenByte, thenNumber, thenEnd, limited, headRead, valueOf, thenLast}
-use Rattle.lines.specs.Lines.{watchOf, watchLine, countLimit, roomLimit}
+use Rattle.lines.specs.Lines.{watchOf, watchLine, kLimit, roomLimit}
 
 -- A reading's number is at most so much.
 abbrev AtMost : ℕ → Read → Type 0
@@ -64,6 +64,6 @@ made k (Refused n i) h = tt
 pub room-within : (s : List ℕ) → RoomWithin (watchLine s)
 unfolding watchLine thenLast
 room-within s =
-    let k = thenNumber s 0 countLimit (headRead s (ascii "(watch ")) in
+    let k = thenNumber s 0 kLimit (headRead s (ascii "(watch ")) in
     let room = thenNumber s 1 roomLimit (thenByte s 32 k) in
     made (valueOf k) _ (limit-within s 1024 _ (end-within s 1024 _ (byte-within s 41 1024 room (number-within s 1 roomLimit (thenByte s 32 k)))))

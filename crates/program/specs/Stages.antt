@@ -3,7 +3,7 @@
 use Prim.Native.Nat.{ℕ, _≤_}
 use mathlib.Core.Path.{_≡_}
 use mathlib.Core.Bool.{true, false, cond}
-use mathlib.Core.List.{List}
+use mathlib.Core.List.{List, [], _∷_}
 use lib.Dec.{eqb}
 use lib.ListN.{take}
 use Rattle.lines.specs.declared.WatchLine.{WatchLine}
@@ -17,6 +17,7 @@ use Rattle.lines.specs.declared.DidLine.the-variants.{Did, Refused as DidRefuse
 use Rattle.lines.specs.Lines.{watchLine, ruleText, ruleLine, startLine, didLine}
 use Rattle.refusals.specs.Refusals.{badProcesses}
 use Rattle.answers.specs.Answer.{Answer, turnedBack, nothingReady, replyWord}
+use Rattle.reply_text.specs.Form.{programWidth}
 use Rattle.call_words.specs.Words.{unpackCounts, unpackLabels}
 use Rattle.call_open.specs.Open.{openCall}
 use Rattle.call_offer.specs.Offer.{offerCall}
@@ -63,14 +64,15 @@ ruleRead s line (RuleRefused n place) = refuse s n place
 -- The start labels open the watch.
 unfoldable pub startRead : Standing → StartLine → Standing
 startRead s (Start labels) =
-    let r = openCall 2 (s .rule) (s .k) (unpackLabels labels) (s .bytes) (s .window) in
+    let r = openCall programWidth (s .rule) (s .k) (unpackLabels labels) (s .bytes) (s .window) in
     record { answer = r .answer; stage = nextStage (s .stage) (refused (r .answer)); k = s .k; room = s .room; rule = s .rule; bytes = r .bytes; window = r .window }
 startRead s (StartRefused n place) = refuse s n place
 
 -- An event is offered.
 unfoldable pub didRead : Standing → DidLine → Standing
-didRead s (Did mask low high labels) =
-    let r = offerCall 2 mask (unpackCounts low high) (unpackLabels labels) (s .bytes) in
+didRead s (Did mask c01 c23 c45 c67 labels) =
+    let clock = unpackCounts programWidth (c01 ∷ c23 ∷ c45 ∷ c67 ∷ []) in
+    let r = offerCall programWidth mask clock (unpackLabels labels) (s .bytes) in
     record { answer = r .answer; stage = nextStage (s .stage) (refused (r .answer)); k = s .k; room = s .room; rule = s .rule; bytes = r .bytes; window = s .window }
 didRead s (DidRefused n place) = refuse s n place
 

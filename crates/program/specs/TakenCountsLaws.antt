@@ -21,6 +21,7 @@ use Rattle.frontiers.specs.Bytes.{countBytes}
 use Rattle.frontiers.specs.BytesLaws.{count-within, length-countBytes, number-countBytes}
 use Rattle.records.specs.Record.{takenPlace, clocksPlace, recordLength, pendingCount, pendingPlace, eventLength, takenCounts, pendingAt, readyIn, removed, clocksSet, counted}
 use Rattle.records.specs.RecordLaws.{taken-at}
+use Rattle.reply_text.specs.Form.{programWidth}
 use Rattle.pactl.specs.declared.Line.{Line}
 use Rattle.call_open.specs.Open.{firstRecord}
 
@@ -126,7 +127,8 @@ reached-fit w s i b r p l = rw (← apply-ready 8 e (at (takenCounts w s)) r p l
 -- ---- Theorems
 
 -- A new watch has taken nothing.
-pub first-taken : (k : ℕ) (table : List Line) → takenCounts 2 (firstRecord 2 k table) ≡ replicate 8 0
+pub first-taken : (k : ℕ) (table : List Line)
+    → takenCounts programWidth (firstRecord programWidth k table) ≡ replicate 8 0
 unfolding takenCounts listOf number valueOf firstRecord bytesOf
 first-taken k table = refl
 

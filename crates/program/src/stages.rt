@@ -11,8 +11,8 @@ use replies::Reply;
 use replies::decode;
 use replies::next_stage;
 use reply_text::put;
-use watch::watch_offer;
-use watch::watch_open;
+use watch::wide::watch32_offer;
+use watch::wide::watch32_open;
 ghost use Prim.Native.Nat.{ℕ, _≤_};
 ghost use mathlib.Core.List.{List};
 ghost use lib.ListN.{length};
@@ -127,7 +127,7 @@ fn start_line(
         StartLine::Refused { number, place } => refuse(session, number, place),
         StartLine::Start { labels } => replied(
             session,
-            watch_open(&rule[..text], k, labels, record, window),
+            watch32_open(&rule[..text], k, labels, record, window),
         ),
     }
 }
@@ -142,10 +142,15 @@ fn did_line(session: Session, line: &[u8], record: &mut [u8]) -> Session
         DidLine::Refused { number, place } => refuse(session, number, place),
         DidLine::Did {
             mask,
-            low,
-            high,
+            c01,
+            c23,
+            c45,
+            c67,
             labels,
-        } => replied(session, watch_offer(mask, low, high, labels, record)),
+        } => replied(
+            session,
+            watch32_offer(mask, c01, c23, c45, c67, labels, record),
+        ),
     }
 }
 

@@ -7,9 +7,10 @@ use Rattle.records.specs.Record.{takenCounts}
 use Rattle.answers.specs.Answer.{Answer}
 use Rattle.replies.specs.declared.Reply.{Reply}
 use Rattle.replies.specs.Replies.{partsOf, Possible}
+use Rattle.reply_text.specs.Form.{programWidth}
 use Rattle.reply_text.specs.Texts.{answerText}
 
 -- answer_text: the text, with k processes, of a reply that left this record.
 abbrev pub TextPromised : ℕ → Bool → List ℕ → Reply → List ℕ → Type 0
 TextPromised k offered bytes reply text =
-    (a : Answer) → Possible offered (takenCounts 2 bytes) a → reply ≡ partsOf a → text ≡ answerText k a
+    (a : Answer) → Possible offered (takenCounts programWidth bytes) a → reply ≡ partsOf a → text ≡ answerText k a

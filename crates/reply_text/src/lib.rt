@@ -1,11 +1,17 @@
 // The answers' text, laid into a lent buffer piece by piece: each piece goes behind the text so far.
 
+// The stored form of the program's watches.
+pub mod form;
+
+use crate::form::WIDTH;
 use replies::Reply;
 ghost use Prim.Native.Nat.{_+_, _≤_};
 ghost use mathlib.Core.Path.{_≡_};
 ghost use mathlib.Core.List.{_++_};
 ghost use lib.ListN.{length, take};
 ghost use Rattle.rules.specs.Text.{ascii};
+ghost use Rattle.records.specs.Record.{recordLength};
+ghost use Rattle.reply_text.specs.Form.{programWidth};
 ghost use Rattle.reply_text.specs.Texts.{numeralOf, numeral, countsText};
 ghost use Rattle.reply_text.specs.Promises.{TextPromised};
 
@@ -71,7 +77,7 @@ fn put_counts(out: &mut [u8], counts: [u32; 8], k: usize) -> usize
 // an offer's answer from those to other lines and of takes.
 pub fn answer_text(record: &[u8], k: u64, reply: Reply, offered: bool, out: &mut [u8]) -> usize
     requires { ⌜ k ≤ 8 ⌝ }
-    requires { ⌜ length (now «record») ≡ 1368 ⌝ }
+    requires { ⌜ length (now «record») ≡ recordLength programWidth ⌝ }
     requires { ⌜ 256 ≤ length (now out) ⌝ }
     ensures { λ r. ⌜ r ≤ length (now (out .exit)) ⌝ }
     ensures { λ r. ⌜ TextPromised k offered (now («record» .entry)) reply (take r (now (out .exit))) ⌝ }
@@ -91,7 +97,7 @@ pub fn answer_text(record: &[u8], k: u64, reply: Reply, offered: bool, out: &mut
         let first = piece(out, 0, b"(held ", reply.value);
         return put(out, first, b")\n");
     }
-    let counts = records::fields::taken_counts(record, 2);
+    let counts = records::fields::taken_counts(record, WIDTH);
     let first = put_counts(out, counts, k as usize);
     if reply.holds {
         let second = piece(out, first, b") yes ", reply.value);

@@ -7,10 +7,13 @@ use replies::decode;
 use replies::takes;
 use replies::takes_again;
 use reply_text::answer_text;
-use watch::watch_take;
+use reply_text::form::FRONTIER_BYTES;
+use watch::wide::watch32_take;
 ghost use Prim.Native.Nat.{_≤_, _<_};
 ghost use mathlib.Core.Path.{_≡_};
 ghost use lib.ListN.{length};
+ghost use Rattle.records.specs.Record.{recordLength};
+ghost use Rattle.reply_text.specs.Form.{programWidth, programWindow};
 ghost use Rattle.program.specs.Stages.{Within};
 
 const OUT: i32 = 1;
@@ -24,7 +27,7 @@ pub(crate) struct Turn {
 // Prints an answer's text, whole, so that it is out before the next line is waited for; whether it was written.
 fn print(record: &[u8], k: u64, reply: Reply, offered: bool) -> bool
     requires { ⌜ k ≤ 8 ⌝ }
-    requires { ⌜ length (now «record») ≡ 1368 ⌝ }
+    requires { ⌜ length (now «record») ≡ recordLength programWidth ⌝ }
 {
     let mut out = [0u8; 256];
     let end = answer_text(record, k, reply, offered, &mut out);
@@ -43,11 +46,11 @@ pub(crate) fn turns(left: u64, again: bool) -> u64
 // Takes and prints, as long as another take is to follow.
 fn take_all(first: bool, k: u64, record: &mut [u8], window: &mut [u8], scratch: &mut [u8])
     requires { ⌜ k ≤ 8 ⌝ }
-    requires { ⌜ length (now «record») ≡ 1368 ⌝ }
+    requires { ⌜ length (now «record») ≡ recordLength programWidth ⌝ }
 {
     let mut left = turns(u64::MAX, first);
     while left > 0 {
-        let reply = decode(watch_take(record, window, scratch));
+        let reply = decode(watch32_take(record, window, scratch));
         let written = print(record, k, reply, false);
         left = turns(left, written & takes_again(reply));
     }
@@ -62,11 +65,12 @@ pub(crate) fn respond(
     window: &mut [u8],
     scratch: &mut [u8],
 ) -> Turn
-    requires { ⌜ Within 40960 session ⌝ }
-    requires { ⌜ (length (now line) ≤ 40960) × (length (now «record») ≡ 1368) × (length (now scratch) ≡ 40960) ⌝ }
-    ensures { λ r. ⌜ Within 40960 (r .session) ⌝ }
+    requires { ⌜ Within programWindow session ⌝ }
+    requires { ⌜ (length (now line) ≤ programWindow) × (length (now «record») ≡ recordLength programWidth)
+        × (length (now scratch) ≡ programWindow) ⌝ }
+    ensures { λ r. ⌜ Within programWindow (r .session) ⌝ }
 {
-    let bytes = 40 * session.room;
+    let bytes = FRONTIER_BYTES * session.room;
     let offered = session.stage == 3;
     let next = answer(session, line, scratch, record, window);
     let reply = next.reply;

@@ -13,14 +13,20 @@ use input::Input;
 use input::next_line;
 use program::Session;
 use replies::Reply;
+use reply_text::form::FRONTIER_BYTES;
+use reply_text::form::RECORD_BYTES;
+use reply_text::form::WINDOW_BYTES;
+
+// What is kept of a line. Its first 4,107 bytes decide what it is answered with (line_laws LinePrefixDecides).
+const LINE_BYTES: usize = 4112;
 
 // Answers line after line, until the input or the program is over.
 fn main() {
     let mut chunk = [0u8; 4096];
-    let mut line = [0u8; 4104];
-    let mut record = [0u8; 1368];
-    let mut window = [0u8; 40960];
-    let mut scratch = [0u8; 40960];
+    let mut line = [0u8; LINE_BYTES];
+    let mut record = [0u8; RECORD_BYTES];
+    let mut window = [0u8; WINDOW_BYTES];
+    let mut scratch = [0u8; WINDOW_BYTES];
     let mut session = Session {
         stage: 0,
         k: 0,
@@ -46,7 +52,7 @@ fn main() {
         }
         input = next.rest;
         let n = next.length;
-        let bytes = 40 * session.room;
+        let bytes = FRONTIER_BYTES * session.room;
         let turn = respond(
             session,
             &line[..n],

@@ -7,7 +7,7 @@ use mathlib.Core.List.{List}
 use Rattle.rules.specs.Text.{ascii}
 use Rattle.line_pieces.specs.Reading.{valueOf, thenBytes, headRead, thenNumber, limited, thenLast}
 use Rattle.line_pieces.specs.NumberList.{thenList, thenSpacedList, thenClose, eight}
-use Rattle.lines.specs.Lines.{countLimit, labelLimit, processLimit, watchOf, watchLine, startOf, startLine, didOf, didLine}
+use Rattle.lines.specs.Lines.{kLimit, labelLimit, processLimit, watchOf, watchLine, startOf, startLine, didOf, didLine}
 use Rattle.line_laws.specs.Grammar.{watchPieces, startPieces, didPieces}
 use Rattle.line_laws.specs.pieces.ReadPieces.{readPiece, readPieces}
 use Rattle.line_laws.specs.pieces.PieceTextRead.{AllEnded}
@@ -27,7 +27,7 @@ unfolding didPieces AllEnded
 did-ended k n = search (arith)
 
 pub watch-read : (s : List ℕ)
-    → watchLine s ≡ watchOf (valueOf (thenNumber s 0 countLimit (headRead s (ascii "(watch "))))
+    → watchLine s ≡ watchOf (valueOf (thenNumber s 0 kLimit (headRead s (ascii "(watch "))))
     (limited s (lineRead s watchPieces))
 unfolding watchPieces watchLine thenLast thenBytes lineRead readPiece readPieces
 watch-read s = refl

@@ -89,12 +89,13 @@ did-refused x ps cs ls n i (At j v) = (
 did-refused x ps cs ls n i (Refused m j) = (λ e. cc, λ e. cc)
 
 did-taken : (x : ℕ) (ps cs ls : List ℕ) (r : Read)
-    → ((mask : ℕ) × (low : ℕ) × (high : ℕ) × (labels : ℕ) × (didOf x ps cs ls r ≡ Did mask low high labels))
+    → ((mask : ℕ) × (c01 : ℕ) × (c23 : ℕ) × (c45 : ℕ) × (c67 : ℕ) × (labels : ℕ)
+    × (didOf x ps cs ls r ≡ Did mask c01 c23 c45 c67 labels))
     ↔ ((i : ℕ) × (v : ℕ) × (r ≡ At i v))
 unfolding didOf
-did-taken x ps cs ls (At i v) = (λ _. (i, v, refl), λ _. (_, _, _, _, refl))
+did-taken x ps cs ls (At i v) = (λ _. (i, v, refl), λ _. (_, _, _, _, _, _, refl))
 did-taken x ps cs ls (Refused m i) = (
-  λ y. let e = y .4 in let z : _≡_ {A = ℕ} 0 1 = cc in absurd (omega arith),
+  λ y. let e = y .6 in let z : _≡_ {A = ℕ} 0 1 = cc in absurd (omega arith),
   λ y. let e = y .2 in
       let z : _≡_ {A = ℕ} 0 1 = cc in absurd (omega arith),
 )

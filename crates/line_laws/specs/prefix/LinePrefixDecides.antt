@@ -1,4 +1,4 @@
--- The program may hand over 4,102 bytes of a longer line: the answer is that of the whole line.
+-- The program may hand over the first bytes of a longer line, 4,107 or more: the answer is that of the whole line.
 use Prim.Native.Nat.{ℕ, _≤_, _<_}
 use native.Mathlib.Omega.{arith}
 use mathlib.Core.Path.{_≡_, refl, sym, ap, _∙_}
@@ -8,7 +8,7 @@ use mathlib.Core.List.{List, [], _∷_, _++_, map}
 use Rattle.rules.specs.Text.{ascii}
 use lib.Dec.{leb, ltb}
 use lib.ListN.{length, take}
-use lib.Seq.{take-all, length-take-le, getD-take}
+use lib.Seq.{take-all, take-take, length-take-le, getD-take}
 use borrow.Author.Tests.{leb-true, leb-false, lt-ltb}
 use Rattle.line_pieces.specs.declared.Read.{Read}
 use Rattle.line_pieces.specs.declared.Read.the-variants.{At, Refused}
@@ -61,7 +61,7 @@ watch-refuses : (s : List ℕ) (n i : ℕ) → limited s (lineRead s watchPieces
 unfolding watchOf
 watch-refuses s n i e = watch-read s ∙ rw e
 
-pub watch-enough : (s : List ℕ) → watchLine (take enough s) ≡ watchLine s
+watch-enough : (s : List ℕ) → watchLine (take enough s) ≡ watchLine s
 watch-enough s = answer-enough watchLine WatchRefused watchPieces watch-modest watch-refuses s
 
 start-modest : (k : ℕ) → AllModest (startPieces k)
@@ -73,7 +73,7 @@ start-refuses : (k : ℕ) (s : List ℕ) (n i : ℕ) → limited s (lineRead s (
 unfolding startOf
 start-refuses k s n i e = start-read s k ∙ rw e
 
-pub start-enough : (s : List ℕ) (k : ℕ) → startLine (take enough s) k ≡ startLine s k
+start-enough : (s : List ℕ) (k : ℕ) → startLine (take enough s) k ≡ startLine s k
 start-enough s k = answer-enough (λ (l : List ℕ). startLine l k) StartRefused (startPieces k) (start-modest k)
     (start-refuses k) s
 
@@ -122,7 +122,7 @@ did-refuses : (k : ℕ) (s : List ℕ) (n i : ℕ) → limited s (lineRead s (di
 unfolding didOf
 did-refuses k s n i e = let w = did-read s k in w .3 ∙ rw e
 
-pub did-enough : (s : List ℕ) (k : ℕ) → didLine (take enough s) k ≡ didLine s k
+did-enough : (s : List ℕ) (k : ℕ) → didLine (take enough s) k ≡ didLine s k
 did-enough s k = go (leb (length s) enough) refl
   where
     go : (t : Bool) → leb (length s) enough ≡ t → didLine (take enough s) k ≡ didLine s k
@@ -149,7 +149,7 @@ rule-refuses : (k : ℕ) (s : List ℕ) (n i : ℕ) → limited s (headRead s (a
 unfolding ruleLine ruleOf
 rule-refuses k s n i e = rw e
 
-pub rule-enough : (s : List ℕ) (k : ℕ) → ruleLine (take enough s) k ≡ ruleLine s k
+rule-enough : (s : List ℕ) (k : ℕ) → ruleLine (take enough s) k ≡ ruleLine s k
 rule-enough s k = go (leb (length s) enough) refl
   where
     go : (t : Bool) → leb (length s) enough ≡ t → ruleLine (take enough s) k ≡ ruleLine s k
@@ -166,3 +166,21 @@ rule-enough s k = go (leb (length s) enough) refl
         let head = limited-same f h g near in
         let w = over-refused s (headRead s (ascii "(rule ")) (omega (arith, long)) in
         rule-refuses k (take enough s) (w .0) (w .1) (sym head ∙ w .2) ∙ sym (rule-refuses k s (w .0) (w .1) (w .2))
+
+-- ---- The theorem, for every number of bytes that is enough
+
+more-enough : {A : Type 0} (line : List ℕ → A) → ((s : List ℕ) → line (take enough s) ≡ line s)
+    → (n : ℕ) → enough ≤ n → (s : List ℕ) → line (take n s) ≡ line s
+more-enough line decided n h s = sym (decided (take n s)) ∙ ap line (take-take enough n s h) ∙ decided s
+
+pub watch-decided : (n : ℕ) → enough ≤ n → (s : List ℕ) → watchLine (take n s) ≡ watchLine s
+watch-decided = more-enough watchLine watch-enough
+
+pub rule-decided : (k n : ℕ) → enough ≤ n → (s : List ℕ) → ruleLine (take n s) k ≡ ruleLine s k
+rule-decided k = more-enough (λ (s : List ℕ). ruleLine s k) (λ s. rule-enough s k)
+
+pub start-decided : (k n : ℕ) → enough ≤ n → (s : List ℕ) → startLine (take n s) k ≡ startLine s k
+start-decided k = more-enough (λ (s : List ℕ). startLine s k) (λ s. start-enough s k)
+
+pub did-decided : (k n : ℕ) → enough ≤ n → (s : List ℕ) → didLine (take n s) k ≡ didLine s k
+did-decided k = more-enough (λ (s : List ℕ). didLine s k) (λ s. did-enough s k)

@@ -1,65 +1,30 @@
--- Of a long line six bytes behind the limit are enough: the line has the same answer as its first 4,102 bytes.
-use Prim.Native.Nat.{ℕ, zero, suc, _+_, _-_, _*_, _≤_, _<_}
+-- Of a long line eleven bytes behind the limit are enough: the line has the same answer as its first 4,107 bytes.
+use Prim.Native.Nat.{ℕ, zero, suc, _+_, _-_, _≤_, _<_}
 use native.Mathlib.Omega.{arith}
 use mathlib.Core.Path.{_≡_, refl, sym, ap, _∙_}
-use mathlib.Core.Bool.{Bool, true, false, cond, _&&_}
+use mathlib.Core.Bool.{Bool, true, false, cond}
 use mathlib.Core.Logic.{_⊎_, inl, inr}
 use mathlib.Core.List.{List, [], _∷_, _++_}
 use lib.Dec.{leb, ltb, eqb}
 use lib.ListN.{length, take, drop}
 use lib.Seq.{length-take-le, getD-take, take-all}
-use borrow.Author.Tests.{ltb-true, ltb-false, leb-true, leb-false, lt-ltb, lt-leb, eqb-false}
+use borrow.Author.Tests.{ltb-true, ltb-false, leb-true, leb-false, lt-ltb}
 use Rattle.rules.specs.Text.{byteAt}
 use Rattle.line_pieces.specs.declared.Read.{Read}
 use Rattle.line_pieces.specs.declared.Read.the-variants.{At, Refused}
-use Rattle.line_pieces.specs.Number.{isDigit, digits, valueFrom, value, numberOf, numberAt}
-use Rattle.line_pieces.specs.NumberLaws.{digit-bounds, digits-next, digits-end, digits-first, valueFrom-grows, number-after}
+use Rattle.line_pieces.specs.Number.{isDigit, digits, numberAt}
+use Rattle.line_pieces.specs.NumberLaws.{digits-next, digits-end, number-after}
 use Rattle.line_pieces.specs.Reading.{thenByte, thenNumber, thenEnd, lineLimit, limited}
 use Rattle.line_laws.specs.faults.GrammarTheorem.{lineRead}
 use Rattle.line_pieces.specs.NumberList.{listed, afterNumber, numbersAt, allNumbersAt, thenList, thenSpacedList, thenClose}
 use Rattle.line_laws.specs.pieces.ReadPieces.{readPiece, readPieces, placeIn, if-test, numbers-from, byte-from, close-from, piece-from, piece-stays}
 use Rattle.line_laws.specs.Grammar.{Piece, one, number, list, spacedList}
 use Rattle.line_laws.specs.faults.TenIsFault.{not-at, Judged, number-judged}
+use Rattle.line_laws.specs.prefix.LongNumbers.{mostDigits, Short, long-at}
 
--- The bytes that are enough.
+-- The bytes that are enough: behind the limit, one more than a number within its limit has digits.
 abbrev pub enough : ℕ
-enough = 4102
-
--- A number of six digits or more, without a leading 0, is 100,000 at least.
-six-digits : (v : ℕ) (ds : List ℕ) → 1 ≤ v → 5 ≤ length ds → 100000 ≤ valueFrom v ds
-unfolding valueFrom
-six-digits v (a ∷ b ∷ c ∷ d ∷ e ∷ ds) h l =
-    let g = valueFrom-grows
-    (10 * (10 * (10 * (10 * (10 * v + (a - 48)) + (b - 48)) + (c - 48)) + (d - 48)) + (e - 48)) ds in omega (arith, g)
-six-digits v [] h l = absurd (omega arith)
-six-digits v (a ∷ []) h l = absurd (omega arith)
-six-digits v (a ∷ b ∷ []) h l = absurd (omega arith)
-six-digits v (a ∷ b ∷ c ∷ []) h l = absurd (omega arith)
-six-digits v (a ∷ b ∷ c ∷ d ∷ []) h l = absurd (omega arith)
-
--- Such digits are turned back at their first, or at the second behind a needless 0.
-long-number : (d : ℕ) (ds : List ℕ) (i least most : ℕ) → 48 ≤ d → 5 ≤ length ds → most < 100000
-    → numberOf (d ∷ ds) i least most ≡ cond (eqb d 48) (Refused 1 (i + 1)) (Refused 10 i)
-unfolding numberOf valueFrom
-long-number d ds i least most h l m = go (eqb d 48) refl
-  where
-    more : ltb 0 (length ds) ≡ true
-    more = lt-ltb 0 (length ds) (omega arith)
-
-    go : (t : Bool) → eqb d 48 ≡ t
-        → cond (eqb d 48 && ltb 0 (length ds)) (Refused 1 (i + 1))
-        (cond (leb least (value (d ∷ ds)) && leb (value (d ∷ ds)) most) (At (i + length (d ∷ ds)) (value (d ∷ ds)))
-        (Refused 10 i))
-        ≡ cond t (Refused 1 (i + 1)) (Refused 10 i)
-    go true e = rw (e, more)
-    go false e =
-        let big : 100000 ≤ value (d ∷ ds) = six-digits (10 * 0 + (d - 48)) ds (omega (arith, eqb-false d 48 e)) l in
-        let high : leb (value (d ∷ ds)) most ≡ false = lt-leb (value (d ∷ ds)) most (omega (arith, big)) in
-        rw (e, high) (last (leb least (value (d ∷ ds))))
-      where
-        last : (b : Bool) → cond (b && false) (At (i + suc (length ds)) (value (d ∷ ds))) (Refused 10 i) ≡ Refused 10 i
-        last true = refl
-        last false = refl
+enough = lineLimit + (mostDigits + 1)
 
 -- A line, and another one that has its first bytes.
 pub record Front (s front : List ℕ) : Type 0 where
@@ -67,12 +32,12 @@ pub record Front (s front : List ℕ) : Type 0 where
   pub size : length front ≡ enough
   pub bytes : (i : ℕ) → i < enough → byteAt front i ≡ byteAt s i
 
--- No number of a piece may have six digits.
+-- No number of a piece has more digits.
 abbrev pub Modest : Piece → Type 0
 Modest (one b) = Unit {0}
-Modest (number least most b) = most < 100000
-Modest (list ascending most fewest fullest) = most < 100000
-Modest (spacedList most fewest fullest) = most < 100000
+Modest (number least most b) = Short most
+Modest (list ascending most fewest fullest) = Short most
+Modest (spacedList most fewest fullest) = Short most
 
 unfoldable pub AllModest : List Piece → Type 0
 AllModest [] = Unit {0}
@@ -108,27 +73,7 @@ module _ {s front : List ℕ} (f : Front s front) where
           let b = ap length (digits-next s i e) in
           inr (omega (arith, a, q .0), omega (arith, b, q .1))
 
-  -- Six digits there: the number is turned back, whatever follows.
-  long-at : (l : List ℕ) (i least most : ℕ) → most < 100000 → 6 ≤ length (digits (drop i l))
-      → numberAt l i least most ≡ cond (eqb (byteAt l i) 48) (Refused 1 (i + 1)) (Refused 10 i)
-  unfolding numberAt
-  long-at l i least most m h = go (digits (drop i l)) refl h
-    where
-      go : (ds : List ℕ) → digits (drop i l) ≡ ds → 6 ≤ length ds
-          → numberOf ds i least most ≡ cond (eqb (byteAt l i) 48) (Refused 1 (i + 1)) (Refused 10 i)
-      go [] e k = absurd (omega arith)
-      go (d ∷ ds) e k =
-          let first = digits-first l i d ds e in
-          rw (← first) (long-number d ds i least most (digit d ds e) (omega arith) m)
-        where
-          digit : (x : ℕ) (xs : List ℕ) → digits (drop i l) ≡ x ∷ xs → 48 ≤ x
-          digit x xs q = pick (isDigit (byteAt l i)) refl
-            where
-              pick : (t : Bool) → isDigit (byteAt l i) ≡ t → 48 ≤ x
-              pick true y = let b = digit-bounds (byteAt l i) y in omega (arith, b .0, digits-first l i x xs q)
-              pick false y = let w : _≡_ {A = ℕ} 0 1 = cc (digits-end l i y) in absurd (omega arith)
-
-  number-front : (i least most : ℕ) → i ≤ lineLimit → most < 100000
+  number-front : (i least most : ℕ) → i ≤ lineLimit → Short most
       → numberAt front i least most ≡ numberAt s i least most
   unfolding numberAt
   number-front i least most h m = go (digits-front (enough - i) i (omega arith))
@@ -142,7 +87,7 @@ module _ {s front : List ℕ} (f : Front s front) where
           ∙ rw (f .bytes i (omega arith)) (sym (long-at s i least most m (omega (arith, e .1))))
 
   -- A number that is read ends within the first bytes.
-  number-short : (i least most j v : ℕ) → i ≤ lineLimit → most < 100000 → numberAt s i least most ≡ At j v → j < enough
+  number-short : (i least most j v : ℕ) → i ≤ lineLimit → Short most → numberAt s i least most ≡ At j v → j < enough
   unfolding Judged
   number-short i least most j v h m e = go (ltb j enough) refl (rw e at (number-judged s i least most))
     where
@@ -157,7 +102,7 @@ module _ {s front : List ℕ} (f : Front s front) where
           (sym (long-at s i least most m (omega (arith, u .1 .0 .ends, ltb-false j enough q))) ∙ e))
 
   numbers-front : (left left′ : ℕ) (ascending : Bool) (most least : ℕ) (ns : List ℕ) (i : ℕ) → i ≤ lineLimit
-      → most < 100000
+      → Short most
       → length s < i + left → enough < i + left′
       → Same (numbersAt left s ascending most least ns i .read) (numbersAt left′ front ascending most least ns i .read)
   unfolding numbersAt afterNumber
@@ -232,7 +177,7 @@ module _ {s front : List ℕ} (f : Front s front) where
       go false k = let l = ltb-false lineLimit i k in rw (f .bytes i (omega arith)) (inl refl)
 
   -- A piece that begins within the limit.
-  list-same : (ascending : Bool) (most i v : ℕ) → i ≤ lineLimit → most < 100000
+  list-same : (ascending : Bool) (most i v : ℕ) → i ≤ lineLimit → Short most
       → Same (thenList s ascending most (At i v) .read) (thenList front ascending most (At i v) .read)
   unfolding thenList
   list-same ascending most i v h m = rw (f .bytes i (omega arith)) (go (eqb (byteAt s i) 41))
@@ -243,7 +188,7 @@ module _ {s front : List ℕ} (f : Front s front) where
       go false = numbers-front (length s + 1) (length front + 1) ascending most 0 [] i h m (omega arith)
           (omega (arith, f .size))
 
-  spaced-same : (most i v : ℕ) → i ≤ lineLimit → most < 100000
+  spaced-same : (most i v : ℕ) → i ≤ lineLimit → Short most
       → Same (thenSpacedList s most (At i v) .read) (thenSpacedList front most (At i v) .read)
   unfolding thenSpacedList
   spaced-same most i v h m = rw (f .bytes i (omega arith)) (go (eqb (byteAt s i) 32))
@@ -351,7 +296,7 @@ module _ {s front : List ℕ} (f : Front s front) where
 
 -- ---- The theorem
 
--- A line's answer is that of its first 4,102 bytes.
+-- A line's answer is that of its first 4,107 bytes.
 pub line-enough : (s : List ℕ) (ps : List Piece) → AllModest ps
     → limited (take enough s) (lineRead (take enough s) ps) ≡ limited s (lineRead s ps)
 line-enough s ps m = go (leb enough (length s)) refl

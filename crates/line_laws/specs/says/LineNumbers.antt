@@ -22,7 +22,7 @@ use Rattle.lines.specs.declared.WatchLine.the-variants.{Watch}
 use Rattle.lines.specs.declared.StartLine.the-variants.{Start}
 use Rattle.lines.specs.declared.DidLine.the-variants.{Did}
 use Rattle.lines.specs.Words.{word}
-use Rattle.lines.specs.Lines.{countLimit, labelLimit, processLimit, roomLimit, watchOf, watchLine, startOf, startLine, didOf, didLine}
+use Rattle.lines.specs.Lines.{kLimit, countLimit, labelLimit, processLimit, roomLimit, watchOf, watchLine, startOf, startLine, didOf, didLine}
 use Rattle.line_laws.specs.Grammar.{Numeral, between}
 use Rattle.line_laws.specs.LineSays.{WatchSays, StartSays, DidSays}
 use Rattle.line_laws.specs.pieces.NumberTextRead.{if-known}
@@ -116,12 +116,13 @@ head-met s bs e v h = bytes-before s bs (At 0 0) e v h (λ i q p. let z : i ≡ 
 
 -- ---- An event's line
 
-did-answers : (n : ℕ) (ps cs ls : List ℕ) (r : Read) (mask low high labels : ℕ)
-    → didOf n ps cs ls r ≡ Did mask low high labels
-    → (i : ℕ) × (v : ℕ) × ((r ≡ At i v) × (didOf n ps cs ls (At 0 0) ≡ Did mask low high labels))
+did-answers : (n : ℕ) (ps cs ls : List ℕ) (r : Read) (mask c01 c23 c45 c67 labels : ℕ)
+    → didOf n ps cs ls r ≡ Did mask c01 c23 c45 c67 labels
+    → (i : ℕ) × (v : ℕ) × ((r ≡ At i v) × (didOf n ps cs ls (At 0 0) ≡ Did mask c01 c23 c45 c67 labels))
 unfolding didOf
-did-answers n ps cs ls (At i v) mask low high labels e = (i, v, (refl, e))
-did-answers n ps cs ls (Refused m i) mask low high labels e = let z : _≡_ {A = ℕ} 0 1 = cc in absurd (omega arith)
+did-answers n ps cs ls (At i v) mask c01 c23 c45 c67 labels e = (i, v, (refl, e))
+did-answers n ps cs ls (Refused m i) mask c01 c23 c45 c67 labels e =
+    let z : _≡_ {A = ℕ} 0 1 = cc in absurd (omega arith)
 
 -- The parts of a line that stand one behind the other.
 did-parts : (s : List ℕ) (k n j₁ e₁ m₁ j₂ e₂ m₂ j₃ e₃ m₃ i : ℕ) (ps cs ls : List ℕ) → Span s 0 (ascii "(did (") j₁
@@ -171,11 +172,12 @@ did-read-said s k n i v first second f e g h =
     )))))))
 
 -- The numbers that are read are those that the line says, and its words are made of them.
-pub did-said : (s : List ℕ) (k mask low high labels : ℕ) → didLine s k ≡ Did mask low high labels
-    → (ps cs ls : List ℕ) × (DidSays s k ps cs ls × (didOf (length ps) ps cs ls (At 0 0) ≡ Did mask low high labels))
+pub did-said : (s : List ℕ) (k mask c01 c23 c45 c67 labels : ℕ) → didLine s k ≡ Did mask c01 c23 c45 c67 labels
+    → (ps cs ls : List ℕ)
+    × (DidSays s k ps cs ls × (didOf (length ps) ps cs ls (At 0 0) ≡ Did mask c01 c23 c45 c67 labels))
 unfolding didLine
-did-said s k mask low high labels h =
-    let a = did-answers _ _ _ _ _ mask low high labels h in
+did-said s k mask c01 c23 c45 c67 labels h =
+    let a = did-answers _ _ _ _ _ mask c01 c23 c45 c67 labels h in
     let d = did-read-said s k _ (a .0) (a .1) _ _ refl refl refl (a .2 .0) in
     (_, _, _, (d .0, rw (← d .1) (a .2 .1)))
 
@@ -223,14 +225,14 @@ unfolding watchLine valueOf
 watch-said s k room h = let a = watch-answers _ _ k room h in said (a .0) (a .1 .0) (a .1 .1)
   where
     said : (i : ℕ) → thenLast s
-        (thenNumber s 1 roomLimit (thenByte s 32 (thenNumber s 0 countLimit (headRead s (ascii "(watch ")))))
+        (thenNumber s 1 roomLimit (thenByte s 32 (thenNumber s 0 kLimit (headRead s (ascii "(watch ")))))
         ≡ At i room
-        → valueOf (thenNumber s 0 countLimit (headRead s (ascii "(watch "))) ≡ k → WatchSays s k room
+        → valueOf (thenNumber s 0 kLimit (headRead s (ascii "(watch "))) ≡ k → WatchSays s k room
     said i q e =
         last-before s _ i room q (λ e₂ q₂ last end short.
         number-before s 1 roomLimit _ e₂ room q₂ (λ j₂ v₂ r r₂ numeral₂ span₂ is₂ low₂ high₂.
         byte-before s 32 _ j₂ v₂ r₂ (λ e₁ q₁ space.
-        number-before s 0 countLimit (headRead s (ascii "(watch ")) e₁ v₂ q₁
+        number-before s 0 kLimit (headRead s (ascii "(watch ")) e₁ v₂ q₁
         (λ j₁ v₁ p r₁ numeral₁ span₁ is₁ low₁ high₁.
         let same : v₂ ≡ k = sym (ap valueOf q₁) ∙ e in
         record {

@@ -8,7 +8,7 @@ use mathlib.Core.Logic.{_⊎_, inl, inr, _↔_}
 use mathlib.Core.Bool.{Bool, true, false, cond, false≢true}
 use mathlib.Core.List.{List, [], _∷_}
 use lib.Dec.{eqb, lit<}
-use lib.ListN.{length, take, drop}
+use lib.ListN.{length}
 use Rattle.codec.specs.Bit.{bit}
 use Rattle.clocks.specs.Counts.{at}
 use Rattle.clocks.specs.stored.CountsLaws.{at-listOf, at-beyond, length-listOf, listOf-at}
@@ -17,7 +17,7 @@ use Rattle.line_pieces.specs.declared.Read.the-variants.{At}
 use Rattle.line_pieces.specs.NumberList.{eight}
 use Rattle.lines.specs.declared.DidLine.the-variants.{Did}
 use Rattle.lines.specs.Words.{word, placed}
-use Rattle.lines.specs.Lines.{countLimit, labelLimit, processLimit, didOf}
+use Rattle.lines.specs.Lines.{countLimit, labelLimit, processLimit, clockWord, didOf}
 use Rattle.line_laws.specs.LineSays.{InLimits, Named, Offers, WatchIsAsSaid, StartIsAsSaid, StartSaidIsRead, EventIsAsSaid, EventSaidIsRead}
 use Rattle.line_laws.specs.says.LineNumbers.{did-said, start-said, watch-said}
 use Rattle.line_laws.specs.says.SaidIsRead.{watch-said-read, start-said-read, did-said-read}
@@ -93,8 +93,8 @@ module _ (ps cs ls : List ℕ) (processes : InLimits true 0 processLimit ps) (co
       ap (λ (x : List ℕ). at x p)
       (labels-unpacked l placed-small ∙ listOf-at 8 l (length-placed (length ps) (at ps) (at ls)))
 
-  pub words-offer : Offers (word 2 (placed (length ps) (at ps) (λ j. 1))) (word 65536 (take 4 (eight cs)))
-      (word 65536 (drop 4 (eight cs)))
+  pub words-offer : Offers (word 2 (placed (length ps) (at ps) (λ j. 1))) (clockWord cs 0)
+      (clockWord cs 1) (clockWord cs 2) (clockWord cs 3)
       (word 256 (placed (length ps) (at ps) (at ls))) ps cs ls
   words-offer = record {
     take-part = marked;
@@ -103,17 +103,19 @@ module _ (ps cs ls : List ℕ) (processes : InLimits true 0 processLimit ps) (co
     unlabelled = λ p f. unpacked p ∙ placed-other (length ps) (at ps) (at ls) p (λ j l e. f (j, (l, e)));
   }
 
-offered : (ps cs ls : List ℕ) (mask low high labels : ℕ) → InLimits true 0 processLimit ps
+offered : (ps cs ls : List ℕ) (mask c01 c23 c45 c67 labels : ℕ) → InLimits true 0 processLimit ps
     → InLimits false 0 countLimit cs
-    → InLimits false 0 labelLimit ls → didOf (length ps) ps cs ls (At 0 0) ≡ Did mask low high labels
-    → Offers mask low high labels ps cs ls
+    → InLimits false 0 labelLimit ls → didOf (length ps) ps cs ls (At 0 0) ≡ Did mask c01 c23 c45 c67 labels
+    → Offers mask c01 c23 c45 c67 labels ps cs ls
 unfolding didOf
-offered ps cs ls mask low high labels p c l e =
+offered ps cs ls mask c01 c23 c45 c67 labels p c l e =
     let m : mask ≡ word 2 (placed (length ps) (at ps) (λ j. 1)) = cc in
-    let lo : low ≡ word 65536 (take 4 (eight cs)) = cc in
-    let hi : high ≡ word 65536 (drop 4 (eight cs)) = cc in
+    let w₀ : c01 ≡ clockWord cs 0 = cc in
+    let w₁ : c23 ≡ clockWord cs 1 = cc in
+    let w₂ : c45 ≡ clockWord cs 2 = cc in
+    let w₃ : c67 ≡ clockWord cs 3 = cc in
     let w : labels ≡ word 256 (placed (length ps) (at ps) (at ls)) = cc in
-    rw (m, lo, hi, w) (words-offer ps cs ls p c l)
+    rw (m, w₀, w₁, w₂, w₃, w) (words-offer ps cs ls p c l)
 
 -- ---- Start labels
 
@@ -138,15 +140,15 @@ start-is-as-said s k labels h =
     (x .0, (x .1 .0, ap unpackLabels (x .1 .1) ∙ eight-unpacked (x .0) (x .1 .0 .limits)))
 
 pub event-is-as-said : EventIsAsSaid
-event-is-as-said s k mask low high labels h =
-    let x = did-said s k mask low high labels h in
+event-is-as-said s k mask c01 c23 c45 c67 labels h =
+    let x = did-said s k mask c01 c23 c45 c67 labels h in
     let says = x .3 .0 in (
       x .0,
       x .1,
       x .2,
       (
         says,
-        offered (x .0) (x .1) (x .2) mask low high labels (says .limits .0) (says .limits .1 .0)
+        offered (x .0) (x .1) (x .2) mask c01 c23 c45 c67 labels (says .limits .0) (says .limits .1 .0)
             (says .limits .1 .1) (x .3 .1),
       ),
     )
@@ -161,9 +163,11 @@ event-said-is-read s k ps cs ls x = (
   _,
   _,
   _,
+  _,
+  _,
   (
     did-said-read s k ps cs ls x,
-    offered ps cs ls _ _ _ _ (x .limits .0) (x .limits .1 .0)
+    offered ps cs ls _ _ _ _ _ _ (x .limits .0) (x .limits .1 .0)
         (x .limits .1 .1) refl,
   ),
 )

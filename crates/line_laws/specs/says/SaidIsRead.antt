@@ -17,7 +17,7 @@ use Rattle.line_pieces.specs.NumberList.{listed, afterNumber, numbersAt, thenLi
 use Rattle.lines.specs.declared.WatchLine.the-variants.{Watch}
 use Rattle.lines.specs.declared.StartLine.the-variants.{Start}
 use Rattle.lines.specs.Words.{word}
-use Rattle.lines.specs.Lines.{countLimit, labelLimit, processLimit, roomLimit, watchOf, watchLine, startOf, startLine, didOf, didLine}
+use Rattle.lines.specs.Lines.{kLimit, countLimit, labelLimit, processLimit, roomLimit, watchOf, watchLine, startOf, startLine, didOf, didLine}
 use Rattle.line_laws.specs.Grammar.{AllDigits, Numeral, Numerals, spaced, between}
 use Rattle.line_laws.specs.LineSays.{InLimits, WatchSays, StartSays, DidSays}
 use Rattle.line_laws.specs.pieces.NumberTextRead.{plain-test}
@@ -206,7 +206,7 @@ unfolding watchLine watchOf valueOf thenByte Stands
 watch-said-read s k room x =
     pass-bytes s (ascii "(watch ") (x .k-digits ++ 32 ∷ (x .room-digits ++ 41 ∷ [])) 0 0 (ends-all s _ (x .text))
     (λ j head h₁.
-    pass-number s 0 countLimit j 0 32 (x .k-digits) (x .room-digits ++ 41 ∷ []) (x .numerals .0) refl (omega arith)
+    pass-number s 0 kLimit j 0 32 (x .k-digits) (x .room-digits ++ 41 ∷ []) (x .numerals .0) refl (omega arith)
     (omega (arith, x .values .0, x .limits .0)) h₁ (λ e₁ first h₂.
     pass-number s 1 roomLimit (e₁ + 1) (value (x .k-digits)) 41 (x .room-digits) [] (x .numerals .1) refl
     (omega (arith, x .values .1, x .limits .1 .0))

@@ -5,7 +5,6 @@ use native.Mathlib.Omega.{arith}
 use mathlib.Core.Path.{_≡_, refl, sym, ap, _∙_}
 use mathlib.Core.List.{List, [], _∷_}
 use lib.Dec.{eqb, lit<}
-use lib.ListN.{take, drop}
 use lib.Pow.{pow-add}
 use Rattle.codec.specs.Bit.{bit}
 use Rattle.clocks.specs.Counts.{at, listOf}
@@ -13,6 +12,7 @@ use Rattle.clocks.specs.stored.CountsLaws.{listOf-same}
 use Rattle.call_words.specs.Words.{part, unpackCounts, unpackLabels}
 use Rattle.line_pieces.specs.NumberList.{eight}
 use Rattle.lines.specs.Words.{word}
+use Rattle.lines.specs.Lines.{countLimit, clockWord}
 
 -- Part i of a word is number i, below the base.
 word-part : (base : ℕ) → 0 < base → (vs : List ℕ) (i : ℕ) → word base vs / base ^ i % base ≡ at vs i % base
@@ -51,21 +51,20 @@ pub labels-unpacked : (vs : List ℕ) → ((p : ℕ) → at vs p < 256) → unpa
 unfolding unpackLabels
 labels-unpacked vs h = listOf-same 8 (part 8 (word 256 vs)) (at vs) (λ p _. part-is 8 256 refl vs p (h p))
 
-pub counts-unpacked : (cs : List ℕ) → ((p : ℕ) → at cs p < 65536)
-    → unpackCounts (word 65536 (take 4 (eight cs))) (word 65536 (drop 4 (eight cs))) ≡ eight cs
+-- Two counts in a word.
+two-parts : (a b : ℕ) → a < countLimit + 1 → b < countLimit + 1
+    → (part 32 (word (countLimit + 1) (a ∷ b ∷ [])) 0 ≡ a) × (part 32 (word (countLimit + 1) (a ∷ b ∷ [])) 1 ≡ b)
+two-parts a b h l = (
+  part-is 32 (countLimit + 1) refl (a ∷ b ∷ []) 0 h,
+  part-is 32 (countLimit + 1) refl (a ∷ b ∷ []) 1 l,
+)
+
+pub counts-unpacked : (cs : List ℕ) → ((p : ℕ) → at cs p < countLimit + 1)
+    → unpackCounts 4 (clockWord cs 0 ∷ clockWord cs 1 ∷ clockWord cs 2 ∷ clockWord cs 3 ∷ []) ≡ eight cs
 unfolding unpackCounts listOf
 counts-unpacked cs h =
-    let low : List ℕ = at cs 0 ∷ at cs 1 ∷ at cs 2 ∷ at cs 3 ∷ [] in
-    let high : List ℕ = at cs 4 ∷ at cs 5 ∷ at cs 6 ∷ at cs 7 ∷ [] in
-    let is : (vs : List ℕ) (i : ℕ) → at vs i < 65536 → part 16 (word 65536 vs) i ≡ at vs i = part-is 16 65536 refl in
-    rw (
-      is low 0 (h 0),
-      is low 1 (h 1),
-      is low 2 (h 2),
-      is low 3 (h 3),
-      is high 0 (h 4),
-      is high 1 (h 5),
-      is high 2
-          (h 6),
-      is high 3 (h 7),
-    )
+    let w₀ = two-parts (at cs 0) (at cs 1) (h 0) (h 1) in
+    let w₁ = two-parts (at cs 2) (at cs 3) (h 2) (h 3) in
+    let w₂ = two-parts (at cs 4) (at cs 5) (h 4) (h 5) in
+    let w₃ = two-parts (at cs 6) (at cs 7) (h 6) (h 7) in
+    rw (w₀ .0, w₀ .1, w₁ .0, w₁ .1, w₂ .0, w₂ .1, w₃ .0, w₃ .1)

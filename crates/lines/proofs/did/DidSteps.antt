@@ -1,10 +1,10 @@
 -- An event's line from the eight numbers that the code keeps of each list.
-use Prim.Native.Nat.{ℕ, _-_, _≤_, _<_}
+use Prim.Native.Nat.{ℕ, _+_, _-_, _≤_, _<_}
 use native.Mathlib.Omega.{arith}
 use mathlib.Core.Path.{_≡_, refl, sym, _∙_}
 use mathlib.Core.Bool.{true, false}
 use mathlib.Core.List.{List}
-use lib.ListN.{length, length-drop, replicate, getD-replicate, take, drop}
+use lib.ListN.{length, replicate, getD-replicate, take, drop}
 use lib.Seq.{take-all}
 use Rattle.clocks.specs.Counts.{at}
 use Rattle.clocks.specs.stored.CountsLaws.{length-listOf, listOf-at, at-listOf}
@@ -39,27 +39,29 @@ all-eight : (l : List ℕ) → length l ≡ 8 → take (8 - 0) (drop 0 l) ≡ l
 all-eight l h = take-all 8 l (omega (arith, h))
 
 -- The words as the code makes them, each of what is made before.
-pub words-made : (n : ℕ) (processes counts labels marks placed′ : List ℕ) (i v mask low high word′ : ℕ) → n ≤ 8
+pub words-made : (n : ℕ) (processes counts labels marks placed′ : List ℕ) (i v mask c01 c23 c45 c67 word′ : ℕ) → n ≤ 8
     → length counts ≡ 8
     → marks ≡ placed n (at processes) (at (replicate 8 1)) → mask ≡ word 2 (take (8 - 0) (drop 0 marks))
-    → low ≡ word 65536 (take (4 - 0) (drop 0 counts)) → high ≡ word 65536 (take (8 - 4) (drop 4 counts))
+    → c01 ≡ word (countLimit + 1) (take (2 - 0) (drop 0 counts))
+    → c23 ≡ word (countLimit + 1) (take (4 - 2) (drop 2 counts))
+    → c45 ≡ word (countLimit + 1) (take (6 - 4) (drop 4 counts))
+    → c67 ≡ word (countLimit + 1) (take (8 - 6) (drop 6 counts))
     → placed′ ≡ placed n (at processes) (at labels) → word′ ≡ word 256 (take (8 - 0) (drop 0 placed′))
-    → Did mask low high word′ ≡ didOf n processes counts labels (At i v)
+    → Did mask c01 c23 c45 c67 word′ ≡ didOf n processes counts labels (At i v)
 unfolding didOf
-words-made n processes counts labels marks placed′ i v mask low high word′ h l m e lo hi p w =
+words-made n processes counts labels marks placed′ i v mask c01 c23 c45 c67 word′ h l m e e₀ e₁ e₂ e₃ p w =
     let ones : placed n (at processes) (λ j. 1) ≡ placed n (at processes) (at (replicate 8 1)) =
     placed-same n (at processes) (at processes) (λ j. 1) (at (replicate 8 1)) (λ j p. refl)
     (λ j p. sym (getD-replicate 8 j 1 0 (omega arith)))
     in
-    let short : take 4 (drop 4 counts) ≡ drop 4 counts =
-    take-all 4 (drop 4 counts) (omega (arith, length-drop 4 counts, l)) in
     rw (
       ones,
       listOf-at 8 counts l,
       e,
-      lo,
-      hi,
-      short,
+      e₀,
+      e₁,
+      e₂,
+      e₃,
       w,
       m,
       p,

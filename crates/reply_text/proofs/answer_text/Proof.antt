@@ -3,6 +3,7 @@ use native.Mathlib.Omega.{arith}
 use mathlib.Core.Path.{refl, ap, _∙_}
 use Prim.Native.Nat.{ℕ}
 use mathlib.Core.List.{List, _++_, [], _∷_}
+use Rattle.reply_text.specs.Form.{programWidth}
 use Rattle.reply_text.specs.Texts.{numeral, countsText, refusedText, heldText, againText, stateText, verdictText}
 use Rattle.reply_text.proofs.TextSteps.{behind}
 use Rattle.reply_text.proofs.ReplySteps.{says-refused, says-nothing, says-again, says-held, says-state}
@@ -42,7 +43,7 @@ returns c = let put = c .before .before in
     let test = first .before .before .before in
     let a = test .before .before .before .before .args in (
       omega arith,
-      says-refused (a .offered) (takenCounts 2 (a .«record» .now)) (a .k) (a .reply) _ (test .if1 .taken)
+      says-refused (a .offered) (takenCounts programWidth (a .«record» .now)) (a .k) (a .reply) _ (test .if1 .taken)
           (behind (41 ∷ 10 ∷ []) (behind (numeral _) (behind (32 ∷ []) (first .piece .ensures .1) refl) (second .piece2 .ensures .1)) (put .put .ensures .1)),
     )
 
@@ -62,13 +63,13 @@ returns-2 c = let put = c .before .before in
     let start = test .before .before .before .before .before .before .before in
     let a = start .args in (
       omega (arith, start .pre .1 .1),
-      says-again (a .offered) (takenCounts 2 (a .«record» .now)) (a .k) (a .reply) _ (test .before .before .before .if1 .left) (test .before .if2 .taken) (test .if3 .taken)
+      says-again (a .offered) (takenCounts programWidth (a .«record» .now)) (a .k) (a .reply) _ (test .before .before .before .if1 .left) (test .before .if2 .taken) (test .if3 .taken)
           (put .put2 .ensures .1),
     )
 
 returns-3 : tie.Need-returns-3
 returns-3 c = let a = c .before .before .before .before .before .before .before .args in
-    (omega arith, says-nothing (a .offered) (takenCounts 2 (a .«record» .now)) (a .k) (a .reply) (c .before .before .before .if1 .left) (c .before .if2 .taken) (c .if3 .left))
+    (omega arith, says-nothing (a .offered) (takenCounts programWidth (a .«record» .now)) (a .k) (a .reply) (c .before .before .before .if1 .left) (c .before .if2 .taken) (c .if3 .left))
 
 slice-aggregate-piece-3 : tie.Need-slice-aggregate-piece-3
 slice-aggregate-piece-3 c = search needs
@@ -93,7 +94,7 @@ returns-4 c = let put = c .before .before in
     let start = test .before .before .before .before .before .before .before in
     let a = start .args in (
       omega (arith, start .pre .1 .1),
-      says-held (a .offered) (takenCounts 2 (a .«record» .now)) (a .k) (a .reply) _ (test .before .before .before .if1 .left) (test .before .if2 .left) (test .if4 .taken)
+      says-held (a .offered) (takenCounts programWidth (a .«record» .now)) (a .k) (a .reply) _ (test .before .before .before .if1 .left) (test .before .if2 .left) (test .if4 .taken)
           (behind (41 ∷ 10 ∷ []) (first .piece3 .ensures .1) (put .put3 .ensures .1)),
     )
 
@@ -127,7 +128,7 @@ returns-5 c = let put = c .before .before in
     let start = test .before .before .before .before .before .before .before in
     let a = start .args in (
       omega (arith, start .pre .1 .1),
-      says-state (a .offered) (takenCounts 2 (a .«record» .now)) (a .k) (a .reply) _ true (test .before .before .before .if1 .left) (test .before .if2 .left) (test .if4 .left) (second .before .before .before .if5 .taken)
+      says-state (a .offered) (takenCounts programWidth (a .«record» .now)) (a .k) (a .reply) _ true (test .before .before .before .if1 .left) (test .before .if2 .left) (test .if4 .left) (second .before .before .before .if5 .taken)
           (behind (41 ∷ 10 ∷ []) (behind (numeral _) (behind (ascii ") yes ") (counts .put-counts .ensures .1 ∙ ap (λ (n : List ℕ). ascii "(state (" ++ countsText n (a .k)) (counts .before .before .taken-counts .ensures)) refl) (second .piece4 .ensures .1)) (put .put4 .ensures .1)),
     )
 
@@ -155,7 +156,7 @@ returns-6 c = let put = c .before .before in
     let start = test .before .before .before .before .before .before .before in
     let a = start .args in (
       omega (arith, start .pre .1 .1),
-      says-state (a .offered) (takenCounts 2 (a .«record» .now)) (a .k) (a .reply) _ false (test .before .before .before .if1 .left) (test .before .if2 .left) (test .if4 .left) (second .before .before .before .if5 .left)
+      says-state (a .offered) (takenCounts programWidth (a .«record» .now)) (a .k) (a .reply) _ false (test .before .before .before .if1 .left) (test .before .if2 .left) (test .if4 .left) (second .before .before .before .if5 .left)
           (behind (41 ∷ 10 ∷ []) (behind (numeral _) (behind (ascii ") no ") (counts .put-counts .ensures .1 ∙ ap (λ (n : List ℕ). ascii "(state (" ++ countsText n (a .k)) (counts .before .before .taken-counts .ensures)) refl) (second .piece5 .ensures .1)) (put .put5 .ensures .1)),
     )
 

@@ -3,6 +3,8 @@ use native.Mathlib.Omega.{arith}
 use mathlib.Core.Path.{_≡_, sym, _∙_}
 use Prim.Native.Nat.{_≤_, _*_}
 use lib.ListN.{length}
+use Rattle.records.specs.Record.{recordLength}
+use Rattle.reply_text.specs.Form.{programWidth, programFrontier, programWindow}
 use Rattle.program.specs.Stages.{Within}
 use lib.Seq.{length-take-le, length-front}
 use borrow.Author.Needs.{needs}
@@ -11,7 +13,8 @@ use Rattle.watch_cli.proofs.main.Tie as tie
 
 abbrev Inv-loop : tie.InvT-loop
 Inv-loop chunk₀ line₀ state₀ window₀ scratch₀ session₀ input₀ left₀ chunk line state window scratch session input left =
-    (input .end ≤ 4096) × Within 40960 session × (length chunk ≡ 4096) × (length line ≡ 4104) × (length state ≡ 1368) × (length window ≡ 40960) × (length scratch ≡ 40960)
+    (input .end ≤ 4096) × Within programWindow session × (length chunk ≡ 4096) × (length line ≡ 4112)
+    × (length state ≡ recordLength programWidth) × (length window ≡ programWindow) × (length scratch ≡ programWindow)
 
 abbrev μ-loop : tie.MeasureT-loop
 μ-loop chunk₀ line₀ state₀ window₀ scratch₀ session₀ input₀ left₀ chunk line state window scratch session input left = left
@@ -66,7 +69,7 @@ loop-less c = c .turns .ensures
 loop-again : tie.Need-loop-again Inv-loop μ-loop
 loop-again c = let l = c .before .before .before .before .before .before .before .before .before .before .before .before .before .before .before .before .before .before .before .before .loop in
     let n = c .before .before .before .before .before .before .before .before .before .before .before .before .before .before .before .before .next-line in
-    (omega (arith, n .ensures .1, c .before .before .before .before .before .before .before .before .before .before .before .before .before .before .before .chunk2 .given), c .before .before .before .before .before .respond .ensures, omega (arith, c .before .before .before .before .before .before .before .before .before .before .before .before .before .before .before .chunk2 .given), omega (arith, c .before .before .before .before .before .before .before .before .before .before .before .before .before .before .line2 .given), omega (arith, c .before .before .before .before .record2 .given, l .inv .4), length-front (l .window) (c .before .before .before .before .before .respond .last .1 .1 .1 .0) (40 * l .session .room) (c .before .before .before .window2 .given) ∙ l .inv .5, omega (arith, c .before .before .scratch2 .given, l .inv .6))
+    (omega (arith, n .ensures .1, c .before .before .before .before .before .before .before .before .before .before .before .before .before .before .before .chunk2 .given), c .before .before .before .before .before .respond .ensures, omega (arith, c .before .before .before .before .before .before .before .before .before .before .before .before .before .before .before .chunk2 .given), omega (arith, c .before .before .before .before .before .before .before .before .before .before .before .before .before .before .line2 .given), omega (arith, c .before .before .before .before .record2 .given, l .inv .4), length-front (l .window) (c .before .before .before .before .before .respond .last .1 .1 .1 .0) (programFrontier * l .session .room) (c .before .before .before .window2 .given) ∙ l .inv .5, omega (arith, c .before .before .scratch2 .given, l .inv .6))
 
 returns-2 : tie.Need-returns-2 Inv-loop μ-loop
 returns-2 c = search needs

@@ -16,8 +16,8 @@ refuse-requires c κs = search needs
 enum-known-read-2 : tie.Need-enum-known-read-2
 enum-known-read-2 c = search needs
 
-watch-offer-requires : tie.Need-watch-offer-requires
-watch-offer-requires c κs = search needs
+watch32-offer-requires : tie.Need-watch32-offer-requires
+watch32-offer-requires c κs = search needs
 
 replied-requires : tie.Need-replied-requires
 replied-requires c κs = search needs
@@ -34,11 +34,12 @@ same-length : tie.Need-same-length
 same-length c = search needs
 
 returns-2 : tie.Need-returns-2
-returns-2 c = let offer = c .before .before .before .watch-offer in
+returns-2 c = let offer = c .before .before .before .watch32-offer in
     let known = c .before .before .before .before .before .before in
     let a = known .before .before .before .before .before .args in
     let q = c .replied .ensures in (
-      λ t rule window h. did-stands t (a .session) rule (a .«record» .now) window h (a .line .now) _ (known .before .before .read-did .ensures) _ _ _ _ _ _ _ (known .read2 .given .1) q (offer .ensures .0) (offer .ensures .1),
+      λ t rule window h. did-stands t (a .session) rule (a .«record» .now) window h (a .line .now) _
+          (known .before .before .read-did .ensures) _ _ _ _ _ _ _ _ _ (known .read2 .given .1) q (offer .ensures .0) (offer .ensures .1),
       λ n w. record { processes = rw (q .processes) (w .processes); frontiers = rw (q .frontiers) (w .frontiers); text = rw (q .text) (w .text) },
     )
 
@@ -50,7 +51,7 @@ did-line-spec =
     enum-known-read
     refuse-requires
     enum-known-read-2
-    watch-offer-requires
+    watch32-offer-requires
     replied-requires
     returns
     same-length

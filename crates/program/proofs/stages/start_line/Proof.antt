@@ -18,11 +18,11 @@ refuse-requires c κs = search needs
 enum-known-read-2 : tie.Need-enum-known-read-2
 enum-known-read-2 c = search needs
 
-slice-aggregate-watch-open : tie.Need-slice-aggregate-watch-open
-slice-aggregate-watch-open c = sym (length-take-le _ _ (c .before .before .before .before .before .before .before .before .before .pre .text))
+slice-aggregate-watch32-open : tie.Need-slice-aggregate-watch32-open
+slice-aggregate-watch32-open c = sym (length-take-le _ _ (c .before .before .before .before .before .before .before .before .before .pre .text))
 
-watch-open-requires : tie.Need-watch-open-requires
-watch-open-requires c κs = search needs
+watch32-open-requires : tie.Need-watch32-open-requires
+watch32-open-requires c κs = search needs
 
 replied-requires : tie.Need-replied-requires
 replied-requires c κs = search needs
@@ -43,7 +43,7 @@ same-length-2 : tie.Need-same-length-2
 same-length-2 c = search needs
 
 returns-2 : tie.Need-returns-2
-returns-2 c = let opened = c .before .before .before .before .before .watch-open in
+returns-2 c = let opened = c .before .before .before .before .before .watch32-open in
     let known = c .before .before .before .before .before .before .before .before .before .before in
     let start = known .before .before .before .before .before .before .before in
     let a = start .args in
@@ -60,8 +60,8 @@ start-line-spec =
     enum-known-read
     refuse-requires
     enum-known-read-2
-    slice-aggregate-watch-open
-    watch-open-requires
+    slice-aggregate-watch32-open
+    watch32-open-requires
     replied-requires
     returns
     same-length

@@ -18,8 +18,8 @@ turns-requires c κs = search needs
 loop-holds : tie.Need-loop-holds Inv-loop μ-loop
 loop-holds c = search needs
 
-watch-take-requires : tie.Need-watch-take-requires Inv-loop μ-loop
-watch-take-requires c κs = search needs
+watch32-take-requires : tie.Need-watch32-take-requires Inv-loop μ-loop
+watch32-take-requires c κs = search needs
 
 decode-requires : tie.Need-decode-requires Inv-loop μ-loop
 decode-requires c κs = search needs
@@ -59,7 +59,7 @@ take-all-spec =
     μ-loop
     turns-requires
     loop-holds
-    watch-take-requires
+    watch32-take-requires
     decode-requires
     print-requires
     takes-again-requires
