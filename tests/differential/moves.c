@@ -1,5 +1,5 @@
-/* Moves of any bytes, there and back. Everything is exact there: refusals, and every byte that is written, in places that
- * are not used too. */
+/* Moves of any bytes, there and back. Everything is exact there: refusals, and every byte that is written, in places
+ * that are not used too. */
 #include <stdlib.h>
 #include <string.h>
 
@@ -13,10 +13,6 @@ struct moved {
     uint8_t to_record_expected[2 * RECORD_MOST], to_window_expected[WINDOW_MOST];
 };
 
-static unsigned long moves;
-
-static void keep_small(const struct laid *d);
-
 /* ---- bytes to be moved ---- */
 
 /* The places of counts in a record and in a window: one after the other, with what lies between them left out. */
@@ -24,7 +20,8 @@ static uint8_t *count_in_record(const struct laid *d, unsigned place) {
     const struct layout *form = d->form;
     unsigned pending = place - 9 * PROCESSES;
     if (place < 9 * PROCESSES) return d->record + TAKEN_AT + form->width * place;
-    return d->record + form->pending_at + form->event * (pending / PROCESSES) + CLOCK_AT + form->width * (pending % PROCESSES);
+    uint8_t *event = d->record + form->pending_at + form->event * (pending / PROCESSES);
+    return event + CLOCK_AT + form->width * (pending % PROCESSES);
 }
 
 static uint8_t *count_in_window(const struct laid *d, unsigned place) {
@@ -86,9 +83,19 @@ static void prepare(struct source *s, const struct laid *d) {
 /* ---- lengths ---- */
 
 static size_t spoiled_length(struct source *s, size_t right, size_t others, size_t most) {
-    unsigned choice = below(s, 5);
-    size_t length = choice == 0 ? 0 : choice == 1 ? right - 1 : choice == 2 ? right + 1 : choice == 3 ? others : below(s, (unsigned)most);
+    size_t lengths[] = {0, right - 1, right + 1, others, below(s, (unsigned)most)}, length = lengths[below(s, 5)];
     return length <= most ? length : 0;
+}
+
+/* One of them wrong, or room for another number of frontiers. */
+static void spoil_lengths(struct source *s, const struct layout *form, unsigned room, size_t *lengths) {
+    unsigned wrong = below(s, 6), others = between(s, 1, chance(s, 50) || room == ROOM ? ROOM : room + 1);
+    switch (wrong) {
+    case 0: case 2: lengths[wrong] = spoiled_length(s, lengths[wrong], lengths[2 - wrong], 2 * RECORD_MOST); break;
+    case 1: case 3: lengths[wrong] = spoiled_length(s, lengths[wrong], lengths[4 - wrong], WINDOW_MOST); break;
+    case 4: lengths[1] = form->frontier * others; break;
+    default: lengths[3] = other_form(form)->frontier * others;
+    }
 }
 
 /* ---- moves ---- */
@@ -123,7 +130,6 @@ static uint64_t move_and_compare(struct moved *m) {
     if (!lent_intact(&m->record) || !lent_intact(&m->window) || !lent_intact(&m->to_record) ||
         !lent_intact(&m->to_window))
         differs("a byte outside the buffers changed");
-    moves++;
     return reply;
 }
 
@@ -164,11 +170,7 @@ void move_excursion(struct source *s, const struct twin *t, bool damaged) {
     memcpy(window, t->window.bytes, lengths[1] < t->window.length ? lengths[1] : t->window.length);
     struct laid bytes = {form, record, window, (unsigned)room};
     if (damaged) prepare(s, &bytes);
-    unsigned wrong = damaged ? below(s, 40) : 4;
-    if (wrong == 0 || wrong == 2) lengths[wrong] = spoiled_length(s, lengths[wrong], lengths[2 - wrong], 2 * RECORD_MOST);
-    if (wrong == 1 || wrong == 3) lengths[wrong] = spoiled_length(s, lengths[wrong], lengths[4 - wrong], WINDOW_MOST);
-    if (wrong == 4 && damaged) lengths[1] = form->frontier * between(s, 1, ROOM);
-    if (wrong == 5) lengths[3] = to->frontier * between(s, 1, chance(s, 50) ? ROOM : (unsigned)room + 1);
+    if (damaged && chance(s, 15)) spoil_lengths(s, form, (unsigned)room, lengths);
     lend_copy(s, &m->record, record, lengths[0], form->record);
     lend_copy(s, &m->window, window, lengths[1], WINDOW_MOST);
     lend_junk(s, &m->to_record, lengths[2], m->to_record_expected);

@@ -48,10 +48,14 @@ void differs(const char *format, ...) {
 }
 
 void fill_junk(struct source *s, uint8_t *bytes, size_t length) {
-    for (size_t i = 0; i < length; i++) bytes[i] = (uint8_t)draw(s);
+    for (size_t i = 0; i < length; i += 8) {
+        uint64_t word = draw(s);
+        memcpy(bytes + i, &word, length - i < 8 ? length - i : 8);
+    }
 }
 
 void compare_bytes(const char *name, const uint8_t *library, const uint8_t *expected, size_t length) {
+    if (memcmp(library, expected, length) == 0) return;
     for (size_t i = 0; i < length; i++)
         if (library[i] != expected[i]) differs("byte %zu of the %s is %u, expected %u", i, name, library[i], expected[i]);
 }

@@ -59,7 +59,8 @@ static void wrong_lengths(struct source *s, struct twin *t) {
         twin_find(t, below(s, 10));
         twin_close(t, random_process(s, t->model.k));
         const struct layout *to = other_form(form);
-        if (both_forms()) twin_move(t, s, to->record, to->frontier * (wrong / form->frontier));
+        size_t to_length = to->frontier * (wrong / form->frontier);
+        if (both_forms()) twin_move(t, s, to->record, to_length <= WINDOW_MOST ? to_length : to->frontier);
     }
     if (record_length != form->record) twin_offer(t, random_sent(s, t->model.k, form->most));
     twin_take(t, s, scratch_length);

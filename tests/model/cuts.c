@@ -53,8 +53,9 @@ bool precedes(const struct cuts *all, const struct event *e, const struct cut *s
         if (involved(e, p) && s->counts[p] == all->begin[p]) return false;
         before[p] = s->counts[p] - involved(e, p);
     }
+    if (!ready(e, before)) return false;
     *place = cut_place(all, before);
-    return all->cut[*place].consistent && ready(e, before);
+    return all->cut[*place].consistent;
 }
 
 static bool largest(const struct cuts *all, const struct cut *s) {
