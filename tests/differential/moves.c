@@ -67,7 +67,7 @@ static void lay_junk(struct source *s, const struct laid *d) {
     if (chance(s, 50)) fill_junk(s, d->record + form->table_at + 3 * d->record[1], 3 * (LINES - d->record[1]));
 }
 
-/* As it stands, damaged, or junk; then mostly small enough to be moved, but for a count or two about where that ends. */
+/* As it stands, damaged, or junk; then mostly small enough to be moved, but for a count or two where that ends. */
 static void prepare(struct source *s, const struct laid *d) {
     unsigned choice = below(s, 10);
     if (choice < 5) lay_junk(s, d);
