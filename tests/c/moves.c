@@ -123,10 +123,12 @@ static void check_goes_on(void) {
     CHECK(WATCH_TOO_LARGE == 43);
 }
 
-/* 43 by each count there is, one at a time: 65,535 is moved and 65,536 is not, wherever it stands. */
+/* 43 by each count there is, one at a time: 65,535 is moved and 65,536 is not, wherever it stands. Where it would have
+ * gone stands junk, so that a byte written too early shows. */
 static void check_one_count(uint8_t *at) {
     memcpy(at, "\xff\xff\0\0", 4);
     CHECK_REPLY(narrow(), 0);
+    junk(&t.old.record), junk(&t.old.window);
     memcpy(at, "\0\0\1\0", 4);
     CHECK_REPLY(narrow(), refused(43));
     memcpy(at, "\0\0\0\x80", 4);

@@ -199,7 +199,10 @@ static void plant_ready(struct source *s, const struct laid *d, unsigned kept_fr
     unsigned n = between(s, 1, 5);
     if (record[0] < PROCESSES && chance(s, 20)) taken[form->width * between(s, record[0], 7)] = (uint8_t)below(s, 4);
     if (chance(s, 15)) taken[below(s, PROCESSES * form->width)] = (uint8_t)draw(s);
-    if (chance(s, 15)) put_count(form, taken + form->width * below(s, PROCESSES), brink(s, form->most));
+    if (chance(s, 20)) { /* often the largest, so that one more would be 0 */
+        unsigned p = below(s, chance(s, 80) && record[0] <= PROCESSES && record[0] > 0 ? record[0] : PROCESSES);
+        put_count(form, taken + form->width * p, chance(s, 50) ? form->most : brink(s, form->most));
+    }
     for (unsigned i = 0; i < n; i++) {
         struct sent e = ready_sent(s, form, record);
         lay_event(form, record + form->pending_at + form->event * i, e);
