@@ -95,6 +95,8 @@ static void check_past(struct subject *s) {
     CHECK_REPLY(offer(s, 1, 131071, 3, 0, 0, 0), held(4)); /* 65,535 in its low half */
     CHECK_REPLY(offer(s, 1, 65535, 65539, 0, 0, 1), refused(32));
     CHECK_REPLY(offer(s, 2, 65536 + 65534, 4, 0, 0, 0), held(5));
+    static const uint8_t ascending[4][4] = {{255, 255, 0, 0}, {0, 0, 1, 0}, {1, 0, 1, 0}, {255, 255, 1, 0}};
+    for (unsigned i = 0; i < 4; i++) CHECK(memcmp(s->record.bytes + PENDING + EVENT * i + 8, ascending[i], 4) == 0);
     for (unsigned i = 0; i < 3; i++) CHECK_REPLY(try_take(s), state(0, 2 + i));
     CHECK_REPLY(try_take(s), NOTHING_READY);
     CHECK(taken_of(s, 0) == 65537 && taken_of(s, 1) == 3 && cut_of(s, 3, 0) == 65537);
@@ -143,6 +145,16 @@ static void check_halves(struct subject *s) {
         late(s, 4, 2, (uint32_t[]){count, 9});
         lay(s->window.bytes, count ^ one);
         CHECK_REPLY(try_close(s, 1), closed(0));
+    }
+}
+
+/* All eight counts, four bytes of each, say whether it is the largest; what stands behind them says nothing. */
+static void check_largest(struct subject *s) {
+    for (unsigned byte = 0; byte < FRONTIER; byte++) {
+        late(s, 1, 8, (uint32_t[]){1, 257, 65537, 16777217, last, 5, 6, 7});
+        s->record.bytes[3] = 0x7f;
+        s->window.bytes[byte] ^= 4;
+        CHECK_REPLY(try_close(s, 7), closed(byte < 32 ? 0 : 1));
     }
 }
 
@@ -206,6 +218,7 @@ void test_wide(void) {
     check_past(&s);
     check_last(&s);
     check_halves(&s);
+    check_largest(&s);
     check_grid(&s, 250);
     check_grid(&s, 65531);
     check_grid(&s, 16777211);
