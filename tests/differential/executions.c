@@ -59,7 +59,7 @@ static void read_notes(struct source *s, const struct execution *x, const unsign
 }
 
 struct execution random_execution(struct source *s, struct shape shape) {
-    struct execution x = {.k = shape.k};
+    struct execution x = {.k = shape.k, .limit = shape.limit};
     unsigned done[PROCESSES];
     uint64_t ended = 0, all = (1u << shape.k) - 1;
     memcpy(x.begin, shape.begin, sizeof x.begin);
@@ -219,6 +219,20 @@ unsigned brink(struct source *s, unsigned most) {
     static const unsigned ends[] = {255, 65535, 65535, 65535, 16777215, 2147483647, 4294967295, 4294967295};
     unsigned end = ends[below(s, most > 65535 ? 8 : 4)], off = below(s, 3);
     return chance(s, 50) ? end - off : (end + off) & most;
+}
+
+static unsigned begin_count(struct source *s, unsigned most) {
+    unsigned choice = below(s, 10), end = brink(s, most);
+    if (choice < 2) return between(s, 1, 5);
+    if (choice < 3) return between(s, 250, 256);
+    if (choice < 7 || most == 65535) return between(s, 65526, 65535);
+    return end == 0 || chance(s, 60) ? most - below(s, 8) : end;
+}
+
+void random_begin(struct source *s, struct shape *shape, unsigned most) {
+    unsigned highest = chance(s, 50) ? 65535 : most;
+    for (unsigned p = 0; p < shape->k; p++) shape->begin[p] = begin_count(s, highest);
+    shape->limit = most;
 }
 
 struct sent random_sent(struct source *s, unsigned k, unsigned most) {

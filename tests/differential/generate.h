@@ -22,7 +22,7 @@ struct sent {
 
 struct execution {
     unsigned k, n;
-    unsigned begin[8];              /* so many events of each process went before, and all processes know of them */
+    unsigned begin[8], limit;       /* as in its shape */
     struct sent event[EVENTS_MOST]; /* in an order in which they could have happened */
 };
 
@@ -59,6 +59,10 @@ struct sent nearly(struct source *s, struct sent e, unsigned k, unsigned most);
 
 /* Numbers that need not be an event. */
 struct sent random_sent(struct source *s, unsigned k, unsigned most);
+
+/* Into the shape: a beginning shortly before the counts of one byte, of two, or of the form end, with this as the
+ * largest. A process that has reached it does nothing more. In half of the cases no count is above 65,535 then. */
+void random_begin(struct source *s, struct shape *shape, unsigned most);
 
 /* A count at which something ends: what one byte, two or three hold, the largest, the one after it. */
 unsigned brink(struct source *s, unsigned most);

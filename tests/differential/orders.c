@@ -83,12 +83,24 @@ static uint64_t list_close(struct list *l, uint64_t process) {
     return reply;
 }
 
-static void list_open(struct list *l, const uint8_t *text, size_t length, unsigned k, uint64_t labels, unsigned room) {
+/* How both lists begin. */
+struct opening {
+    uint8_t text[TEXT_MOST];
+    size_t length;
+    unsigned k;
+    uint64_t labels;
+    bool late; /* as if so many events of each process had come before, in both lists the same */
+    unsigned begin[PROCESSES];
+};
+
+static void list_open(struct list *l, const struct opening *o, unsigned room) {
     const struct layout *form = l->twin->form;
     memset(l->twin->window_bytes, 0, WINDOW_MOST);
     twin_lend(l->twin, l->source, form->record, form->frontier * room);
     l->verdicts.n = 0;
-    report(l, twin_open(l->twin, text, length, k, labels));
+    uint64_t reply = twin_open(l->twin, o->text, o->length, o->k, o->labels);
+    if (o->late) twin_begin_late(l->twin, l->source, o->begin);
+    else report(l, reply);
 }
 
 static bool lend_more(struct list *l) {
@@ -211,16 +223,21 @@ static bool other_run(struct list *l, const struct list *first) {
 }
 
 /* An event behind the last of these processes, with a clock that forgets: it shares no process and count with any
- * other, and what it forgets is forgotten in every order. */
-static struct sent forgetful_end(struct source *s, const struct execution *x, uint64_t mask) {
+ * other, and what it forgets is forgotten in every order. False if one of them has no further count. */
+static bool forgetful_end(struct source *s, const struct execution *x, uint64_t mask, struct sent *end) {
     struct sent e = {.mask = mask};
-    unsigned clock[PROCESSES] = {0};
+    unsigned clock[PROCESSES];
+    memcpy(clock, x->begin, sizeof clock);
     e.labels = random_labels(s, mask);
     for (unsigned i = 0; i < x->n; i++)
         for (unsigned p = 0; p < PROCESSES; p++)
             if (mask & x->event[i].mask & (uint64_t)1 << p) learn(x, p, x->event[i].count[p], clock);
-    for (unsigned p = 0; p < PROCESSES; p++) e.count[p] = clock[p] + (mask >> p & 1);
-    return forgetful(s, x, e);
+    for (unsigned p = 0; p < PROCESSES; p++) {
+        if (mask >> p & 1 && x->limit > 0 && clock[p] == x->limit) return false;
+        e.count[p] = clock[p] + (mask >> p & 1);
+    }
+    *end = forgetful(s, x, e);
+    return true;
 }
 
 /* The execution's events, perhaps without a lost one, and some that forget: ends, no two with a common process, and one
@@ -232,7 +249,7 @@ static void choose_events(struct source *s, const struct execution *x, bool lost
         uint64_t mask = (uint64_t)1 << p;
         if (!chance(s, 25)) continue;
         if (p + 1 < x->k && chance(s, 30)) mask |= (uint64_t)1 << ++p;
-        all->wrong[all->wrong_number++] = forgetful_end(s, x, mask);
+        if (forgetful_end(s, x, mask, &all->wrong[all->wrong_number])) all->wrong_number++;
     }
     if (lost) all->lost = x->event[missing];
     if (lost && chance(s, 60)) all->wrong[all->wrong_number++] = forgetful(s, x, all->lost);
@@ -290,28 +307,31 @@ static void compare_ends(const struct twin *one, const struct twin *two) {
 }
 
 void try_orders(struct source *s, struct twin *t, struct twin *other, bool large) {
-    uint8_t text[TEXT_MOST];
+    static struct opening o;
     static struct list one, two;
     static struct events all;
     struct shape shape = {.k = between(s, 1, 8), .most = large ? 1000000 : 1500};
     bool lost = chance(s, 40); /* then the events behind the lost one stay pending, and there is place for 32 */
-    unsigned k = shape.k;
+    t->form = other->form = random_form(s);
+    o.late = chance(s, 20);
+    if (o.late) random_begin(s, &shape, t->form->most);
     shape.n = between(s, 2, !large ? 12 : lost ? 24 : 60);
     shape.joint = between(s, 10, 70);
     shape.messages = random_messages(s);
     shape.ending = chance(s, 40) ? between(s, 5, 40) : 0;
     struct execution x = random_execution(s, shape);
-    choose_events(s, &x, lost, &all);
-    size_t length = random_rule(s, k, between(s, 1, 64), text);
-    uint64_t labels = random_labels(s, (1u << k) - 1);
+    choose_events(s, &x, lost && x.n > 0, &all);
+    memcpy(o.begin, shape.begin, sizeof o.begin);
+    o.k = shape.k;
+    o.length = random_rule(s, o.k, between(s, 1, 64), o.text);
+    o.labels = random_labels(s, (1u << o.k) - 1);
     one = (struct list){.source = s, .twin = t, .large = large, .early = chance(s, 40)};
     two = (struct list){.source = s, .twin = other, .large = large};
-    t->form = other->form = random_form(s);
-    list_open(&one, text, length, k, labels, between(s, 1, 30));
+    list_open(&one, &o, between(s, 1, 30));
     shuffle(s, all.event, all.n, false);
     bool ended = list_run(&one, &all);
     note("the other order\n");
-    list_open(&two, text, length, k, labels, between(s, 1, ROOM));
+    list_open(&two, &o, between(s, 1, ROOM));
     struct events *same = &one.not_named;
     shuffle(s, same->event, same->n, chance(s, 50) && same->n <= 32);
     if (ended && other_run(&two, &one)) compare_ends(t, other), compare_finds(t, other);

@@ -257,23 +257,11 @@ void try_late(struct source *s, struct twin *t) {
     walk(s, t, &x, 30, closing);
 }
 
-/* Shortly before the counts of one byte, of two, or of the wide form end; the others anywhere. Processes at the last
- * count do nothing more. Wide watches near 65,535 can be moved back until one of them is past it. */
-static unsigned random_begin(struct source *s, const struct layout *form, bool movable) {
-    unsigned choice = below(s, 10);
-    if (choice < 2) return between(s, 1, 5);
-    if (choice < 3) return between(s, 250, 256);
-    if (choice < 7 || movable || form == &narrow_form) return between(s, 65526, 65535);
-    unsigned end = brink(s, form->most);
-    return end == 0 || chance(s, 60) ? 4294967295 - below(s, 8) : end;
-}
-
+/* Wide watches near 65,535 can be moved back until some process is past it. */
 void try_late_begin(struct source *s, struct twin *t) {
     struct shape shape = {.k = between(s, 1, 8), .most = 800};
-    bool movable = chance(s, 50);
     start_watch(s, t, shape.k, random_room(s));
-    for (unsigned p = 0; p < shape.k; p++) shape.begin[p] = random_begin(s, t->form, movable);
-    shape.limit = t->form->most;
+    random_begin(s, &shape, t->form->most);
     shape.n = between(s, 1, 14);
     shape.joint = chance(s, 50) ? 15 : 50;
     shape.messages = random_messages(s);
