@@ -1,5 +1,6 @@
-/* The library's calls beside plain C ones (plain.c), the same work in the same run: medians, and their ratio. Prints a table in markdown.
- * Both sides' replies and bytes are compared after each piece of work; a difference ends the run with 1. Build and run: make bench */
+/* The library's calls beside plain C ones (plain.c), the same work in the same run: medians, and their ratio. Prints a
+ * table in markdown. Both sides' replies and bytes are compared after each piece of work; a difference ends the run
+ * with 1. Build and run: make bench */
 #define _POSIX_C_SOURCE 199309L
 #include <stdbool.h>
 #include <stdio.h>
@@ -7,7 +8,7 @@
 #include <string.h>
 #include <time.h>
 
-#include "../include/watch.h"
+#include "../tests/wide.h"
 #include "plain.h"
 
 #define RULE_8 "(ey (and (es (at 0 0) (at 1 0)) (as (at 0 1) (at 1 1))))"
@@ -15,32 +16,53 @@
     "(not (and (ep (at 1 7)) (and (or (at 0 6) (at 1 6)) (and (ep (and (at 0 0) (at 1 0))) (and (ah (at 0 1)) (and (eh (at 1 1)) (and " \
     "(ap (at 0 2)) (and (ay (at 1 2)) (and (ey (at 0 3)) (and (es (at 0 4) (at 1 4)) (as (at 0 5) (at 1 5))))))))))))"
 
-enum { ROUNDS = 301, WINDOW = WATCH_FRONTIER_BYTES * WATCH_ROOM };
+enum { ROUNDS = 301, WINDOW = WATCH32_FRONTIER_BYTES * WATCH_ROOM };
 
-/* One side: its five calls, its watch, and a digest of its replies. */
+/* One side: its calls, its watch, where a move of it goes, and a digest of its replies. */
 struct side {
     uint64_t (*open)(const uint8_t *, size_t, uint64_t, uint64_t, uint8_t *, size_t, uint8_t *, size_t);
     uint64_t (*offer)(uint64_t, uint64_t, uint64_t, uint64_t, uint8_t *, size_t);
+    uint64_t (*offer32)(uint64_t, uint64_t, uint64_t, uint64_t, uint64_t, uint64_t, uint8_t *, size_t);
     uint64_t (*take)(uint8_t *, size_t, uint8_t *, size_t, uint8_t *, size_t);
     uint64_t (*find)(uint64_t, const uint8_t *, size_t, const uint8_t *, size_t);
     uint64_t (*close)(uint64_t, uint8_t *, size_t, uint8_t *, size_t);
-    uint8_t record[WATCH_RECORD_BYTES], window[WINDOW], scratch[WINDOW];
+    uint64_t (*move)(const uint8_t *, size_t, const uint8_t *, size_t, uint8_t *, size_t, uint8_t *, size_t);
+    uint8_t record[WATCH32_RECORD_BYTES], window[WINDOW], scratch[WINDOW];
+    uint8_t to_record[WATCH32_RECORD_BYTES], to_window[WINDOW];
     uint64_t digest;
     double times[ROUNDS];
 };
 
-static struct side proved = {
-    .open = watch_open, .offer = watch_offer, .take = watch_take, .find = watch_find, .close = watch_close};
-static struct side plain = {
-    .open = plain_open, .offer = plain_offer, .take = plain_take, .find = plain_find, .close = plain_close};
+static struct side proved, plain;
 
 /* A piece of work starts each time from these bytes. */
 static struct {
-    uint8_t record[WATCH_RECORD_BYTES], window[WINDOW];
+    bool wide; /* the form: of the record's bytes and of a frontier's */
+    size_t record_length, frontier;
+    uint8_t record[WATCH32_RECORD_BYTES], window[WINDOW];
     size_t length; /* of the window that is lent */
     unsigned k;
     const char *rule;
 } saved;
+
+/* From here on the calls of this form. */
+static void choose_form(bool wide) {
+    saved.wide = wide;
+    saved.record_length = wide ? WATCH32_RECORD_BYTES : WATCH_RECORD_BYTES;
+    saved.frontier = wide ? WATCH32_FRONTIER_BYTES : WATCH_FRONTIER_BYTES;
+    proved.open = wide ? watch32_open : watch_open, plain.open = wide ? plain32_open : plain_open;
+    proved.offer = watch_offer, plain.offer = plain_offer;
+    proved.offer32 = watch32_offer, plain.offer32 = plain32_offer;
+    proved.take = wide ? watch32_take : watch_take, plain.take = wide ? plain32_take : plain_take;
+    proved.find = wide ? watch32_find : watch_find, plain.find = wide ? plain32_find : plain_find;
+    proved.close = wide ? watch32_close : watch_close, plain.close = wide ? plain32_close : plain_close;
+    proved.move = wide ? watch_narrow : watch_widen, plain.move = wide ? plain32_move : plain_move;
+}
+
+/* The bytes of so many frontiers. */
+static size_t room_for(size_t frontiers) {
+    return saved.frontier * frontiers;
+}
 
 static double now(void) {
     struct timespec t;
@@ -54,24 +76,30 @@ static void seen(struct side *s, uint64_t reply) {
 
 static uint64_t open_watch(struct side *s) {
     const uint8_t *rule = (const uint8_t *)saved.rule;
-    uint64_t reply = s->open(rule, strlen(saved.rule), saved.k, 0, s->record, sizeof s->record, s->window, saved.length);
+    uint64_t reply = s->open(rule, strlen(saved.rule), saved.k, 0, s->record, saved.record_length, s->window,
+                             saved.length);
     seen(s, reply);
     return reply;
 }
 
 /* An event of the mask's processes with this clock and labels made from it. */
-static uint64_t offer_event(struct side *s, unsigned mask, const uint16_t *counts) {
+static uint64_t offer_event(struct side *s, unsigned mask, const uint32_t *c) {
     uint64_t labels = 0, reply;
     for (unsigned p = 0; p < 8; p++)
-        if (mask >> p & 1) labels |= (uint64_t)(counts[p] * 37u % 251 & 255) << 8 * p;
-    reply = s->offer(mask, watch_counts(counts[0], counts[1], counts[2], counts[3]),
-                     watch_counts(counts[4], counts[5], counts[6], counts[7]), labels, s->record, sizeof s->record);
+        if (mask >> p & 1) labels |= (uint64_t)(c[p] * 37u % 251 & 255) << 8 * p;
+    if (saved.wide)
+        reply = s->offer32(mask, watch32_counts(c[0], c[1]), watch32_counts(c[2], c[3]), watch32_counts(c[4], c[5]),
+                           watch32_counts(c[6], c[7]), labels, s->record, saved.record_length);
+    else
+        reply = s->offer(mask, watch_counts((uint16_t)c[0], (uint16_t)c[1], (uint16_t)c[2], (uint16_t)c[3]),
+                         watch_counts((uint16_t)c[4], (uint16_t)c[5], (uint16_t)c[6], (uint16_t)c[7]), labels,
+                         s->record, saved.record_length);
     seen(s, reply);
     return reply;
 }
 
 static uint64_t take_event(struct side *s) {
-    uint64_t reply = s->take(s->record, sizeof s->record, s->window, saved.length, s->scratch, saved.length);
+    uint64_t reply = s->take(s->record, saved.record_length, s->window, saved.length, s->scratch, saved.length);
     seen(s, reply);
     return reply;
 }
@@ -105,11 +133,16 @@ static double median(double *times, unsigned n) {
 
 static void compare_sides(const char *name) {
     if (proved.digest == plain.digest && memcmp(proved.record, plain.record, sizeof plain.record) == 0 &&
-        memcmp(proved.window, plain.window, saved.length) == 0 && memcmp(proved.scratch, plain.scratch, saved.length) == 0)
+        memcmp(proved.window, plain.window, saved.length) == 0 &&
+        memcmp(proved.scratch, plain.scratch, saved.length) == 0 &&
+        memcmp(proved.to_record, plain.to_record, sizeof plain.to_record) == 0 &&
+        memcmp(proved.to_window, plain.to_window, sizeof plain.to_window) == 0)
         return;
     printf("the two sides differ after: %s\n", name);
     exit(1);
 }
+
+static const char *heading = "";
 
 /* Both sides in turn; units: how many calls the work has, for the time of one. */
 static void measure(const char *name, work *w, unsigned units, unsigned rounds) {
@@ -120,7 +153,7 @@ static void measure(const char *name, work *w, unsigned units, unsigned rounds) 
     }
     compare_sides(name);
     double a = median(proved.times, rounds) / units, b = median(plain.times, rounds) / units;
-    printf("| %s | %u | %.2f | %.2f | %.2f |\n", name, watch_kept(plain.record), a, b, a / b);
+    printf("| %s%s | %u | %.2f | %.2f | %.2f |\n", heading, name, watch_kept(plain.record), a, b, a / b);
     fflush(stdout);
 }
 
@@ -135,18 +168,18 @@ static void save(const struct side *s) {
 
 /* Free events of k processes in turn. Measured: each take that first reaches so many frontiers, and the last one before the room ends. */
 static void wide(unsigned k, const char *rule, const char *lines, bool curve) {
-    uint16_t reached[8] = {0};
+    uint32_t reached[8] = {0};
     unsigned shown = 8;
     char name[80];
-    saved.k = k, saved.rule = rule, saved.length = WINDOW;
+    saved.k = k, saved.rule = rule, saved.length = room_for(WATCH_ROOM);
     start_over(&plain);
     open_watch(&plain);
     for (unsigned turn = 0;; turn++) {
         unsigned p = turn % k;
-        uint16_t clock[8] = {0};
+        uint32_t clock[8] = {0};
         clock[p] = ++reached[p];
         offer_event(&plain, 1u << p, clock);
-        uint8_t before[WATCH_RECORD_BYTES];
+        uint8_t before[WATCH32_RECORD_BYTES];
         static uint8_t window_before[WINDOW];
         memcpy(before, saved.record, sizeof before);
         memcpy(window_before, saved.window, sizeof window_before);
@@ -175,11 +208,11 @@ enum { STREAM = 2000 };
 
 /* Twice process 0, twice process 1, then both: two to five frontiers, then one. */
 static void stream(struct side *s) {
-    uint16_t met[8] = {0}, reached[8] = {0};
+    uint32_t met[8] = {0}, reached[8] = {0};
     open_watch(s);
     for (unsigned i = 0; i < STREAM; i++) {
         unsigned turn = i % 5, mask = turn < 2 ? 1 : turn < 4 ? 2 : 3;
-        uint16_t clock[8];
+        uint32_t clock[8];
         memcpy(clock, met, sizeof clock);
         for (unsigned p = 0; p < 2; p++)
             if (mask >> p & 1) clock[p] = ++reached[p];
@@ -195,21 +228,21 @@ enum { BATCHES = 20, FINDS = 20, OPENS = 20, REPEATS = 20 };
 
 static void reversed(struct side *s) {
     open_watch(s);
-    for (uint16_t batch = 0; batch < BATCHES; batch++) {
-        for (uint16_t i = 32; i > 0; i--) offer_event(s, 1, (uint16_t[8]){(uint16_t)(32 * batch + i)});
+    for (uint32_t batch = 0; batch < BATCHES; batch++) {
+        for (uint32_t i = 32; i > 0; i--) offer_event(s, 1, (uint32_t[8]){32 * batch + i});
         for (unsigned i = 0; i < 32; i++) take_event(s);
     }
 }
 
 /* Each of 32 pending events once more. */
 static void sent_again(struct side *s) {
-    for (unsigned i = 0; i < 32 * REPEATS; i++) offer_event(s, 1, (uint16_t[8]){(uint16_t)(2 + i % 32)});
+    for (unsigned i = 0; i < 32 * REPEATS; i++) offer_event(s, 1, (uint32_t[8]){2 + i % 32});
 }
 
 static void repeats(void) {
-    saved.k = 1, saved.rule = "(ep (at 0 0))", saved.length = WATCH_WINDOW_BYTES(16);
+    saved.k = 1, saved.rule = "(ep (at 0 0))", saved.length = room_for(16);
     open_watch(&plain);
-    for (uint16_t i = 2; i < 34; i++) offer_event(&plain, 1, (uint16_t[8]){i});
+    for (uint32_t i = 2; i < 34; i++) offer_event(&plain, 1, (uint32_t[8]){i});
     save(&plain);
     measure("offer, one of 32 pending sent again", sent_again, 32 * REPEATS, 151);
 }
@@ -218,12 +251,12 @@ static void repeats(void) {
 enum { RARE_LINE = 2 };
 
 static void find_rare(struct side *s) {
-    for (unsigned i = 0; i < FINDS; i++) seen(s, s->find(RARE_LINE, s->record, sizeof s->record, s->window, saved.length));
+    for (unsigned i = 0; i < FINDS; i++) seen(s, s->find(RARE_LINE, s->record, saved.record_length, s->window, saved.length));
 }
 
 static void finds(void) {
     measure("find, full window, line true nowhere", find_rare, FINDS, ROUNDS);
-    saved.window[WATCH_FRONTIER_BYTES * watch_kept(saved.record) - 8] |= 1 << RARE_LINE;
+    saved.window[room_for(watch_kept(saved.record)) - 8] |= 1 << RARE_LINE;
     measure("find, full window, line true at the last alone", find_rare, FINDS, ROUNDS);
 }
 
@@ -235,11 +268,11 @@ static void nothing_ready(struct side *s) {
     for (unsigned i = 0; i < FINDS; i++) take_event(s);
 }
 
-static void small_pieces(void) {
+static void small_pieces(unsigned number) {
     static const size_t rooms[] = {16, 1024};
     char name[80];
-    for (unsigned i = 0; i < 2; i++) {
-        saved.k = 2, saved.rule = RULE_8, saved.length = WATCH_WINDOW_BYTES(rooms[i]);
+    for (unsigned i = 0; i < number; i++) {
+        saved.k = 2, saved.rule = RULE_8, saved.length = room_for(rooms[i]);
         snprintf(name, sizeof name, "offer and take, stream of 1 to 5 frontiers, room %zu", rooms[i]);
         measure(name, stream, STREAM, 51);
         saved.k = 1, saved.rule = "(ep (at 0 0))";
@@ -256,8 +289,8 @@ static void small_pieces(void) {
 
 /* ---- clocks: the kept frontiers are looked through for what an event knows of ---- */
 
-static uint64_t offer_next(struct side *s, unsigned p, const uint16_t *known) {
-    uint16_t clock[8];
+static uint64_t offer_next(struct side *s, unsigned p, const uint32_t *known) {
+    uint32_t clock[8];
     memcpy(clock, known, sizeof clock);
     clock[p]++;
     return offer_event(s, 1u << p, clock);
@@ -265,13 +298,13 @@ static uint64_t offer_next(struct side *s, unsigned p, const uint16_t *known) {
 
 /* Free events of k processes in turn, until the window is full or one stays pending for want of room. The counts taken
  * go into reached. */
-static void fill(unsigned k, uint16_t *reached) {
-    saved.k = k, saved.rule = RULE_8, saved.length = WINDOW;
+static void fill(unsigned k, uint32_t *reached) {
+    saved.k = k, saved.rule = RULE_8, saved.length = room_for(WATCH_ROOM);
     start_over(&plain);
     open_watch(&plain);
     memset(reached, 0, 8 * sizeof *reached);
     for (unsigned p = 0; watch_kept(plain.record) < WATCH_ROOM; p = (p + 1) % k) {
-        uint16_t known[8] = {0};
+        uint32_t known[8] = {0};
         known[p] = reached[p];
         offer_next(&plain, p, known);
         if (watch_number(take_event(&plain)) == WATCH_NO_ROOM) return;
@@ -281,7 +314,7 @@ static void fill(unsigned k, uint16_t *reached) {
 
 /* The last frontier is the one; then one that is not kept is looked for; then each of eight ready events is tried. */
 static void clocks(void) {
-    uint16_t known[8], reached[8];
+    uint32_t known[8], reached[8];
     fill(2, known);
     offer_next(&plain, 0, known);
     save(&plain);
@@ -307,7 +340,7 @@ static void clocks(void) {
 static unsigned to_close;
 
 static void one_close(struct side *s) {
-    seen(s, s->close(to_close, s->record, sizeof s->record, s->window, saved.length));
+    seen(s, s->close(to_close, s->record, saved.record_length, s->window, saved.length));
 }
 
 static void measure_close(const char *name, unsigned process) {
@@ -318,11 +351,11 @@ static void measure_close(const char *name, unsigned process) {
 
 /* Only process 1 has events: process 0 keeps every frontier, and process 1 only the last. */
 static void fill_alone(void) {
-    saved.k = 2, saved.rule = RULE_8, saved.length = WINDOW;
+    saved.k = 2, saved.rule = RULE_8, saved.length = room_for(WATCH_ROOM);
     start_over(&plain);
     open_watch(&plain);
-    for (uint16_t n = 0; watch_kept(plain.record) < WATCH_ROOM; n++) {
-        offer_next(&plain, 1, (uint16_t[8]){0, n});
+    for (uint32_t n = 0; watch_kept(plain.record) < WATCH_ROOM; n++) {
+        offer_next(&plain, 1, (uint32_t[8]){0, n});
         take_event(&plain);
     }
 }
@@ -330,7 +363,7 @@ static void fill_alone(void) {
 /* The highest process that the event which found no room does not name: while that is pending, its processes cannot be
  * closed. */
 static unsigned last_not_named(unsigned k) {
-    const uint8_t *pending = plain.record + 344;
+    const uint8_t *pending = plain.record + (saved.wide ? 488 : 344);
     unsigned p = k - 1;
     while (watch_pending(plain.record) > 0 && pending[0] >> p & 1) p--;
     return p;
@@ -338,7 +371,7 @@ static unsigned last_not_named(unsigned k) {
 
 /* Wide windows, of which some part goes; then all frontiers but one; then none. */
 static void closes(void) {
-    uint16_t reached[8];
+    uint32_t reached[8];
     char name[80];
     for (unsigned k = 2; k <= 8; k *= 2) {
         fill(k, reached);
@@ -351,7 +384,51 @@ static void closes(void) {
     measure_close("close, of 1,024 frontiers none dropped", 1);
 }
 
+/* ---- the wide form, and moves ---- */
+
+static void one_move(struct side *s) {
+    size_t record = saved.wide ? WATCH_RECORD_BYTES : WATCH32_RECORD_BYTES, room = saved.length / saved.frontier;
+    size_t window = saved.wide ? WATCH_WINDOW_BYTES(room) : WATCH32_WINDOW_BYTES(room);
+    uint64_t reply = s->move(s->record, saved.record_length, s->window, saved.length, s->to_record, record,
+                             s->to_window, window);
+    seen(s, reply);
+}
+
+static void moves(void) {
+    for (unsigned wide = 0; wide < 2; wide++) {
+        choose_form(wide);
+        fill_alone();
+        save(&plain);
+        measure(wide ? "narrow, room 1024" : "widen, room 1024", one_move, 1, ROUNDS);
+        saved.length = room_for(16);
+        start_over(&plain);
+        open_watch(&plain);
+        save(&plain);
+        measure(wide ? "narrow, room 16" : "widen, room 16", one_move, 1, ROUNDS);
+    }
+}
+
+/* The dearest lines of each kind. */
+static void wide_form(void) {
+    choose_form(true);
+    heading = "wide form: ";
+    wide(2, RULE_8, "8", false);
+    wide(4, RULE_8, "8", false);
+    wide(8, RULE_8, "8", false);
+    wide(8, RULE_64, "64", false);
+    saved.rule = "(ep (at 1 7))";
+    wide(2, saved.rule, "6", false);
+    save(&plain);
+    finds();
+    small_pieces(1);
+    repeats();
+    clocks();
+    closes();
+    heading = "";
+}
+
 int main(void) {
+    choose_form(false);
     printf("| work | frontiers after | proved (us a call) | plain C (us) | ratio |\n|---|---|---|---|---|\n");
     wide(2, RULE_8, "8", true);
     wide(4, RULE_8, "8", true);
@@ -363,9 +440,11 @@ int main(void) {
     wide(2, saved.rule, "6", false);
     save(&plain);
     finds();
-    small_pieces();
+    small_pieces(2);
     repeats();
     clocks();
     closes();
+    wide_form();
+    moves();
     return 0;
 }

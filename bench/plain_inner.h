@@ -1,4 +1,6 @@
-/* What the files of the plain C version share: layouts, unaligned reads, the step of a window. Little-endian machines only. */
+/* What the files of the plain C version share: layouts, unaligned reads, the step of a window. Little-endian machines
+ * only. They are compiled once for each stored form: COUNT_BYTES is 2, or 4 in the wide form (plain_wide.c and
+ * plain_step_wide.c). */
 #ifndef PLAIN_INNER_H
 #define PLAIN_INNER_H
 
@@ -7,14 +9,31 @@
 
 #include "plain.h"
 
+#ifndef COUNT_BYTES
+#define COUNT_BYTES 2
+#endif
+
+#if COUNT_BYTES == 2
+typedef uint16_t count;
+typedef uint32_t other_count;
+#define PLAIN(name) plain_##name
+#else
+typedef uint32_t count;
+typedef uint16_t other_count;
+#define PLAIN(name) plain32_##name
+#endif
+
 enum {
     PROCESSES = 8, LINES = 64, PENDING = 32, ROOM = 1024,
-    FRONTIER = 40, LABELS_AT = 16, MASKS_AT = 24, VALUES_AT = 32,
-    RECORD = 1368, CLOSED_AT = 3, TAKEN_AT = 8, CLOCKS_AT = 24, TABLE_AT = 152, PENDING_AT = 344, EVENT = 32
+    CLOCK = PROCESSES * COUNT_BYTES, FRONTIER = CLOCK + 24,
+    LABELS_AT = CLOCK, MASKS_AT = CLOCK + 8, VALUES_AT = CLOCK + 16,
+    EVENT = 8 + CLOCK + 8, EVENT_LABELS_AT = 8 + CLOCK,
+    CLOSED_AT = 3, TAKEN_AT = 8, CLOCKS_AT = 8 + CLOCK, TABLE_AT = 8 + 9 * CLOCK, PENDING_AT = TABLE_AT + 3 * LINES,
+    RECORD = PENDING_AT + PENDING * EVENT
 };
 
 struct counts {
-    uint16_t at[PROCESSES];
+    count at[PROCESSES];
 };
 
 static inline struct counts load(const uint8_t *from) {
@@ -47,7 +66,7 @@ static inline void store_kept(uint8_t *record, uint32_t kept) {
 static inline struct counts open_lanes(const uint8_t *record) {
     struct counts open;
     for (unsigned p = 0; p < PROCESSES; p++)
-        open.at[p] = (uint16_t)-(p < record[0] && !(record[CLOSED_AT] >> p & 1));
+        open.at[p] = (count)-(p < record[0] && !(record[CLOSED_AT] >> p & 1));
     return open;
 }
 
@@ -65,7 +84,7 @@ struct plain_rule {
 struct plain_rule plain_read_rule(const uint8_t *text, size_t length, unsigned k, uint8_t *table);
 
 /* The lines' truth at one cut. Any and all: what some, and what each, of the preceding cuts has; both 0 if nothing precedes. */
-uint64_t plain_judge(const uint8_t *table, unsigned lines, uint64_t labels, uint64_t any, uint64_t all);
+uint64_t PLAIN(judge)(const uint8_t *table, unsigned lines, uint64_t labels, uint64_t any, uint64_t all);
 
 /* The step of a window for one event. */
 struct step {
@@ -80,9 +99,9 @@ struct step {
 };
 
 /* Marks what stays and what grows, so that staying + grown frontiers would be kept. */
-void plain_mark(struct step *s, const uint8_t *event, const uint8_t *record, const uint8_t *window);
+void PLAIN(mark)(struct step *s, const uint8_t *event, const uint8_t *record, const uint8_t *window);
 
 /* Then: makes the window of what was marked. */
-void plain_step(const struct step *s, const uint8_t *record, uint8_t *window, uint8_t *scratch);
+void PLAIN(step)(const struct step *s, const uint8_t *record, uint8_t *window, uint8_t *scratch);
 
 #endif

@@ -2,7 +2,7 @@
  * into the scratch, and a merge in place goes from the window's end. */
 #include "plain_inner.h"
 
-uint64_t plain_judge(const uint8_t *table, unsigned lines, uint64_t labels, uint64_t any, uint64_t all) {
+uint64_t PLAIN(judge)(const uint8_t *table, unsigned lines, uint64_t labels, uint64_t any, uint64_t all) {
     uint64_t v = 0, bit;
     for (unsigned i = 0; i < lines; i++, table += 3) {
         unsigned a = table[1] & 63, b = table[2] & 63;
@@ -30,22 +30,22 @@ static inline bool enabled(const struct step *s, const struct counts *c) {
 
 static void prepare(struct step *s, const uint8_t *event, const uint8_t *record) {
     s->mask = event[0];
-    s->labels = load_word(event + 24);
+    s->labels = load_word(event + EVENT_LABELS_AT);
     s->clock = load(event + 8);
     s->reached = load(record + TAKEN_AT);
     s->open = open_lanes(record);
     s->kept = load_kept(record);
     for (unsigned p = 0; p < PROCESSES; p++) {
         unsigned in = s->mask >> p & 1;
-        s->ones.at[p] = (uint16_t)in;
-        s->involved.at[p] = (uint16_t)-in;
-        s->lowered.at[p] = (uint16_t)(s->clock.at[p] - in);
-        s->reached.at[p] = (uint16_t)(s->reached.at[p] + in);
+        s->ones.at[p] = (count)in;
+        s->involved.at[p] = (count)-in;
+        s->lowered.at[p] = (count)(s->clock.at[p] - in);
+        s->reached.at[p] = (count)(s->reached.at[p] + in);
     }
 }
 
 /* The largest cut is a new one, so of the old ones none stays as that. */
-void plain_mark(struct step *s, const uint8_t *event, const uint8_t *record, const uint8_t *window) {
+void PLAIN(mark)(struct step *s, const uint8_t *event, const uint8_t *record, const uint8_t *window) {
     prepare(s, event, record);
     s->staying = s->grown = 0;
     for (uint32_t i = 0; i < s->kept; i++) {
@@ -58,14 +58,17 @@ void plain_mark(struct step *s, const uint8_t *event, const uint8_t *record, con
 }
 
 /* Ascending by counts, process 0 first: the lowest lane that differs decides. */
+static inline int compare_lanes(uint64_t a, uint64_t b) {
+    unsigned lane = (unsigned)__builtin_ctzll(a ^ b) & (64 - 8 * COUNT_BYTES);
+    return (count)(a >> lane) < (count)(b >> lane) ? -1 : 1;
+}
+
 static inline int compare(const uint8_t *x, const uint8_t *y) {
-    uint64_t a = load_word(x), b = load_word(y);
-    if (a == b) {
-        a = load_word(x + 8), b = load_word(y + 8);
-        if (a == b) return 0;
+    for (unsigned at = 0; at < CLOCK; at += 8) {
+        uint64_t a = load_word(x + at), b = load_word(y + at);
+        if (a != b) return compare_lanes(a, b);
     }
-    unsigned lane = (unsigned)__builtin_ctzll(a ^ b) & 48;
-    return (a >> lane & 65535) < (b >> lane & 65535) ? -1 : 1;
+    return 0;
 }
 
 /* Looks for a cut among the n new ones, outward from a hint; the hint becomes the place behind it. */
@@ -111,7 +114,7 @@ static void lay_new(const struct step *s, const uint8_t *record, const uint8_t *
         const uint8_t *found = last ? look_up(laid, n, (const uint8_t *)&key, &hints[p]) : NULL;
         if (found != NULL) any |= load_word(found + VALUES_AT), all &= load_word(found + VALUES_AT);
     }
-    store_word(to + VALUES_AT, plain_judge(record + TABLE_AT, record[1], load_word(to + LABELS_AT), any, all));
+    store_word(to + VALUES_AT, PLAIN(judge)(record + TABLE_AT, record[1], load_word(to + LABELS_AT), any, all));
 }
 
 /* Moves the frontiers that stay to the front, in order. */
@@ -135,7 +138,7 @@ static void merge(const struct step *s, uint8_t *window, const uint8_t *laid) {
     }
 }
 
-void plain_step(const struct step *s, const uint8_t *record, uint8_t *window, uint8_t *scratch) {
+void PLAIN(step)(const struct step *s, const uint8_t *record, uint8_t *window, uint8_t *scratch) {
     uint32_t hints[PROCESSES] = {0}, n = 0, after = s->staying + s->grown;
     for (uint32_t i = 0; i < s->kept; i++)
         if (s->marks[i] & GROWS) lay_new(s, record, window + FRONTIER * i, scratch, n++, hints);

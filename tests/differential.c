@@ -22,6 +22,12 @@ static void try_case(uint64_t seed, uint64_t number) {
     } else if (number % 200 == 15) {
         case_begins(seed, number, "late counts");
         try_late(&s, &one);
+    } else if (number % 40 == 11 || number % 40 == 26 || number % 40 == 34) {
+        case_begins(seed, number, "a late beginning");
+        try_late_begin(&s, &one);
+    } else if (number % 40 == 21) {
+        case_begins(seed, number, "moves");
+        try_moves(&s, &one);
     } else if (number % 40 == 31) {
         case_begins(seed, number, "a crowd");
         try_crowd(&s, &one);

@@ -1,4 +1,4 @@
-/* The C test of the five calls, through include/watch.h. */
+/* The C test of the calls, through include/watch.h. */
 #include "subject.h"
 
 unsigned long checks, failures;
@@ -24,6 +24,8 @@ int main(void) {
     run("tests/c/find.c", test_find);
     run("tests/c/close.c", test_close);
     run("tests/c/edges.c", test_edges);
+    run("tests/c/wide.c", test_wide);
+    run("tests/c/moves.c", test_moves);
     run("tests/c/stack.c", test_stack);
     if (failures != 0) {
         printf("calls: %lu of %lu checks do not hold\n", failures, checks);

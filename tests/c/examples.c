@@ -11,22 +11,23 @@ static uint64_t a2(struct subject *s) { return offer(s, 1, 2, 0, 0, 0, 0); }
 static uint64_t b1(struct subject *s) { return offer(s, 2, 0, 1, 0, 0, 0x100); }
 
 static int counts_are(const struct subject *s, unsigned a, unsigned b) {
-    return watch_taken(s->record.bytes, 0) == a && watch_taken(s->record.bytes, 1) == b;
+    return taken_of(s, 0) == a && taken_of(s, 1) == b;
 }
 
 /* The frontier at a place: counts, labels and masks of the first two processes, and whether its last line holds. */
 static int frontier_is(const struct subject *s, size_t place, const uint8_t *expected) {
-    const uint8_t *f = s->window.bytes + 40 * place;
+    const uint8_t *behind = s->window.bytes + frontiers_bytes(s, place + 1) - 24; /* labels, masks and values */
     unsigned last = watch_lines(s->record.bytes) - 1;
-    return f[0] == expected[0] && f[2] == expected[1] && f[16] == expected[2] && f[17] == expected[3] && f[24] == expected[4] &&
-           f[25] == expected[5] && (f[32 + last / 8] >> last % 8 & 1) == expected[6];
+    return cut_of(s, place, 0) == expected[0] && cut_of(s, place, 1) == expected[1] && behind[0] == expected[2] &&
+           behind[1] == expected[3] && behind[8] == expected[4] && behind[9] == expected[5] &&
+           (behind[16 + last / 8] >> last % 8 & 1) == expected[6];
 }
 
 static void check_overlap_window(struct subject *s) {
     static const uint8_t expected[4][7] = {{0, 1, 0, 1, 0, 2, 0}, {1, 1, 1, 1, 1, 2, 1}, {2, 0, 0, 0, 1, 0, 0}, {2, 1, 0, 1, 1, 2, 1}};
     CHECK(counts_are(s, 2, 1) && watch_kept(s->record.bytes) == 4);
     for (size_t i = 0; i < 4; i++) CHECK(frontier_is(s, i, expected[i]));
-    CHECK(all_zero(s->window.bytes + 160, s->window.length - 160));
+    CHECK(all_zero(s->window.bytes + frontiers_bytes(s, 4), s->window.length - frontiers_bytes(s, 4)));
 }
 
 static void check_arrivals(struct subject *s) {
@@ -38,9 +39,9 @@ static void check_arrivals(struct subject *s) {
     CHECK_REPLY(b1(s), held(1));
     CHECK_REPLY(try_take(s), state(1, 4));
     check_overlap_window(s);
-    uint8_t window[320], record[WATCH_RECORD_BYTES];
-    memcpy(window, s->window.bytes, sizeof window);
-    memcpy(record, s->record.bytes, sizeof record);
+    uint8_t window[WATCH32_WINDOW_BYTES(8)], record[WATCH32_RECORD_BYTES];
+    memcpy(window, s->window.bytes, s->window.length);
+    memcpy(record, s->record.bytes, s->record.length);
     start(s, 8, 2, OVERLAP);
     b1(s);
     CHECK_REPLY(try_take(s), state(0, 2));
@@ -51,7 +52,8 @@ static void check_arrivals(struct subject *s) {
     a2(s);
     CHECK_REPLY(try_take(s), state(1, 4));
     check_overlap_window(s);
-    CHECK(memcmp(window, s->window.bytes, sizeof window) == 0 && memcmp(record, s->record.bytes, sizeof record) == 0);
+    CHECK(memcmp(window, s->window.bytes, s->window.length) == 0);
+    CHECK(memcmp(record, s->record.bytes, s->record.length) == 0);
     CHECK_REPLY(offer(s, 3, 3, 2, 0, 0, 0), held(1));
     CHECK_REPLY(try_take(s), state(1, 1));
     CHECK(counts_are(s, 3, 2));
@@ -85,7 +87,7 @@ static void check_message(struct subject *s) {
     CHECK_REPLY(try_take(s), state(1, 4));
     CHECK(counts_are(s, 3, 1));
     for (size_t i = 0; i < 4; i++) CHECK(frontier_is(s, i, expected[i]));
-    CHECK(all_zero(s->window.bytes + 160, s->window.length - 160));
+    CHECK(all_zero(s->window.bytes + frontiers_bytes(s, 4), s->window.length - frontiers_bytes(s, 4)));
     CHECK_REPLY(offer(s, 1, 4, 0, 0, 0, 0), held(1));
     CHECK_REPLY(try_take(s), refused(35));
     CHECK(watch_pending(s->record.bytes) == 0 && counts_are(s, 3, 1));
@@ -119,19 +121,19 @@ static void check_room(struct subject *s) {
     lend_room(s, 4);
     CHECK_REPLY(try_take(s), state(1, 4));
     check_overlap_window(s);
-    lend_again(&s->window, 41000, 0);
-    lend_junk(s, 41000);
+    lend_again(&s->window, frontiers_bytes(s, 1025), 0); /* 41,000 bytes in the old form */
+    lend_junk(s, s->window.length);
     CHECK_REPLY(try_take(s), refused(6));
     CHECK_REPLY(try_open(s, OVERLAP, 2, 0), refused(6));
 }
 
 static void check_twice(struct subject *s) {
-    uint8_t record[WATCH_RECORD_BYTES];
+    uint8_t record[WATCH32_RECORD_BYTES];
     start(s, 4, 2, OVERLAP);
     CHECK_REPLY(a1(s), held(1));
-    memcpy(record, s->record.bytes, sizeof record);
+    memcpy(record, s->record.bytes, s->record.length);
     CHECK_REPLY(a1(s), WATCH_AGAIN);
-    CHECK(memcmp(record, s->record.bytes, sizeof record) == 0);
+    CHECK(memcmp(record, s->record.bytes, s->record.length) == 0);
     CHECK_REPLY(offer(s, 1, 1, 0, 0, 0, 3), refused(32));
     CHECK_REPLY(try_take(s), state(0, 2));
     CHECK_REPLY(a1(s), refused(31));
@@ -155,8 +157,7 @@ static void check_program(struct subject *s) {
     check_overlap_window(s);
 }
 
-void test_examples(void) {
-    struct subject s = subject_new();
+static void check_all(struct subject s) {
     check_arrivals(&s);
     check_clocks(&s);
     check_message(&s);
@@ -165,4 +166,9 @@ void test_examples(void) {
     check_twice(&s);
     check_program(&s);
     subject_free(&s);
+}
+
+void test_examples(void) {
+    check_all(subject_new());
+    check_all(subject_wide());
 }

@@ -72,8 +72,8 @@ static void check_verdicts(struct subject *s) {
     CHECK_REPLY(try_take(s), state(1, 2));
     offer(s, 1, 2, 1, 0, 0, 0);
     CHECK_REPLY(try_take(s), state(1, 2));
-    CHECK(watch_cut(s->window.bytes, 0, 0) == 1 && watch_cut(s->window.bytes, 0, 1) == 1);
-    CHECK(watch_cut(s->window.bytes, 1, 0) == 2 && watch_cut(s->window.bytes, 1, 1) == 1);
+    CHECK(cut_of(s, 0, 0) == 1 && cut_of(s, 0, 1) == 1);
+    CHECK(cut_of(s, 1, 0) == 2 && cut_of(s, 1, 1) == 1);
 }
 
 /* What knows of an event waits for it. */
@@ -158,11 +158,12 @@ static void check_last_clocks(struct subject *s) {
 }
 
 void test_messages(void) {
-    struct subject s = subject_new();
-    check_fourth(&s);
-    check_verdicts(&s);
-    check_early(&s);
+    struct subject s = subject_new(), wide = subject_wide();
+    check_fourth(&s), check_fourth(&wide);
+    check_verdicts(&s), check_verdicts(&wide);
+    check_early(&s), check_early(&wide);
     check_laid(&s);
     check_last_clocks(&s);
     subject_free(&s);
+    subject_free(&wide);
 }

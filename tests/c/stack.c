@@ -40,6 +40,40 @@ static void do_close(void) {
                          at_work->window.length);
 }
 
+static struct subject *wide;
+
+static void do_wide_open(void) {
+    answer = watch32_open((const uint8_t *)deepest, sizeof deepest - 1, 2, 0, wide->record.bytes, wide->record.length,
+                          wide->window.bytes, wide->window.length);
+}
+
+static void do_wide_offer(void) {
+    answer = watch32_offer(2, watch32_counts(0, 300), 0, 0, 0, 0, wide->record.bytes, wide->record.length);
+}
+
+static void do_wide_take(void) {
+    answer = watch32_take(wide->record.bytes, wide->record.length, wide->window.bytes, wide->window.length,
+                          wide->scratch.bytes, wide->scratch.length);
+}
+
+static void do_wide_find(void) {
+    answer = watch32_find(0, wide->record.bytes, wide->record.length, wide->window.bytes, wide->window.length);
+}
+
+static void do_wide_close(void) {
+    answer = watch32_close(0, wide->record.bytes, wide->record.length, wide->window.bytes, wide->window.length);
+}
+
+static void do_widen(void) {
+    answer = watch_widen(at_work->record.bytes, at_work->record.length, at_work->window.bytes, at_work->window.length,
+                         wide->record.bytes, wide->record.length, wide->window.bytes, wide->window.length);
+}
+
+static void do_narrow(void) {
+    answer = watch_narrow(wide->record.bytes, wide->record.length, wide->window.bytes, wide->window.length,
+                          at_work->record.bytes, at_work->record.length, at_work->window.bytes, at_work->window.length);
+}
+
 /* How deep the call went into the painted stack. */
 static size_t depth(void (*call)(void)) {
     uint8_t *stack = malloc(STACK);
@@ -56,30 +90,49 @@ static size_t depth(void (*call)(void)) {
     return STACK - untouched;
 }
 
-void test_stack(void) {
-    struct subject s = subject_new();
-    size_t nothing = depth(do_nothing), used[5];
-    at_work = &s;
-    lend_room(&s, WATCH_ROOM);
-    used[0] = depth(do_open);
-    CHECK(watch_number(answer) == 0 && watch_lines(s.record.bytes) == 54);
+static size_t nothing, deepest_of_all;
+
+static size_t used(void (*call)(void)) {
+    size_t bytes = depth(call) - nothing;
+    CHECK(bytes <= WATCH_STACK_BYTES);
+    if (bytes > deepest_of_all) deepest_of_all = bytes;
+    return bytes;
+}
+
+/* The five calls of one form, on a window that grows to 301 frontiers. */
+static void measure(struct subject *s, const char *name, void (*const call[5])(void)) {
+    size_t bytes[5];
+    lend_room(s, WATCH_ROOM);
+    bytes[0] = used(call[0]);
+    CHECK(watch_number(answer) == 0 && watch_lines(s->record.bytes) == 54);
     for (unsigned n = 1; n < 300; n++) {
-        offer(&s, 2, 0, n, 0, 0, 0);
-        try_take(&s);
+        offer(s, 2, 0, n, 0, 0, 0);
+        try_take(s);
     }
-    used[1] = depth(do_offer);
+    bytes[1] = used(call[1]);
     CHECK_REPLY(answer, held(1));
-    used[2] = depth(do_take);
+    bytes[2] = used(call[2]);
     CHECK(watch_number(answer) == 0 && watch_value(answer) == 301);
-    used[3] = depth(do_find);
+    bytes[3] = used(call[3]);
     CHECK(watch_number(answer) == 0);
-    used[4] = depth(do_close);
+    bytes[4] = used(call[4]);
     CHECK_REPLY(answer, closed(1));
-    for (unsigned i = 0; i < 5; i++) {
-        used[i] -= nothing;
-        CHECK(used[i] <= WATCH_STACK_BYTES);
-    }
-    printf("stack: open %zu, offer %zu, take %zu, find %zu, close %zu bytes\n", used[0], used[1], used[2], used[3],
-           used[4]);
-    subject_free(&s);
+    printf("stack%s: open %zu, offer %zu, take %zu, find %zu, close %zu bytes\n", name, bytes[0], bytes[1], bytes[2],
+           bytes[3], bytes[4]);
+}
+
+void test_stack(void) {
+    struct subject old = subject_new(), new = subject_wide();
+    at_work = &old, wide = &new;
+    nothing = depth(do_nothing);
+    measure(&old, "", (void (*const[])(void)){do_open, do_offer, do_take, do_find, do_close});
+    measure(&new, " of the wide form", (void (*const[])(void)){do_wide_open, do_wide_offer, do_wide_take, do_wide_find,
+                                                                do_wide_close});
+    size_t there = used(do_widen);
+    CHECK_REPLY(answer, 0);
+    size_t back = used(do_narrow);
+    CHECK_REPLY(answer, 0);
+    printf("stack: widen %zu, narrow %zu bytes; the deepest call %zu\n", there, back, deepest_of_all);
+    subject_free(&old);
+    subject_free(&new);
 }

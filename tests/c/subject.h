@@ -3,24 +3,33 @@
 #ifndef SUBJECT_H
 #define SUBJECT_H
 
-#include "../../include/watch.h"
 #include "../lent.h"
+#include "../wide.h"
 #include "check.h"
 
 struct subject {
+    int wide; /* stored in the wide form, and called by its calls */
     struct lent text, record, window, scratch;
 };
 
-struct subject subject_new(void);
+struct subject subject_new(void);  /* of the old form */
+struct subject subject_wide(void);
 void subject_free(struct subject *s);
 
 /* Lends a window of so many frontiers and a scratch full of junk; the window keeps its bytes. */
 void lend_room(struct subject *s, size_t room);
 void lend_junk(struct subject *s, size_t length);
 
+/* By the form. */
+size_t record_bytes(const struct subject *s);
+size_t frontiers_bytes(const struct subject *s, size_t number);
+uint32_t taken_of(const struct subject *s, unsigned p);
+uint32_t cut_of(const struct subject *s, size_t place, unsigned p);
+
 uint64_t try_open(struct subject *s, const char *rule, uint64_t k, uint64_t labels);
 uint64_t try_open_bytes(struct subject *s, const uint8_t *rule, size_t length, uint64_t k, uint64_t labels);
-uint64_t try_offer(struct subject *s, uint64_t mask, uint64_t low, uint64_t high, uint64_t labels);
+uint64_t try_offer(struct subject *s, uint64_t mask, uint64_t low, uint64_t high, uint64_t labels); /* old form only */
+uint64_t try_offer_counts(struct subject *s, uint64_t mask, const uint32_t *counts, uint64_t labels);
 uint64_t try_take(struct subject *s);
 uint64_t try_find(struct subject *s, uint64_t line);
 uint64_t try_close(struct subject *s, uint64_t process);
@@ -50,6 +59,8 @@ void test_messages(void);
 void test_find(void);
 void test_close(void);
 void test_edges(void);
+void test_wide(void);
+void test_moves(void);
 void test_stack(void);
 
 #endif

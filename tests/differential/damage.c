@@ -6,14 +6,12 @@
 #include "../../include/watch.h"
 #include "twin.h"
 
-enum {
-    HEADER = 8, CLOSED_AT = 3, TAKEN_AT = 8, CLOCKS_AT = 24, TABLE_AT = 152, PENDING_AT = 344,
-    EVENT = 32, VALUES_AT = 32
-};
+enum { HEADER = 8 };
 
 struct damaged {
+    const struct layout *form;
     struct lent record, window, scratch;
-    uint8_t record_before[2 * RECORD], window_before[WINDOW_MOST], scratch_before[WINDOW_MOST];
+    uint8_t record_before[2 * RECORD_MOST], window_before[WINDOW_MOST], scratch_before[WINDOW_MOST];
 };
 
 static void damage_byte(struct source *s, uint8_t *byte) {
@@ -26,17 +24,19 @@ static void damage_byte(struct source *s, uint8_t *byte) {
 }
 
 /* One of the parts of a record, so that each is hit often. */
-static void damage_record(struct source *s, uint8_t *record) {
+static void damage_record(struct source *s, const struct layout *form, uint8_t *record) {
+    uint8_t *pending = record + form->pending_at;
+    unsigned clock = PROCESSES * form->width, event = (unsigned)form->event;
     unsigned held = record[2] <= PENDING ? record[2] : PENDING;
     switch (below(s, 8)) {
     case 0: damage_byte(s, record + below(s, HEADER)); break;
-    case 1: damage_byte(s, record + TAKEN_AT + below(s, 16)); break;
-    case 2: damage_byte(s, record + CLOCKS_AT + below(s, 128)); break;
-    case 3: damage_byte(s, record + TABLE_AT + below(s, 3u * (record[1] % 65) + 3)); break;
-    case 4: damage_byte(s, record + PENDING_AT + EVENT * below(s, held + 1 < PENDING ? held + 1 : PENDING)); break;
-    case 5: damage_byte(s, record + PENDING_AT + below(s, EVENT * PENDING)); break;
+    case 1: damage_byte(s, record + TAKEN_AT + below(s, clock)); break;
+    case 2: damage_byte(s, record + form->clocks_at + below(s, 8 * clock)); break;
+    case 3: damage_byte(s, record + form->table_at + below(s, 3u * (record[1] % 65) + 3)); break;
+    case 4: damage_byte(s, pending + event * below(s, held + 1 < PENDING ? held + 1 : PENDING)); break;
+    case 5: damage_byte(s, pending + below(s, event * PENDING)); break;
     case 6: record[2] = (uint8_t)below(s, PENDING + 2); break;
-    default: damage_byte(s, record + below(s, RECORD));
+    default: damage_byte(s, record + below(s, (unsigned)form->record));
     }
 }
 
@@ -53,25 +53,30 @@ static void damage_closed(struct source *s, uint8_t *record) {
 }
 
 /* Pending places filled with events of small counts, in no order. */
-static void scatter_pending(struct source *s, uint8_t *record) {
+static void scatter_pending(struct source *s, const struct layout *form, uint8_t *record) {
     record[2] = (uint8_t)below(s, PENDING + 1);
     for (unsigned i = 0; i < record[2]; i++) {
-        uint8_t *at = record + PENDING_AT + EVENT * i;
+        uint8_t *at = record + form->pending_at + form->event * i;
         at[0] = (uint8_t)(1u << below(s, 8));
         if (chance(s, 30)) at[0] |= (uint8_t)(draw(s) & draw(s));
-        for (unsigned p = 0; p < PROCESSES; p++) at[8 + 2 * p] = (uint8_t)below(s, 5);
+        for (unsigned p = 0; p < PROCESSES; p++) at[CLOCK_AT + form->width * p] = (uint8_t)below(s, 5);
     }
 }
 
+static unsigned taken_count(const struct layout *form, const uint8_t *record, unsigned p) {
+    return get_count(form, record + TAKEN_AT + form->width * p);
+}
+
 /* An event that offer would accept, by the record's number of processes and taken counts. */
-static struct sent acceptable(struct source *s, const uint8_t *record) {
+static struct sent acceptable(struct source *s, const struct layout *form, const uint8_t *record) {
     unsigned k = record[0] > 0 && record[0] <= PROCESSES ? record[0] : PROCESSES;
     struct sent e;
-    do e = random_sent(s, k);
-    while (refused_event(k, e.mask, e.low, e.high, e.labels) != 0);
+    struct words w;
+    do e = random_sent(s, k, form->most), w = words_of(form, &e);
+    while (refused_event(form, k, &w) != 0);
     for (unsigned p = 0; p < k; p++) {
-        unsigned count = sent_count(&e, p) + (e.mask >> p & 1 ? watch_taken(record, p) : 0);
-        set_sent_count(&e, p, count < 65536 ? count : 65535);
+        uint64_t count = (uint64_t)e.count[p] + (e.mask >> p & 1 ? taken_count(form, record, p) : 0);
+        e.count[p] = count <= form->most ? (unsigned)count : form->most;
     }
     return e;
 }
@@ -80,36 +85,35 @@ static void lay_word(uint8_t *at, uint64_t word) {
     for (unsigned i = 0; i < 8; i++) at[i] = (uint8_t)(word >> 8 * i);
 }
 
-static void lay_event(uint8_t *at, struct sent e) {
+static void lay_counts(const struct layout *form, uint8_t *at, const struct sent *e) {
+    for (unsigned p = 0; p < PROCESSES; p++) put_count(form, at + form->width * p, e->count[p]);
+}
+
+static void lay_event(const struct layout *form, uint8_t *at, struct sent e) {
     at[0] = (uint8_t)e.mask;
-    lay_word(at + 8, e.low);
-    lay_word(at + 16, e.high);
-    lay_word(at + 24, e.labels);
+    lay_counts(form, at + CLOCK_AT, &e);
+    lay_word(at + form->event_labels_at, e.labels);
 }
 
 /* All pending places filled with a few events and what is nearly one of them, so that there are equal ones, some with
  * the same counts and other labels, some that differ only at a process that the watch has not. Bytes behind a mask may
  * be anything, and some of the events stand behind those that the record says are pending. */
-static void crowd_pending(struct source *s, uint8_t *record) {
+static void crowd_pending(struct source *s, const struct layout *form, uint8_t *record) {
     struct sent few[3];
-    for (unsigned i = 0; i < 3; i++) few[i] = acceptable(s, record);
+    for (unsigned i = 0; i < 3; i++) few[i] = acceptable(s, form, record);
     for (unsigned i = 0; i < PENDING; i++) {
-        uint8_t *at = record + PENDING_AT + EVENT * i;
+        uint8_t *at = record + form->pending_at + form->event * i;
         struct sent e = few[below(s, 3)];
-        if (chance(s, 40)) e = nearly(s, e, PROCESSES);
+        if (chance(s, 40)) e = nearly(s, e, PROCESSES, form->most);
         memset(at + 1, 0, 7);
         if (chance(s, 40)) at[between(s, 1, 7)] = (uint8_t)draw(s);
-        lay_event(at, e);
+        lay_event(form, at, e);
     }
     record[2] = chance(s, 30) ? PENDING : (uint8_t)below(s, PENDING + 1);
 }
 
-static unsigned room_of(const struct damaged *d) {
-    return (unsigned)(d->window.length / FRONTIER);
-}
-
-static uint8_t *frontier_at(const struct damaged *d, unsigned place) {
-    return d->window.bytes + FRONTIER * place;
+static uint8_t *frontier_at(const struct laid *d, unsigned place) {
+    return d->window + d->form->frontier * place;
 }
 
 /* One of so many places from `from` on, often the first or the last. */
@@ -117,61 +121,56 @@ static unsigned place_of(struct source *s, unsigned from, unsigned number) {
     return from + (chance(s, 30) ? 0 : chance(s, 40) ? number - 1 : below(s, number));
 }
 
-static void lay_counts(uint8_t *at, const struct sent *e) {
-    for (unsigned p = 0; p < PROCESSES; p++) {
-        at[2 * p] = (uint8_t)sent_count(e, p);
-        at[2 * p + 1] = (uint8_t)(sent_count(e, p) >> 8);
-    }
-}
-
 /* How many frontiers the record says are kept. Often, and if the window has not so many, it is made to say another
  * number. */
-static unsigned choose_kept(struct source *s, struct damaged *d) {
-    unsigned kept_frontiers = watch_kept(d->record.bytes);
-    if (kept_frontiers >= 1 && kept_frontiers <= room_of(d) && !chance(s, 40)) return kept_frontiers;
-    kept_frontiers = between(s, 1, room_of(d));
-    memcpy(d->record.bytes + 4, (uint8_t[]){(uint8_t)kept_frontiers, (uint8_t)(kept_frontiers >> 8), 0, 0}, 4);
+static unsigned choose_kept(struct source *s, const struct laid *d) {
+    unsigned kept_frontiers = watch_kept(d->record);
+    if (kept_frontiers >= 1 && kept_frontiers <= d->room && !chance(s, 40)) return kept_frontiers;
+    kept_frontiers = between(s, 1, d->room);
+    memcpy(d->record + 4, (uint8_t[]){(uint8_t)kept_frontiers, (uint8_t)(kept_frontiers >> 8), 0, 0}, 4);
     return kept_frontiers;
 }
 
 /* Each line holds first at a place of its own, and behind that wherever it falls. The place is often the first or the
  * last that is kept, or stands behind those, and then the line holds at none that is kept. */
-static void lay_values(struct source *s, struct damaged *d, unsigned kept_frontiers) {
-    unsigned first[LINES], behind = room_of(d) - kept_frontiers;
+static void lay_values(struct source *s, const struct laid *d, unsigned kept_frontiers) {
+    unsigned first[LINES], behind = d->room - kept_frontiers;
     for (unsigned line = 0; line < LINES; line++) {
         bool kept_one = behind == 0 || chance(s, 75);
         first[line] = kept_one ? place_of(s, 0, kept_frontiers) : place_of(s, kept_frontiers, behind);
     }
-    for (unsigned place = 0; place < room_of(d); place++) {
+    for (unsigned place = 0; place < d->room; place++) {
         uint64_t values = draw(s);
         for (unsigned line = 0; line < LINES; line++) {
             uint64_t bit = (uint64_t)1 << line;
             if (place <= first[line]) values = place < first[line] ? values & ~bit : values | bit;
         }
-        lay_word(frontier_at(d, place) + VALUES_AT, values);
+        lay_word(frontier_at(d, place) + d->form->values_at, values);
     }
 }
 
 /* Frontiers out of order, twice, or changed over from those that are kept to those behind them. */
-static void disorder(struct source *s, struct damaged *d) {
-    unsigned room = room_of(d);
+static void disorder(struct source *s, const struct laid *d) {
+    size_t size = d->form->frontier;
     for (unsigned times = between(s, 1, 4); times > 0; times--) {
-        uint8_t saved[FRONTIER], *one = frontier_at(d, below(s, room)), *two = frontier_at(d, below(s, room));
-        memcpy(saved, one, FRONTIER);
-        memcpy(one, two, FRONTIER);
-        if (!chance(s, 30)) memcpy(two, saved, FRONTIER);
+        unsigned first = below(s, d->room), second = below(s, d->room);
+        uint8_t saved[WINDOW_MOST / (ROOM + 1)], *one = frontier_at(d, first), *two = frontier_at(d, second);
+        memcpy(saved, one, size);
+        memmove(one, two, size);
+        if (!chance(s, 30)) memcpy(two, saved, size);
     }
 }
 
 /* Ready by the record's taken counts, and its other counts anything up to these. */
-static struct sent ready_sent(struct source *s, const uint8_t *record) {
+static struct sent ready_sent(struct source *s, const struct layout *form, const uint8_t *record) {
     unsigned k = record[0] > 0 && record[0] <= PROCESSES ? record[0] : PROCESSES;
     struct sent e = {.mask = (uint64_t)1 << below(s, chance(s, 90) ? k : PROCESSES)};
     if (chance(s, 35)) e.mask |= draw(s) & draw(s) & 255 >> (PROCESSES - k);
     if (chance(s, 4)) e.mask = 0;
     for (unsigned p = 0; p < PROCESSES; p++) {
-        unsigned taken = watch_taken(record, p), known = chance(s, 50) ? taken : below(s, taken + 1);
-        set_sent_count(&e, p, e.mask >> p & 1 ? (taken + 1) & 65535 : known);
+        unsigned taken = taken_count(form, record, p), less = taken > 0 ? below(s, taken) : 0;
+        unsigned known = chance(s, 50) ? taken : less;
+        e.count[p] = e.mask >> p & 1 ? (taken + 1) & form->most : known;
     }
     e.labels = random_labels(s, e.mask);
     return e;
@@ -179,29 +178,34 @@ static struct sent ready_sent(struct source *s, const uint8_t *record) {
 
 /* Puts the event's lowered clock into the window, or nearly: among the kept frontiers, only behind them, with another
  * count at a process that the watch has not, with any other count, not lowered at one of its processes. */
-static void plant(struct source *s, struct damaged *d, struct sent e, unsigned kept_frontiers) {
-    unsigned k = d->record.bytes[0], behind = room_of(d) - kept_frontiers;
-    unsigned way = below(s, 6), p = below(s, PROCESSES), count;
+static void plant(struct source *s, const struct laid *d, struct sent e, unsigned kept_frontiers) {
+    unsigned k = d->record[0], behind = d->room - kept_frontiers, most = d->form->most;
+    unsigned way = below(s, 6), p = below(s, PROCESSES), bit = 1u << below(s, 8 * d->form->width), count;
     while (way == 4 && e.mask % 256 != 0 && !(e.mask >> p & 1)) p = (p + 1) % PROCESSES;
     for (unsigned q = 0; q < PROCESSES; q++)
-        if (e.mask >> q & 1 && !(way == 4 && q == p)) set_sent_count(&e, q, (sent_count(&e, q) - 1) & 65535);
+        if (e.mask >> q & 1 && !(way == 4 && q == p)) e.count[q] = (e.count[q] - 1) & most;
     if (way == 2 && k > 0 && k < PROCESSES) p = between(s, k, PROCESSES - 1);
-    count = sent_count(&e, p);
-    if (way == 2 || way == 3) set_sent_count(&e, p, chance(s, 50) ? count ^ 1u << below(s, 16) : (count + 1) & 65535);
-    if (way != 1) lay_counts(frontier_at(d, place_of(s, 0, kept_frontiers)), &e);
-    else if (behind > 0) lay_counts(frontier_at(d, place_of(s, kept_frontiers, behind)), &e);
+    count = e.count[p];
+    if (way == 2 || way == 3) e.count[p] = chance(s, 50) ? count ^ bit : (count + 1) & most;
+    if (way != 1) lay_counts(d->form, frontier_at(d, place_of(s, 0, kept_frontiers)), &e);
+    else if (behind > 0) lay_counts(d->form, frontier_at(d, place_of(s, kept_frontiers, behind)), &e);
 }
 
 /* Several events that are ready at once, for most of them something planted in the window. Some taken counts are large,
  * or are those of a process that the watch has not. */
-static void plant_ready(struct source *s, struct damaged *d, unsigned kept_frontiers) {
-    uint8_t *record = d->record.bytes;
+static void plant_ready(struct source *s, const struct laid *d, unsigned kept_frontiers) {
+    const struct layout *form = d->form;
+    uint8_t *record = d->record, *taken = record + TAKEN_AT;
     unsigned n = between(s, 1, 5);
-    if (record[0] < PROCESSES && chance(s, 20)) record[TAKEN_AT + 2 * between(s, record[0], 7)] = (uint8_t)below(s, 4);
-    if (chance(s, 15)) record[TAKEN_AT + below(s, 16)] = (uint8_t)draw(s);
+    if (record[0] < PROCESSES && chance(s, 20)) taken[form->width * between(s, record[0], 7)] = (uint8_t)below(s, 4);
+    if (chance(s, 15)) taken[below(s, PROCESSES * form->width)] = (uint8_t)draw(s);
+    if (chance(s, 20)) { /* often the largest, so that one more would be 0 */
+        unsigned p = below(s, chance(s, 80) && record[0] <= PROCESSES && record[0] > 0 ? record[0] : PROCESSES);
+        put_count(form, taken + form->width * p, chance(s, 50) ? form->most : brink(s, form->most));
+    }
     for (unsigned i = 0; i < n; i++) {
-        struct sent e = ready_sent(s, record);
-        lay_event(record + PENDING_AT + EVENT * i, e);
+        struct sent e = ready_sent(s, form, record);
+        lay_event(form, record + form->pending_at + form->event * i, e);
         if (chance(s, 80)) plant(s, d, e, kept_frontiers);
     }
     if (record[2] < n || chance(s, 50)) record[2] = (uint8_t)n;
@@ -209,26 +213,29 @@ static void plant_ready(struct source *s, struct damaged *d, unsigned kept_front
 
 /* Frontiers, also behind the kept ones, that have all taken events of all eight processes, of all but one, of one
  * alone, of some. Mostly little is pending, so that a process can be closed. */
-static void plant_complete(struct source *s, struct damaged *d) {
-    uint8_t *record = d->record.bytes;
-    if (chance(s, 50)) damage_byte(s, record + TAKEN_AT + below(s, 16));
-    for (unsigned place = 0; place < room_of(d); place++) {
+static void plant_complete(struct source *s, const struct laid *d) {
+    unsigned width = d->form->width;
+    uint8_t *record = d->record;
+    if (chance(s, 50)) damage_byte(s, record + TAKEN_AT + below(s, PROCESSES * width));
+    for (unsigned place = 0; place < d->room; place++) {
         uint8_t one = (uint8_t)(1u << below(s, 8)), set = (uint8_t)(draw(s) & draw(s)), *at = frontier_at(d, place);
         unsigned way = below(s, 5);
         if (way == 0) continue;
         if (way < 4) set = way == 1 ? 255 : way == 2 ? (uint8_t)~one : one;
-        memcpy(at, record + TAKEN_AT, 16);
+        memcpy(at, record + TAKEN_AT, PROCESSES * width);
         for (unsigned p = 0; p < PROCESSES; p++) {
-            unsigned bit = below(s, 16);
-            if (!(set >> p & 1)) at[2 * p + bit / 8] ^= (uint8_t)(1u << bit % 8);
+            unsigned bit = below(s, 8 * width);
+            if (!(set >> p & 1)) at[width * p + bit / 8] ^= (uint8_t)(1u << bit % 8);
         }
     }
     if (chance(s, 70)) record[2] = (uint8_t)below(s, 3);
 }
 
-static void damage(struct source *s, struct damaged *d) {
+void damage(struct source *s, const struct laid *d) {
+    const struct layout *form = d->form;
+    unsigned window_length = (unsigned)form->frontier * d->room;
     unsigned times = between(s, 1, 4);
-    if (chance(s, 40)) damage_closed(s, d->record.bytes);
+    if (chance(s, 40)) damage_closed(s, d->record);
     if (chance(s, 20)) {
         choose_kept(s, d);
         plant_complete(s, d);
@@ -240,17 +247,17 @@ static void damage(struct source *s, struct damaged *d) {
     if (valued) lay_values(s, d, kept_frontiers);
     if (planted) plant_ready(s, d, kept_frontiers);
     if (planted && chance(s, 80)) return;
-    if (crowded) crowd_pending(s, d->record.bytes);
+    if (crowded) crowd_pending(s, form, d->record);
     if (!crowded || chance(s, 30))
-        for (unsigned i = 0; i < times; i++) damage_record(s, d->record.bytes);
-    if (chance(s, 15)) scatter_pending(s, d->record.bytes);
-    if (chance(s, 5)) fill_junk(s, d->record.bytes + HEADER, 16);
-    if (chance(s, 5)) fill_junk(s, d->record.bytes + PENDING_AT, EVENT * PENDING);
-    if (chance(s, 3)) fill_junk(s, d->record.bytes, RECORD);
+        for (unsigned i = 0; i < times; i++) damage_record(s, form, d->record);
+    if (chance(s, 15)) scatter_pending(s, form, d->record);
+    if (chance(s, 5)) fill_junk(s, d->record + HEADER, PROCESSES * form->width);
+    if (chance(s, 5)) fill_junk(s, d->record + form->pending_at, form->event * PENDING);
+    if (chance(s, 3)) fill_junk(s, d->record, form->record);
     if (chance(s, 50))
-        for (unsigned i = 0; i < times; i++) damage_byte(s, d->window.bytes + below(s, (unsigned)d->window.length));
-    if (chance(s, 5)) fill_junk(s, d->window.bytes, d->window.length);
-    if (chance(s, 20)) d->record.bytes[4] = (uint8_t)below(s, room_of(d) + 2);
+        for (unsigned i = 0; i < times; i++) damage_byte(s, d->window + below(s, window_length));
+    if (chance(s, 5)) fill_junk(s, d->window, window_length);
+    if (chance(s, 20)) d->record[4] = (uint8_t)below(s, d->room + 2);
 }
 
 static void remember(struct damaged *d) {
@@ -267,12 +274,12 @@ static void unchanged(const char *name, const struct lent *l, const uint8_t *bef
  * watch has not are mostly left out: with them it is refused for that. */
 static struct sent damaged_sent(struct source *s, const struct damaged *d, unsigned k) {
     const uint8_t *record = d->record.bytes;
-    if (d->record.length != RECORD || chance(s, 40)) return random_sent(s, k);
+    if (d->record.length != d->form->record || chance(s, 40)) return random_sent(s, k, d->form->most);
     unsigned pending = record[2] > 0 && record[2] <= PENDING && chance(s, 85) ? record[2] : PENDING;
-    struct sent e = pending_sent(record, below(s, pending));
+    struct sent e = pending_sent(d->form, record, below(s, pending));
     for (unsigned p = record[0]; p < PROCESSES; p++)
-        if (chance(s, 80)) set_sent_count(&e, p, 0);
-    return chance(s, 50) ? e : nearly(s, e, k);
+        if (chance(s, 80)) e.count[p] = 0;
+    return chance(s, 50) ? e : nearly(s, e, k, d->form->most);
 }
 
 /* Refusals and "again" are whole words. What an accepted offer answers is free, but it has to say that it was one. */
@@ -284,36 +291,38 @@ static void compare_offered(uint64_t reply, unsigned expected) {
 
 static void damaged_offer(struct source *s, struct damaged *d, unsigned k) {
     struct sent e = damaged_sent(s, d, k);
+    struct words w = words_of(d->form, &e);
     remember(d);
-    note("offer mask %llx clock %llx %llx labels %llx to damaged bytes\n", (unsigned long long)e.mask, (unsigned long long)e.low,
-         (unsigned long long)e.high, (unsigned long long)e.labels);
-    unsigned expected = bytes_offer(e.mask, e.low, e.high, e.labels, d->record_before, d->record.length);
-    uint64_t reply = watch_offer(e.mask, e.low, e.high, e.labels, d->record.bytes, d->record.length);
-    compare_offered(tally(OFFER, reply), expected);
+    note_offer(&e, " to damaged bytes");
+    unsigned expected = bytes_offer(d->form, &w, d->record_before, d->record.length);
+    uint64_t reply = call_offer(d->form, &e, d->record.bytes, d->record.length);
+    compare_offered(tally(d->form, OFFER, reply), expected);
     unchanged("record", &d->record, d->record_before);
 }
 
 /* Mostly a line of the table, by the record's own number of lines. */
 static void damaged_find(struct source *s, struct damaged *d) {
     const uint8_t *record = d->record.bytes, *window = d->window.bytes;
-    unsigned lines = d->record.length == RECORD && chance(s, 85) ? watch_lines(record) : LINES + 1;
+    unsigned lines = d->record.length == d->form->record && chance(s, 85) ? watch_lines(record) : LINES + 1;
     uint64_t line = chance(s, 95) ? below(s, lines + 1) : draw(s);
     remember(d);
     note("find line %llu on damaged bytes\n", (unsigned long long)line);
-    uint64_t reply = tally(FIND, watch_find(line, record, d->record.length, window, d->window.length));
-    compare_replies(reply, bytes_find(line, d->record_before, d->record.length, d->window_before, d->window.length));
+    uint64_t expected = bytes_find(d->form, line, record, d->record.length, window, d->window.length);
+    uint64_t reply = call_find(d->form, line, record, d->record.length, window, d->window.length);
+    compare_replies(tally(d->form, FIND, reply), expected);
     unchanged("record", &d->record, d->record_before);
     unchanged("window", &d->window, d->window_before);
 }
 
 static void damaged_close(struct source *s, struct damaged *d) {
-    unsigned k = d->record.length == RECORD ? d->record.bytes[0] : 0;
+    unsigned k = d->record.length == d->form->record ? d->record.bytes[0] : 0;
     uint64_t process = random_process(s, k > 0 && k <= PROCESSES ? k : PROCESSES);
     remember(d);
     note("close process %llu on damaged bytes, window %zu\n", (unsigned long long)process, d->window.length);
-    uint64_t reply = watch_close(process, d->record.bytes, d->record.length, d->window.bytes, d->window.length);
-    uint64_t expected = bytes_close(process, d->record_before, d->record.length, d->window_before, d->window.length);
-    compare_replies(tally(CLOSE, reply), expected);
+    uint64_t reply = call_close(d->form, process, d->record.bytes, d->record.length, d->window.bytes, d->window.length);
+    uint64_t expected = bytes_close(d->form, process, d->record_before, d->record.length, d->window_before,
+                                    d->window.length);
+    compare_replies(tally(d->form, CLOSE, reply), expected);
     unchanged("record", &d->record, d->record_before);
     unchanged("window", &d->window, d->window_before);
 }
@@ -322,10 +331,11 @@ static void damaged_take(struct source *s, struct damaged *d) {
     fill_junk(s, d->scratch.bytes, d->scratch.length);
     remember(d);
     note("take on damaged bytes, window %zu\n", d->window.length);
-    struct possible can = bytes_take(d->record.bytes, d->record.length, d->window.bytes, d->window.length,
+    struct possible can = bytes_take(d->form, d->record.bytes, d->record.length, d->window.bytes, d->window.length,
                                      d->scratch.length);
-    uint64_t reply = watch_take(d->record.bytes, d->record.length, d->window.bytes, d->window.length, d->scratch.bytes, d->scratch.length);
-    unsigned number = watch_number(tally(TAKE, reply));
+    uint64_t reply = call_take(d->form, d->record.bytes, d->record.length, d->window.bytes, d->window.length,
+                               d->scratch.bytes, d->scratch.length);
+    unsigned number = watch_number(tally(d->form, TAKE, reply));
     if (can.refused != 0) {
         compare_replies(reply, can.refused);
         unchanged("scratch", &d->scratch, d->scratch_before);
@@ -345,19 +355,21 @@ void damage_excursion(struct source *s, const struct twin *t, unsigned calls) {
     if (d == NULL) {
         d = calloc(1, sizeof *d);
         if (d == NULL) abort();
-        d->record = lent_new(2 * RECORD);
+        d->record = lent_new(2 * RECORD_MOST);
         d->window = lent_new(WINDOW_MOST);
         d->scratch = lent_new(WINDOW_MOST);
     }
-    size_t room = chance(s, 70) ? t->window_length / FRONTIER : between(s, 1, 40);
-    size_t record_length = chance(s, 95) ? RECORD : below(s, 2 * RECORD);
-    size_t scratch_length = chance(s, 95) ? FRONTIER * room : below(s, WINDOW_MOST);
+    const struct layout *form = d->form = t->form;
+    size_t room = chance(s, 70) ? twin_room(t) : between(s, 1, 40);
+    size_t record_length = chance(s, 95) ? form->record : below(s, 2 * RECORD_MOST);
+    size_t scratch_length = chance(s, 95) ? form->frontier * room : below(s, WINDOW_MOST);
     lend(&d->record, record_length, below(s, 8));
-    lend(&d->window, FRONTIER * room, below(s, 8));
+    lend(&d->window, form->frontier * room, below(s, 8));
     lend(&d->scratch, scratch_length, below(s, 8));
-    memcpy(d->record.bytes, t->record_bytes, d->record.length < RECORD ? d->record.length : RECORD);
-    memcpy(d->window.bytes, t->window_bytes, FRONTIER * room);
-    if (d->record.length == RECORD) damage(s, d);
+    memcpy(d->record.bytes, t->record_bytes, record_length < form->record ? record_length : form->record);
+    memcpy(d->window.bytes, t->window_bytes, form->frontier * room);
+    struct laid bytes = {form, d->record.bytes, d->window.bytes, (unsigned)room};
+    if (record_length == form->record) damage(s, &bytes);
     for (unsigned i = 0; i < calls; i++) {
         unsigned action = below(s, 14);
         if (action < 4) damaged_offer(s, d, t->model.k);

@@ -1,16 +1,9 @@
 /* Random executions, and events that belong to none. */
+#include <string.h>
+
 #include "generate.h"
 
 enum { PROCESSES = 8 };
-
-unsigned sent_count(const struct sent *e, unsigned p) {
-    return (unsigned)((p < 4 ? e->low : e->high) >> 16 * (p % 4) & 65535);
-}
-
-void set_sent_count(struct sent *e, unsigned p, unsigned count) {
-    uint64_t *word = p < 4 ? &e->low : &e->high;
-    *word = (*word & ~((uint64_t)65535 << 16 * (p % 4))) | (uint64_t)count << 16 * (p % 4);
-}
 
 uint64_t random_labels(struct source *s, uint64_t mask) {
     uint64_t labels = 0;
@@ -40,7 +33,7 @@ static bool takes_part(const struct sent *e, unsigned p) {
 /* p's event number n, wherever it stands; NULL if it is none of the execution. */
 static const struct sent *event_numbered(const struct execution *x, unsigned p, unsigned n) {
     for (unsigned i = 0; i < x->n; i++)
-        if (takes_part(&x->event[i], p) && sent_count(&x->event[i], p) == n) return &x->event[i];
+        if (takes_part(&x->event[i], p) && x->event[i].count[p] == n) return &x->event[i];
     return NULL;
 }
 
@@ -48,7 +41,7 @@ void learn(const struct execution *x, unsigned q, unsigned n, unsigned *clock) {
     const struct sent *e = event_numbered(x, q, n);
     if (n > clock[q]) clock[q] = n;
     for (unsigned r = 0; e != NULL && r < PROCESSES; r++)
-        if (sent_count(e, r) > clock[r]) clock[r] = sent_count(e, r);
+        if (e->count[r] > clock[r]) clock[r] = e->count[r];
 }
 
 unsigned random_messages(struct source *s) {
@@ -66,23 +59,29 @@ static void read_notes(struct source *s, const struct execution *x, const unsign
 }
 
 struct execution random_execution(struct source *s, struct shape shape) {
-    struct execution x = {.k = shape.k};
-    unsigned done[PROCESSES] = {0};
-    uint64_t ended = 0;
-    done[shape.alone] = shape.before;
+    struct execution x = {.k = shape.k, .limit = shape.limit};
+    unsigned done[PROCESSES];
+    uint64_t ended = 0, all = (1u << shape.k) - 1;
+    memcpy(x.begin, shape.begin, sizeof x.begin);
+    memcpy(done, shape.begin, sizeof done);
+    done[shape.alone] += shape.before;
     while (x.n < shape.n && x.n < EVENTS_MOST) {
         struct sent e = {.mask = 0};
+        for (unsigned p = 0; p < shape.k; p++)
+            if (shape.limit > 0 && done[p] == shape.limit) ended |= (uint64_t)1 << p;
+        if (ended == all) break;
         while (e.mask == 0) e.mask = random_mask(s, shape.k, shape.joint) & ~ended;
-        unsigned clock[PROCESSES] = {0};
+        unsigned clock[PROCESSES];
         size_t vectors = 1;
-        for (unsigned p = 0; p < PROCESSES; p++) vectors *= done[p] + 1 + takes_part(&e, p);
+        memcpy(clock, shape.begin, sizeof clock);
+        for (unsigned p = 0; p < PROCESSES; p++) vectors *= (size_t)(done[p] - x.begin[p]) + 1 + takes_part(&e, p);
         if (vectors > shape.most) break;
         for (unsigned p = 0; p < PROCESSES; p++)
             if (takes_part(&e, p)) learn(&x, p, done[p], clock);
         if (chance(s, shape.messages)) read_notes(s, &x, done, clock);
         for (unsigned p = 0; p < PROCESSES; p++) {
             done[p] += takes_part(&e, p);
-            set_sent_count(&e, p, takes_part(&e, p) ? done[p] : clock[p]);
+            e.count[p] = takes_part(&e, p) ? done[p] : clock[p];
         }
         e.labels = random_labels(s, e.mask);
         x.event[x.n++] = e;
@@ -92,16 +91,16 @@ struct execution random_execution(struct source *s, struct shape shape) {
 }
 
 struct sent twisted(struct source *s, struct sent e, unsigned k) {
-    unsigned p = below(s, k), count = sent_count(&e, p);
+    unsigned p = below(s, k), count = e.count[p];
     switch (below(s, 6)) {
     case 0: e.labels = random_labels(s, e.mask); break;
     case 1: e.mask ^= (uint64_t)1 << p; break;
-    case 2: set_sent_count(&e, p, count + 1); break;
-    case 3: set_sent_count(&e, p, count > 0 ? count - 1 : 1); break;
-    case 4: set_sent_count(&e, p, below(s, 6)); break;
+    case 2: e.count[p] = count + 1; break;
+    case 3: e.count[p] = count > 0 ? count - 1 : 1; break;
+    case 4: e.count[p] = below(s, 6); break;
     default:
         for (unsigned q = 0; q < k; q++)
-            if (!(e.mask >> q & 1)) set_sent_count(&e, q, below(s, 3));
+            if (!(e.mask >> q & 1)) e.count[q] = below(s, 3);
     }
     if (chance(s, 50)) e.labels = random_labels(s, chance(s, 90) ? e.mask : 255);
     return e;
@@ -115,26 +114,27 @@ static unsigned process_of(struct source *s, uint64_t set) {
 }
 
 /* One more, one less, or a bit of it changed. */
-static void change_count(struct source *s, struct sent *e, unsigned p) {
-    unsigned count = sent_count(e, p), bit = 1u << below(s, 16);
+static void change_count(struct source *s, struct sent *e, unsigned p, unsigned most) {
+    unsigned count = e->count[p], bit = 1u << below(s, most > 65535 ? 32 : 16);
     switch (below(s, 3)) {
-    case 0: set_sent_count(e, p, (count + 1) & 65535); break;
-    case 1: set_sent_count(e, p, count > 0 ? count - 1 : 1); break;
-    default: set_sent_count(e, p, count ^ bit);
+    case 0: e->count[p] = (count + 1) & most; break;
+    case 1: e->count[p] = count > 0 ? count - 1 : 1; break;
+    default: e->count[p] = count ^ bit;
     }
 }
 
 /* Of another process less than its own processes knew before. False if they knew of none. */
 static bool forget_own(struct source *s, const struct execution *x, struct sent *e) {
-    unsigned known[PROCESSES] = {0};
+    unsigned known[PROCESSES];
     uint64_t others = 0;
+    memcpy(known, x->begin, sizeof known);
     for (unsigned p = 0; p < PROCESSES; p++)
-        if (takes_part(e, p) && sent_count(e, p) > 0) learn(x, p, sent_count(e, p) - 1, known);
+        if (takes_part(e, p) && e->count[p] > 0) learn(x, p, e->count[p] - 1, known);
     for (unsigned q = 0; q < PROCESSES; q++)
         if (!takes_part(e, q) && known[q] > 0) others |= (uint64_t)1 << q;
     if (others == 0) return false;
     unsigned q = process_of(s, others);
-    set_sent_count(e, q, chance(s, 50) ? known[q] - 1 : below(s, known[q]));
+    e->count[q] = chance(s, 50) ? known[q] - 1 : below(s, known[q]);
     return true;
 }
 
@@ -143,8 +143,8 @@ static uint64_t news(const struct sent *e, const struct sent *f) {
     uint64_t set = 0;
     if (e->mask & f->mask) return 0;
     for (unsigned p = 0; p < PROCESSES; p++) {
-        if (takes_part(e, p) && sent_count(f, p) >= sent_count(e, p)) return 0;
-        if (sent_count(f, p) > sent_count(e, p)) set |= (uint64_t)1 << p;
+        if (takes_part(e, p) && f->count[p] >= e->count[p]) return 0;
+        if (f->count[p] > e->count[p]) set |= (uint64_t)1 << p;
     }
     return set;
 }
@@ -157,8 +157,8 @@ static void know_in_part(struct source *s, struct sent *e, const struct sent *f,
     if (way == 0 && f->mask != set) heard = f->mask;
     if (way == 1 && (f->mask & rest) != 0) heard = rest;
     for (unsigned p = 0; p < PROCESSES; p++) {
-        if (heard >> p & 1) set_sent_count(e, p, sent_count(f, p));
-        else if (set >> p & 1 && chance(s, 30)) set_sent_count(e, p, sent_count(f, p) - 1);
+        if (heard >> p & 1) e->count[p] = f->count[p];
+        else if (set >> p & 1 && chance(s, 30)) e->count[p] = f->count[p] - 1;
     }
 }
 
@@ -184,11 +184,11 @@ static bool overlook(struct source *s, const struct execution *x, struct sent *e
 /* One more only where there is such an event: else it would wait for ever, and the true one behind it. */
 static void miscount(struct source *s, const struct execution *x, struct sent *e) {
     uint64_t others = ((1u << x->k) - 1) & ~e->mask;
-    unsigned q = process_of(s, others), count = sent_count(e, q);
+    unsigned q = process_of(s, others), count = e->count[q];
     bool more = event_numbered(x, q, count + 1) != NULL;
     if (others == 0) return;
-    if (count > 0 && (!more || chance(s, 50))) set_sent_count(e, q, count - 1);
-    else if (more || chance(s, 5)) set_sent_count(e, q, count + 1);
+    if (count > 0 && (!more || chance(s, 50))) e->count[q] = count - 1;
+    else if (more || chance(s, 5)) e->count[q] = count + 1;
 }
 
 struct sent forgetful(struct source *s, const struct execution *x, struct sent e) {
@@ -199,12 +199,12 @@ struct sent forgetful(struct source *s, const struct execution *x, struct sent e
     return e;
 }
 
-struct sent nearly(struct source *s, struct sent e, unsigned k) {
+struct sent nearly(struct source *s, struct sent e, unsigned k, unsigned most) {
     unsigned own = process_of(s, e.mask), other = process_of(s, ((1u << k) - 1) & ~e.mask), any = below(s, k);
     switch (below(s, 8)) {
     case 0: case 1: e.labels ^= (uint64_t)1 << (8 * own + below(s, 8)); break;
-    case 2: case 3: change_count(s, &e, other); break;
-    case 4: change_count(s, &e, own); break;
+    case 2: case 3: change_count(s, &e, other, most); break;
+    case 4: change_count(s, &e, own, most); break;
     case 5: e.mask ^= (uint64_t)1 << any; break;
     case 6: /* the same, but never refused for the labels of a process that left it */
         e.mask ^= (uint64_t)1 << any;
@@ -215,13 +215,33 @@ struct sent nearly(struct source *s, struct sent e, unsigned k) {
     return e;
 }
 
-struct sent random_sent(struct source *s, unsigned k) {
+unsigned brink(struct source *s, unsigned most) {
+    static const unsigned ends[] = {255, 65535, 65535, 65535, 16777215, 2147483647, 4294967295, 4294967295};
+    unsigned end = ends[below(s, most > 65535 ? 8 : 4)], off = below(s, 3);
+    return chance(s, 50) ? end - off : (end + off) & most;
+}
+
+static unsigned begin_count(struct source *s, unsigned most) {
+    unsigned choice = below(s, 10), end = brink(s, most);
+    if (choice < 2) return between(s, 1, 5);
+    if (choice < 3) return between(s, 250, 256);
+    if (choice < 7 || most == 65535) return between(s, 65526, 65535);
+    return end == 0 || chance(s, 60) ? most - below(s, 8) : end;
+}
+
+void random_begin(struct source *s, struct shape *shape, unsigned most) {
+    unsigned highest = chance(s, 50) ? 65535 : most;
+    for (unsigned p = 0; p < shape->k; p++) shape->begin[p] = begin_count(s, highest);
+    shape->limit = most;
+}
+
+struct sent random_sent(struct source *s, unsigned k, unsigned most) {
     struct sent e = {.mask = chance(s, 70) ? random_mask(s, k, 50) : sized(s)};
     if (chance(s, 5)) e.mask |= (uint64_t)1 << between(s, 8, 63);
     if (chance(s, 5)) e.mask = 0;
     for (unsigned p = 0; p < PROCESSES; p++) {
-        unsigned count = chance(s, 5) ? 65535 - below(s, 2) : below(s, 5);
-        set_sent_count(&e, p, p < k || chance(s, 3) ? count : 0);
+        unsigned count = chance(s, 5) ? brink(s, most) : below(s, 5);
+        e.count[p] = p < k || chance(s, 3) ? count : 0;
     }
     e.labels = chance(s, 70) ? random_labels(s, e.mask) : draw(s) & draw(s) & draw(s);
     return e;

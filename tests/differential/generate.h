@@ -14,16 +14,15 @@ size_t random_rule(struct source *s, unsigned k, unsigned lines, uint8_t *text);
 /* A text near a rule: bytes changed, put in, left out, an end too early, brackets too deep, too many lines. */
 size_t spoiled_rule(struct source *s, unsigned k, uint8_t *text);
 
-/* An event as it is offered. */
+/* An event as it is offered, in either form: a clock's words are made of the counts when it is sent. */
 struct sent {
-    uint64_t mask, low, high, labels;
+    uint64_t mask, labels;
+    unsigned count[8];
 };
-
-unsigned sent_count(const struct sent *e, unsigned p);
-void set_sent_count(struct sent *e, unsigned p, unsigned count);
 
 struct execution {
     unsigned k, n;
+    unsigned begin[8], limit;       /* as in its shape */
     struct sent event[EVENTS_MOST]; /* in an order in which they could have happened */
 };
 
@@ -33,6 +32,7 @@ struct shape {
     size_t most;              /* and at most so many vectors of counts */
     unsigned joint, messages; /* percentage of events with more than one process, and of those that know of others */
     unsigned alone, before;   /* so many events of one process by itself went before, which knew of nothing else */
+    unsigned begin[8], limit; /* or so many of each, of which all know; no count goes above the limit, if there is one */
     unsigned ending;          /* percentage of events after which some process takes no part any more */
 };
 
@@ -54,11 +54,18 @@ struct sent forgetful(struct source *s, const struct execution *x, struct sent e
 struct sent twisted(struct source *s, struct sent e, unsigned k);
 
 /* The same event but for one thing, and that changed as little as can be: a bit of a label, a count of a process that
- * takes part or of one that does not, the mask. */
-struct sent nearly(struct source *s, struct sent e, unsigned k);
+ * takes part or of one that does not, the mask. Most: the largest count of the form. */
+struct sent nearly(struct source *s, struct sent e, unsigned k, unsigned most);
 
 /* Numbers that need not be an event. */
-struct sent random_sent(struct source *s, unsigned k);
+struct sent random_sent(struct source *s, unsigned k, unsigned most);
+
+/* Into the shape: a beginning shortly before the counts of one byte, of two, or of the form end, with this as the
+ * largest. A process that has reached it does nothing more. In half of the cases no count is above 65,535 then. */
+void random_begin(struct source *s, struct shape *shape, unsigned most);
+
+/* A count at which something ends: what one byte, two or three hold, the largest, the one after it. */
+unsigned brink(struct source *s, unsigned most);
 
 uint64_t random_labels(struct source *s, uint64_t mask);
 

@@ -1,6 +1,6 @@
 /* Random calls on one watch: an execution's events in some order, sent again, nearly the same, twisted, with clocks
- * that forget, with numbers that are none; closes anywhere among them; windows that are too short and then longer;
- * buffers of wrong lengths. */
+ * that forget, with numbers that are none; closes anywhere among them, and moves to the other form; windows that are
+ * too short and then longer; buffers of wrong lengths. */
 #include <string.h>
 
 #include "twin.h"
@@ -13,44 +13,79 @@ void try_texts(struct source *s, struct twin *t) {
     uint8_t text[TEXT_MOST];
     for (unsigned i = 0; i < 25; i++) {
         unsigned k = between(s, 1, 8);
-        size_t record_length = RECORD, window_length = FRONTIER * random_room(s);
-        if (chance(s, 3)) record_length = chance(s, 50) ? RECORD - 1 - below(s, 5) : RECORD + below(s, 9);
+        t->form = random_form(s);
+        size_t right = t->form->record, record_length = right, window_length = t->form->frontier * random_room(s);
+        if (chance(s, 3)) record_length = chance(s, 50) ? right - 1 - below(s, 5) : right + below(s, 9);
+        if (chance(s, 1)) record_length = other_form(t->form)->record;
         if (chance(s, 3)) window_length = below(s, WINDOW_MOST + 1);
         uint64_t labels = random_labels(s, (1u << k) - 1), processes = k;
         if (chance(s, 3)) labels |= (uint64_t)1 << below(s, 64);
         if (chance(s, 3)) processes = chance(s, 50) ? below(s, 12) : sized(s);
         size_t length = chance(s, 25) ? random_rule(s, k, between(s, 1, 64), text) : spoiled_rule(s, k, text);
-        fill_junk(s, t->record_bytes, RECORD);
+        fill_junk(s, t->record_bytes, right);
         fill_junk(s, t->window_bytes, window_length);
         twin_lend(t, s, record_length, window_length);
         twin_open(t, text, length, processes, labels);
     }
 }
 
-/* A call with one buffer of a wrong length, or a window too short for what is kept; then everything is lent as before. */
+/* A length that is not the form's: a little off, or the other form's. */
+static size_t wrong_record(struct source *s, const struct layout *form) {
+    if (chance(s, 30)) return other_form(form)->record;
+    return chance(s, 50) ? below(s, (unsigned)form->record) : form->record + 1 + below(s, 100);
+}
+
+static size_t wrong_window(struct source *s, const struct layout *form, size_t length) {
+    size_t others = length / form->frontier * other_form(form)->frontier;
+    if (chance(s, 20)) return form->frontier * (ROOM + 1);
+    if (chance(s, 30) && !window_length(form, others)) return others;
+    size_t wrong = length + 1 + below(s, (unsigned)form->frontier - 1);
+    return wrong <= WINDOW_MOST ? wrong : 0;
+}
+
+/* A call with one buffer of a wrong length, or a window too short for what is kept; then all is lent as before. */
 static void wrong_lengths(struct source *s, struct twin *t) {
-    size_t window_length = t->window_length, record_length = RECORD, wrong = window_length, scratch_length;
-    size_t kept_length = FRONTIER * (t->record_bytes[4] + 256u * t->record_bytes[5]);
+    const struct layout *form = t->form;
+    size_t window_length = t->window_length, record_length = form->record, wrong = window_length, scratch_length;
+    size_t kept_length = form->frontier * (t->record_bytes[KEPT_AT] + 256u * t->record_bytes[KEPT_AT + 1]);
     unsigned choice = below(s, 4);
-    if (choice == 0) record_length = chance(s, 50) ? below(s, RECORD) : RECORD + 1 + below(s, 100);
-    if (choice == 1) wrong = chance(s, 50) ? window_length + 1 + below(s, 39) : FRONTIER * (ROOM + 1);
-    if (choice == 1 && wrong > WINDOW_MOST) wrong = 0;
-    if (choice == 2 && kept_length > FRONTIER) wrong = kept_length - FRONTIER;
-    scratch_length = choice == 3 ? FRONTIER * random_room(s) : wrong;
-    if (record_length == RECORD && wrong == window_length && scratch_length == wrong) return;
+    if (choice == 0) record_length = wrong_record(s, form);
+    if (choice == 1) wrong = wrong_window(s, form, window_length);
+    if (choice == 2 && kept_length > form->frontier) wrong = kept_length - form->frontier;
+    scratch_length = choice == 3 ? form->frontier * random_room(s) : wrong;
+    if (record_length == form->record && wrong == window_length && scratch_length == wrong) return;
     twin_lend(t, s, record_length, wrong);
-    if (wrong != window_length || record_length != RECORD) {
+    if (wrong != window_length || record_length != form->record) {
         twin_find(t, below(s, 10));
         twin_close(t, random_process(s, t->model.k));
+        const struct layout *to = other_form(form);
+        size_t to_length = to->frontier * (wrong / form->frontier);
+        if (both_forms()) twin_move(t, s, to->record, to_length <= WINDOW_MOST ? to_length : to->frontier);
     }
-    if (record_length != RECORD) twin_offer(t, random_sent(s, t->model.k));
+    if (record_length != form->record) twin_offer(t, random_sent(s, t->model.k, form->most));
     twin_take(t, s, scratch_length);
-    twin_lend(t, s, RECORD, window_length);
+    twin_lend(t, s, form->record, window_length);
+}
+
+/* Into buffers of the right lengths, or with one of them wrong, or with room for more or fewer frontiers: 6. */
+static uint64_t move_watch(struct source *s, struct twin *t, bool right) {
+    const struct layout *to = other_form(t->form);
+    size_t record_length = to->record, window_length = to->frontier * twin_room(t);
+    unsigned choice = right ? 3 : below(s, 3);
+    if (choice == 0) record_length = wrong_record(s, to);
+    if (choice == 1) window_length = wrong_window(s, to, window_length);
+    if (choice == 2) window_length = to->frontier * random_room(s);
+    return both_forms() ? twin_move(t, s, record_length, window_length) : 6;
+}
+
+/* There and back: the bytes are the old ones then, and the calls go on in the form in which they were. */
+static void move_there_and_back(struct source *s, struct twin *t) {
+    if (move_watch(s, t, chance(s, 85)) == 0 && chance(s, 40)) move_watch(s, t, true);
 }
 
 static void lend_longer(struct source *s, struct twin *t) {
-    size_t room = t->window_length / FRONTIER, longer = room + (chance(s, 70) ? between(s, 1, 4) : random_room(s));
-    twin_lend(t, s, RECORD, FRONTIER * (longer < ROOM ? longer : ROOM));
+    size_t longer = twin_room(t) + (chance(s, 70) ? between(s, 1, 4) : random_room(s));
+    twin_lend(t, s, t->form->record, t->form->frontier * (longer < ROOM ? longer : ROOM));
 }
 
 /* One line; now and then all of them, since few hold at some kept frontiers but not at the first. */
@@ -62,7 +97,9 @@ static void random_find(struct source *s, struct twin *t) {
 }
 
 static void random_offer(struct source *s, struct twin *t, const struct execution *x) {
-    struct sent e = random_sent(s, x->k);
+    struct sent e = random_sent(s, x->k, t->form->most);
+    for (unsigned p = 0; p < x->k; p++)
+        if (chance(s, 80)) e.count[p] += x->begin[p];
     if (x->n > 0 && chance(s, 70)) e = x->event[below(s, x->n)];
     if (x->n > 0 && chance(s, 50)) e = twisted(s, x->event[below(s, x->n)], x->k);
     twin_offer(t, e);
@@ -74,7 +111,7 @@ static uint64_t finished_process(struct source *s, const struct twin *t, const s
     uint64_t process = below(s, x->k);
     for (unsigned i = 0; i < x->n; i++)
         for (unsigned p = 0; p < x->k; p++) {
-            unsigned count = x->event[i].mask >> p & 1 ? sent_count(&x->event[i], p) : 0;
+            unsigned count = x->event[i].mask >> p & 1 ? x->event[i].count[p] : 0;
             if (count > last[p]) last[p] = count;
         }
     for (unsigned p = 0; p < x->k; p++)
@@ -90,9 +127,9 @@ static void random_close(struct source *s, struct twin *t, const struct executio
 static bool next_up(const struct twin *t, const struct sent *e) {
     for (unsigned p = 0; p < PROCESSES; p++) {
         if (!(e->mask >> p & 1)) continue;
-        if (sent_count(e, p) != t->model.history.taken[p] + 1) return false;
+        if (e->count[p] != t->model.history.taken[p] + 1) return false;
         for (unsigned i = 0; i < t->model.pending_number; i++)
-            if (involved(&t->model.pending[i], p) && t->model.pending[i].clock[p] == sent_count(e, p)) return false;
+            if (involved(&t->model.pending[i], p) && t->model.pending[i].clock[p] == e->count[p]) return false;
     }
     return true;
 }
@@ -113,10 +150,10 @@ static void forgetful_offer(struct source *s, struct twin *t, const struct execu
 static void repeated_offer(struct source *s, struct twin *t, const struct sent *sent, unsigned n) {
     unsigned pending = t->model.pending_number;
     struct sent e;
-    if (pending > 0 && chance(s, 80)) e = pending_sent(t->record_bytes, below(s, pending));
+    if (pending > 0 && chance(s, 80)) e = pending_sent(t->form, t->record_bytes, below(s, pending));
     else if (n > 0) e = sent[below(s, n)];
     else return;
-    twin_offer(t, chance(s, 50) ? e : nearly(s, e, t->model.k));
+    twin_offer(t, chance(s, 50) ? e : nearly(s, e, t->model.k, t->form->most));
 }
 
 /* Takes, with a longer window at 36, until nothing is ready. */
@@ -124,7 +161,7 @@ static void drain(struct source *s, struct twin *t) {
     for (;;) {
         uint64_t reply = twin_take(t, s, t->window_length);
         if (reply == 0) return;
-        if (reply == 36 && t->window_length == FRONTIER * ROOM) return;
+        if (reply == 36 && twin_room(t) == ROOM) return;
         if (reply == 36) lend_longer(s, t);
     }
 }
@@ -132,10 +169,11 @@ static void drain(struct source *s, struct twin *t) {
 static void start_watch(struct source *s, struct twin *t, unsigned k, size_t room) {
     uint8_t text[TEXT_MOST];
     size_t length = random_rule(s, k, chance(s, 80) ? between(s, 1, 24) : between(s, 24, 64), text);
-    size_t window_length = FRONTIER * room;
-    fill_junk(s, t->record_bytes, RECORD);
+    t->form = random_form(s);
+    size_t window_length = t->form->frontier * room;
+    fill_junk(s, t->record_bytes, t->form->record);
     fill_junk(s, t->window_bytes, window_length);
-    twin_lend(t, s, RECORD, window_length);
+    twin_lend(t, s, t->form->record, window_length);
     twin_open(t, text, length, k, random_labels(s, (1u << k) - 1));
     memset(t->window_bytes + window_length, 0, WINDOW_MOST - window_length);
 }
@@ -170,6 +208,7 @@ static void walk(struct source *s, struct twin *t, struct execution *x, unsigned
         else if (action < 85) lend_longer(s, t);
         else if (action < 88) wrong_lengths(s, t);
         else if (action < 91) damage_excursion(s, t, 3);
+        else if (action < 94) move_there_and_back(s, t);
         else repeated_offer(s, t, x->event, next);
     }
     drain(s, t);
@@ -178,6 +217,8 @@ static void walk(struct source *s, struct twin *t, struct execution *x, unsigned
     if (chance(s, 35)) close_all(s, t, x);
     random_find(s, t);
     damage_excursion(s, t, 4);
+    move_there_and_back(s, t);
+    move_excursion(s, t, true);
 }
 
 /* Where processes are closed, some have nothing more to do after a while: then others go on beside closed ones. */
@@ -208,12 +249,26 @@ void try_late(struct source *s, struct twin *t) {
     for (unsigned i = 1; i <= shape.before; i++) {
         struct sent e = {.mask = (uint64_t)1 << shape.alone};
         e.labels = random_labels(s, e.mask);
-        set_sent_count(&e, shape.alone, i);
+        e.count[shape.alone] = i;
         twin_forward(t, e);
     }
     twin_catch_up(t);
     struct execution x = random_execution(s, shape);
     walk(s, t, &x, 30, closing);
+}
+
+/* Wide watches near 65,535 can be moved back until some process is past it. */
+void try_late_begin(struct source *s, struct twin *t) {
+    struct shape shape = {.k = between(s, 1, 8), .most = 800};
+    start_watch(s, t, shape.k, random_room(s));
+    random_begin(s, &shape, t->form->most);
+    shape.n = between(s, 1, 14);
+    shape.joint = chance(s, 50) ? 15 : 50;
+    shape.messages = random_messages(s);
+    unsigned closing = random_closing(s, &shape);
+    twin_begin_late(t, s, shape.begin);
+    struct execution x = random_execution(s, shape);
+    walk(s, t, &x, chance(s, 50) ? 25 : 0, closing);
 }
 
 /* Every event comes after one of all processes together that does not come, so nothing is ready until others are sent
@@ -226,7 +281,7 @@ void try_crowd(struct source *s, struct twin *t) {
     shape.messages = random_messages(s);
     struct execution x = random_execution(s, shape);
     for (unsigned i = 0; i < x.n; i++)
-        for (unsigned p = 0; p < x.k; p++) set_sent_count(&x.event[i], p, sent_count(&x.event[i], p) + 1);
+        for (unsigned p = 0; p < x.k; p++) x.event[i].count[p]++;
     shuffle(s, x.event, x.n, chance(s, 50));
     while (next < x.n) {
         unsigned action = below(s, 100);
@@ -252,4 +307,19 @@ void try_damage(struct source *s, struct twin *t) {
         if (chance(s, 5)) random_close(s, t, &x);
     }
     for (unsigned i = 0; i < 12; i++) damage_excursion(s, t, 5);
+}
+
+/* Junk in every place, used or not. */
+void try_moves(struct source *s, struct twin *t) {
+    struct shape shape = {.k = between(s, 1, 8), .most = 600, .joint = 30};
+    shape.n = between(s, 1, 10);
+    start_watch(s, t, shape.k, random_room(s));
+    struct execution x = random_execution(s, shape);
+    shuffle(s, x.event, x.n, chance(s, 50));
+    for (unsigned i = 0; i < x.n; i++) {
+        twin_offer(t, x.event[i]);
+        if (chance(s, 50)) twin_take(t, s, t->window_length);
+        if (chance(s, 10)) move_there_and_back(s, t);
+    }
+    for (unsigned i = 0; i < 12; i++) move_excursion(s, t, true);
 }

@@ -6,14 +6,14 @@
 
 #include "model.h"
 
-enum { TAKEN_AT = 8, TABLE_AT = 152, PENDING_AT = 344, EVENT = 32, VALUES_AT = 32 };
-
-static unsigned get2(const uint8_t *at) {
-    return at[0] + 256u * at[1];
+static uint32_t get_kept(const uint8_t *record) {
+    uint32_t kept_frontiers = 0;
+    for (unsigned i = 0; i < 4; i++) kept_frontiers += (uint32_t)record[KEPT_AT + i] << 8 * i;
+    return kept_frontiers;
 }
 
-static uint32_t get4(const uint8_t *at) {
-    return get2(at) + 65536u * get2(at + 2);
+static unsigned taken_count(const struct layout *form, const uint8_t *record, unsigned p) {
+    return get_count(form, record + TAKEN_AT + form->width * p);
 }
 
 static bool bad_line(const uint8_t *line, unsigned i, unsigned k) {
@@ -25,22 +25,22 @@ static bool bad_line(const uint8_t *line, unsigned i, unsigned k) {
 }
 
 /* 34. Offer is lent no window: there the room is 1,024. */
-static bool damaged(const uint8_t *record, size_t room) {
+bool bytes_damaged(const struct layout *form, const uint8_t *record, size_t room) {
     unsigned k = record[0], lines = record[1];
-    uint32_t kept_frontiers = get4(record + 4);
+    uint32_t kept_frontiers = get_kept(record);
     if (k < 1 || k > PROCESSES || record[2] > PENDING || lines < 1 || lines > LINES) return true;
     if (kept_frontiers < 1 || kept_frontiers > ROOM || kept_frontiers > room) return true;
     for (unsigned i = 0; i < lines; i++)
-        if (bad_line(record + TABLE_AT + 3 * i, i, k)) return true;
+        if (bad_line(record + form->table_at + 3 * i, i, k)) return true;
     return false;
 }
 
-static struct event pending_at(const uint8_t *record, unsigned i) {
-    const uint8_t *at = record + PENDING_AT + EVENT * i;
+static struct event pending_event(const struct layout *form, const uint8_t *record, unsigned i) {
+    const uint8_t *at = record + form->pending_at + form->event * i;
     struct event e = {.mask = at[0]};
     for (unsigned p = 0; p < PROCESSES; p++) {
-        e.clock[p] = get2(at + 8 + 2 * p);
-        e.labels[p] = at[24 + p];
+        e.clock[p] = get_count(form, at + CLOCK_AT + form->width * p);
+        e.labels[p] = at[form->event_labels_at + p];
     }
     return e;
 }
@@ -53,15 +53,15 @@ static bool key_above(const struct event *e, const struct event *f) {
 }
 
 /* 31, again, 32, 33, or 0. What lies between a pending event's mask and its clock belongs to no event. */
-static unsigned answered_by_record(const struct event *e, const uint8_t *record) {
+static unsigned answered_by_record(const struct layout *form, const struct event *e, const uint8_t *record) {
     for (unsigned p = 0; p < PROCESSES; p++)
-        if (involved(e, p) && e->clock[p] <= get2(record + TAKEN_AT + 2 * p)) return 31;
+        if (involved(e, p) && e->clock[p] <= taken_count(form, record, p)) return 31;
     for (unsigned i = 0; i < record[2]; i++) {
-        struct event f = pending_at(record, i);
+        struct event f = pending_event(form, record, i);
         if (same_event(e, &f)) return AGAIN;
     }
     for (unsigned i = 0; i < record[2]; i++) {
-        struct event f = pending_at(record, i);
+        struct event f = pending_event(form, record, i);
         for (unsigned p = 0; p < PROCESSES; p++)
             if (involved(e, p) && involved(&f, p) && e->clock[p] == f.clock[p]) return 32;
     }
@@ -69,73 +69,78 @@ static unsigned answered_by_record(const struct event *e, const uint8_t *record)
 }
 
 /* In front of the first pending event with a larger key; those behind move up as they are. */
-static void insert(const struct event *e, uint8_t *record) {
+static void insert(const struct layout *form, const struct event *e, uint8_t *record) {
     unsigned place = 0;
     struct event f;
-    while (place < record[2] && (f = pending_at(record, place), !key_above(&f, e))) place++;
-    uint8_t *at = record + PENDING_AT + EVENT * place;
-    memmove(at + EVENT, at, EVENT * (record[2] - place));
-    memset(at, 0, EVENT);
+    while (place < record[2] && (f = pending_event(form, record, place), !key_above(&f, e))) place++;
+    uint8_t *at = record + form->pending_at + form->event * place;
+    memmove(at + form->event, at, form->event * (record[2] - place));
+    memset(at, 0, form->event);
     at[0] = e->mask;
     for (unsigned p = 0; p < PROCESSES; p++) {
-        at[8 + 2 * p] = (uint8_t)e->clock[p];
-        at[9 + 2 * p] = (uint8_t)(e->clock[p] >> 8);
-        at[24 + p] = e->labels[p];
+        put_count(form, at + CLOCK_AT + form->width * p, e->clock[p]);
+        at[form->event_labels_at + p] = e->labels[p];
     }
     record[2]++;
 }
 
-unsigned bytes_offer(uint64_t mask, uint64_t clock_low, uint64_t clock_high, uint64_t labels, uint8_t *record, size_t record_len) {
-    if (record_len != RECORD) return 6;
-    if (damaged(record, ROOM)) return 34;
-    struct event e = event_of(mask, clock_low, clock_high, labels);
-    unsigned number = refused_event(record[0], mask, clock_low, clock_high, labels);
-    if (number == 0 && (e.mask & record[3]) != 0) number = 42;
-    if (number == 0) number = answered_by_record(&e, record);
-    if (number == 0) insert(&e, record);
+unsigned bytes_offer(const struct layout *form, const struct words *w, uint8_t *record, size_t record_len) {
+    if (record_len != form->record) return 6;
+    if (bytes_damaged(form, record, ROOM)) return 34;
+    struct event e = event_of(form, w);
+    unsigned number = refused_event(form, record[0], w);
+    if (number == 0 && (e.mask & record[CLOSED_AT]) != 0) number = 42;
+    if (number == 0) number = answered_by_record(form, &e, record);
+    if (number == 0) insert(form, &e, record);
     return number;
+}
+
+static bool wrong_lengths(const struct layout *form, size_t record_len, size_t window_len) {
+    return record_len != form->record || !window_length(form, window_len);
 }
 
 /* The kept frontiers are the first so many of the window and go by their places, whatever their counts are; a line
  * holds where its bit of the values is set. */
-uint64_t bytes_find(uint64_t line, const uint8_t *record, size_t record_len, const uint8_t *window, size_t window_len) {
-    if (record_len != RECORD || !window_length(window_len)) return reply_word(6, 0, 0, 0);
-    if (damaged(record, window_len / FRONTIER)) return reply_word(34, 0, 0, 0);
+uint64_t bytes_find(const struct layout *form, uint64_t line, const uint8_t *record, size_t record_len,
+                    const uint8_t *window, size_t window_len) {
+    if (wrong_lengths(form, record_len, window_len)) return reply_word(6, 0, 0, 0);
+    if (bytes_damaged(form, record, window_len / form->frontier)) return reply_word(34, 0, 0, 0);
     if (line >= record[1]) return reply_word(11, 0, 0, 0);
-    for (uint32_t place = 0; place < get4(record + 4); place++) {
-        const uint8_t *values = window + FRONTIER * place + VALUES_AT;
+    for (uint32_t place = 0; place < get_kept(record); place++) {
+        const uint8_t *values = window + form->frontier * place + form->values_at;
         if (values[line / 8] >> line % 8 & 1) return reply_word(0, 1, place, 0);
     }
     return 0;
 }
 
 /* The eight counts of a frontier are the clock, lowered by 1 at the involved processes. */
-static bool lowered_is(const struct event *e, const uint8_t *frontier) {
+static bool lowered_is(const struct layout *form, const struct event *e, const uint8_t *frontier) {
     for (unsigned p = 0; p < PROCESSES; p++)
-        if (get2(frontier + 2 * p) != e->clock[p] - involved(e, p)) return false;
+        if ((uint64_t)get_count(form, frontier + form->width * p) + involved(e, p) != e->clock[p]) return false;
     return true;
 }
 
 /* One of the first so many frontiers, in whatever order they stand; what stands behind them is not kept. */
-static bool true_by_window(const struct event *e, const uint8_t *window, uint32_t kept_frontiers) {
+static bool true_by_window(const struct layout *form, const struct event *e, const uint8_t *window,
+                           uint32_t kept_frontiers) {
     for (uint32_t i = 0; i < kept_frontiers; i++)
-        if (lowered_is(e, window + FRONTIER * i)) return true;
+        if (lowered_is(form, e, window + form->frontier * i)) return true;
     return false;
 }
 
-struct possible bytes_take(const uint8_t *record, size_t record_len, const uint8_t *window, size_t window_len,
-                           size_t scratch_len) {
+struct possible bytes_take(const struct layout *form, const uint8_t *record, size_t record_len, const uint8_t *window,
+                           size_t window_len, size_t scratch_len) {
     struct possible can = {.nothing_ready = true};
-    if (record_len != RECORD || !window_length(window_len) || scratch_len != window_len)
+    if (wrong_lengths(form, record_len, window_len) || scratch_len != window_len)
         return (struct possible){.refused = 6};
-    if (damaged(record, window_len / FRONTIER)) return (struct possible){.refused = 34};
+    if (bytes_damaged(form, record, window_len / form->frontier)) return (struct possible){.refused = 34};
     unsigned counts[PROCESSES];
-    for (unsigned p = 0; p < PROCESSES; p++) counts[p] = get2(record + TAKEN_AT + 2 * p);
+    for (unsigned p = 0; p < PROCESSES; p++) counts[p] = taken_count(form, record, p);
     for (unsigned i = 0; i < record[2]; i++) {
-        struct event e = pending_at(record, i);
+        struct event e = pending_event(form, record, i);
         if (!ready(&e, counts)) continue;
         can.nothing_ready = false;
-        if (!true_by_window(&e, window, get4(record + 4))) {
+        if (!true_by_window(form, &e, window, get_kept(record))) {
             can.false_clock = true;
             can.no_room = false;
             return can;
@@ -147,11 +152,11 @@ struct possible bytes_take(const uint8_t *record, size_t record_len, const uint8
 
 /* Byte 3 says which processes are closed. Some process of the watch that is not has all its taken events in the
  * frontier; or all eight counts are the taken ones, those of processes that the watch has not too. */
-static bool stays(const uint8_t *frontier, const uint8_t *record) {
+static bool stays(const struct layout *form, const uint8_t *frontier, const uint8_t *record) {
     bool all_taken = true;
     for (unsigned p = 0; p < PROCESSES; p++) {
-        bool complete = get2(frontier + 2 * p) == get2(record + TAKEN_AT + 2 * p);
-        bool open = p < record[0] && !(record[3] >> p & 1);
+        bool complete = get_count(form, frontier + form->width * p) == taken_count(form, record, p);
+        bool open = p < record[0] && !(record[CLOSED_AT] >> p & 1);
         if (open && complete) return true;
         all_taken = all_taken && complete;
     }
@@ -160,32 +165,34 @@ static bool stays(const uint8_t *frontier, const uint8_t *record) {
 
 /* Those that stay move up in their order, and the places that they leave free become 0. How many were kept before
  * decides what is looked at and what is cleared: nothing behind that is touched. */
-static uint32_t drop(const uint8_t *record, uint8_t *window) {
-    uint32_t before = get4(record + 4), staying = 0;
+static uint32_t drop(const struct layout *form, const uint8_t *record, uint8_t *window) {
+    uint32_t before = get_kept(record), staying = 0;
+    size_t size = form->frontier;
     for (uint32_t i = 0; i < before; i++) {
-        const uint8_t *frontier = window + FRONTIER * i;
-        if (stays(frontier, record)) memmove(window + FRONTIER * staying++, frontier, FRONTIER);
+        const uint8_t *frontier = window + size * i;
+        if (stays(form, frontier, record)) memmove(window + size * staying++, frontier, size);
     }
-    memset(window + FRONTIER * staying, 0, FRONTIER * (before - staying));
+    memset(window + size * staying, 0, size * (before - staying));
     return staying;
 }
 
-static bool pending_names(const uint8_t *record, unsigned process) {
+static bool pending_names(const struct layout *form, const uint8_t *record, unsigned process) {
     for (unsigned i = 0; i < record[2]; i++) {
-        struct event e = pending_at(record, i);
+        struct event e = pending_event(form, record, i);
         if (involved(&e, process)) return true;
     }
     return false;
 }
 
 /* On such bytes no frontier need stay. */
-uint64_t bytes_close(uint64_t process, uint8_t *record, size_t record_len, uint8_t *window, size_t window_len) {
-    if (record_len != RECORD || !window_length(window_len)) return reply_word(6, 0, 0, 0);
-    if (damaged(record, window_len / FRONTIER)) return reply_word(34, 0, 0, 0);
-    if (process >= record[0] || record[3] >> process & 1) return reply_word(41, 0, 0, 0);
-    if (pending_names(record, (unsigned)process)) return reply_word(42, 0, 0, 0);
-    record[3] |= (uint8_t)(1u << process);
-    uint32_t staying = drop(record, window);
-    for (unsigned i = 0; i < 4; i++) record[4 + i] = (uint8_t)(staying >> 8 * i);
+uint64_t bytes_close(const struct layout *form, uint64_t process, uint8_t *record, size_t record_len, uint8_t *window,
+                     size_t window_len) {
+    if (wrong_lengths(form, record_len, window_len)) return reply_word(6, 0, 0, 0);
+    if (bytes_damaged(form, record, window_len / form->frontier)) return reply_word(34, 0, 0, 0);
+    if (process >= record[0] || record[CLOSED_AT] >> process & 1) return reply_word(41, 0, 0, 0);
+    if (pending_names(form, record, (unsigned)process)) return reply_word(42, 0, 0, 0);
+    record[CLOSED_AT] |= (uint8_t)(1u << process);
+    uint32_t staying = drop(form, record, window);
+    for (unsigned i = 0; i < 4; i++) record[KEPT_AT + i] = (uint8_t)(staying >> 8 * i);
     return reply_word(0, 0, staying, 0);
 }

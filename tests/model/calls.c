@@ -1,5 +1,6 @@
-/* The five calls on a watch that is written by these calls only: sections "The calls" and "Turned back", request 1 on
- * an event that is sent again, request 2 on 35, request 4 on what find answers, and request 5 on close and 42. */
+/* The calls on a watch that is written by these calls only: sections "The calls" and "Turned back", request 1 on an
+ * event that is sent again, request 2 on 35, request 4 on what find answers, request 5 on close and 42, and request 6
+ * on the two forms and the moves between them. */
 #include <stdlib.h>
 #include <string.h>
 
@@ -18,31 +19,28 @@ unsigned open_processes(const struct model *m) {
     return all & ~(unsigned)m->closed;
 }
 
-bool window_length(size_t length) {
-    return length >= FRONTIER && length <= FRONTIER * ROOM && length % FRONTIER == 0;
-}
-
 static uint8_t byte_of(uint64_t word, unsigned p) {
     return (uint8_t)(word >> 8 * p);
 }
 
-static unsigned count_of(uint64_t low, uint64_t high, unsigned p) {
-    return (p < 4 ? low >> 16 * p : high >> 16 * (p - 4)) & 65535;
+static unsigned count_of(const struct layout *form, const uint64_t *clock, unsigned p) {
+    unsigned in_word = 8 / form->width;
+    return (unsigned)(clock[p / in_word] >> 8 * form->width * (p % in_word) & form->most);
 }
 
-struct event event_of(uint64_t mask, uint64_t clock_low, uint64_t clock_high, uint64_t labels) {
-    struct event e = {.mask = (uint8_t)mask};
+struct event event_of(const struct layout *form, const struct words *w) {
+    struct event e = {.mask = (uint8_t)w->mask};
     for (unsigned p = 0; p < PROCESSES; p++) {
-        e.clock[p] = count_of(clock_low, clock_high, p);
-        e.labels[p] = byte_of(labels, p);
+        e.clock[p] = count_of(form, w->clock, p);
+        e.labels[p] = byte_of(w->labels, p);
     }
     return e;
 }
 
 /* 7, 8, 9. The mask is judged as a whole word. */
-unsigned refused_event(uint64_t k, uint64_t mask, uint64_t clock_low, uint64_t clock_high, uint64_t labels) {
-    struct event e = event_of(mask, clock_low, clock_high, labels);
-    if (mask == 0 || mask >> k != 0) return 7;
+unsigned refused_event(const struct layout *form, uint64_t k, const struct words *w) {
+    struct event e = event_of(form, w);
+    if (w->mask == 0 || w->mask >> k != 0) return 7;
     for (unsigned p = 0; p < PROCESSES; p++)
         if ((involved(&e, p) && e.clock[p] == 0) || (p >= k && e.clock[p] != 0)) return 8;
     for (unsigned p = 0; p < PROCESSES; p++)
@@ -53,7 +51,7 @@ unsigned refused_event(uint64_t k, uint64_t mask, uint64_t clock_low, uint64_t c
 /* Record and window from the model, and the answer to an opened watch or a taken event. Its flag is the rule's truth as a form. */
 uint64_t lay_down(const struct model *m, uint8_t *record, uint8_t *window, size_t window_len) {
     struct cuts all = all_cuts(&m->history);
-    judge_cuts(&all, &m->history, &m->rule, m->start);
+    judge_cuts(&all, &m->history, &m->rule, m->start, &m->first);
     size_t number = kept_number(&all, open_processes(m));
     const struct cut *largest = &all.cut[cut_place(&all, all.top)];
     unsigned truth = largest->forms >> (m->rule.forms - 1) & 1;
@@ -63,16 +61,17 @@ uint64_t lay_down(const struct model *m, uint8_t *record, uint8_t *window, size_
     return reply_word(0, truth, number, 0);
 }
 
-uint64_t model_open(struct model *m, const uint8_t *rule, size_t rule_len, uint64_t k, uint64_t start_labels,
-                    uint8_t *record, size_t record_len, uint8_t *window, size_t window_len) {
+uint64_t model_open(struct model *m, const struct layout *form, const uint8_t *rule, size_t rule_len, uint64_t k,
+                    uint64_t start_labels, uint8_t *record, size_t record_len, uint8_t *window, size_t window_len) {
     struct rule read;
-    if (record_len != RECORD || !window_length(window_len)) return refused(6);
+    if (record_len != form->record || !window_length(form, window_len)) return refused(6);
     if (k < 1 || k > PROCESSES) return refused(5);
     for (unsigned p = (unsigned)k; p < PROCESSES; p++)
         if (byte_of(start_labels, p) != 0) return refused(9);
     struct fault fault = read_rule(rule, rule_len, k, &read);
     if (fault.number != 0) return reply_word(fault.number, 0, 0, fault.place);
     memset(m, 0, sizeof *m);
+    m->form = form;
     m->k = (unsigned)k;
     m->rule = read;
     for (unsigned p = 0; p < PROCESSES; p++) m->start[p] = byte_of(start_labels, p);
@@ -111,12 +110,11 @@ static size_t frontiers(const struct history *h, unsigned open) {
     return number;
 }
 
-uint64_t model_offer(struct model *m, uint64_t mask, uint64_t clock_low, uint64_t clock_high, uint64_t labels,
-                     uint8_t *record, size_t record_len) {
-    if (record_len != RECORD) return refused(6);
-    unsigned number = refused_event(m->k, mask, clock_low, clock_high, labels);
+uint64_t model_offer(struct model *m, const struct words *w, uint8_t *record, size_t record_len) {
+    if (record_len != m->form->record) return refused(6);
+    unsigned number = refused_event(m->form, m->k, w);
     if (number != 0) return refused(number);
-    struct event e = event_of(mask, clock_low, clock_high, labels);
+    struct event e = event_of(m->form, w);
     uint64_t answer = answered_by_state(m, &e);
     if (answer != 0) return answer;
     m->pending[m->pending_number++] = e;
@@ -140,13 +138,22 @@ static bool true_by_taken(const struct model *m, const struct event *e) {
 static bool fits(const struct model *m, const struct event *e, size_t window_len) {
     struct history longer = m->history;
     append(&longer, e);
-    return frontiers(&longer, open_processes(m)) * FRONTIER <= window_len;
+    return frontiers(&longer, open_processes(m)) <= window_len / m->form->frontier;
+}
+
+static bool wrong_lengths(const struct model *m, size_t record_len, size_t window_len) {
+    return record_len != m->form->record || !window_length(m->form, window_len);
+}
+
+/* 34, the only way in which a watch that the calls wrote can meet it. */
+static bool too_short(const struct model *m, size_t window_len) {
+    return frontiers(&m->history, open_processes(m)) > window_len / m->form->frontier;
 }
 
 uint64_t model_take(struct model *m, uint8_t *record, size_t record_len, uint8_t *window, size_t window_len,
                     uint8_t *scratch, size_t scratch_len) {
-    if (record_len != RECORD || !window_length(window_len) || scratch_len != window_len) return refused(6);
-    if (frontiers(&m->history, open_processes(m)) * FRONTIER > window_len) return refused(34);
+    if (wrong_lengths(m, record_len, window_len) || scratch_len != window_len) return refused(6);
+    if (too_short(m, window_len)) return refused(34);
     unsigned answer = 0;
     memset(scratch, 0, scratch_len);
     for (unsigned i = 0; i < m->pending_number; i++) {
@@ -180,11 +187,11 @@ static uint64_t first_kept_with(const struct cuts *judged, unsigned open, uint64
 }
 
 uint64_t model_find(const struct model *m, uint64_t line, size_t record_len, size_t window_len) {
-    if (record_len != RECORD || !window_length(window_len)) return refused(6);
+    if (wrong_lengths(m, record_len, window_len)) return refused(6);
     struct cuts all = all_cuts(&m->history);
-    judge_cuts(&all, &m->history, &m->rule, m->start);
+    judge_cuts(&all, &m->history, &m->rule, m->start, &m->first);
     uint64_t answer = line < m->rule.lines ? first_kept_with(&all, open_processes(m), line) : refused(11);
-    if (kept_number(&all, open_processes(m)) * FRONTIER > window_len) answer = refused(34);
+    if (kept_number(&all, open_processes(m)) > window_len / m->form->frontier) answer = refused(34);
     free_cuts(&all);
     return answer;
 }
@@ -192,12 +199,46 @@ uint64_t model_find(const struct model *m, uint64_t line, size_t record_len, siz
 /* The window is laid down anew from all cuts: what a close drops is not worked out from what was kept before. */
 uint64_t model_close(struct model *m, uint64_t process, uint8_t *record, size_t record_len, uint8_t *window,
                      size_t window_len) {
-    if (record_len != RECORD || !window_length(window_len)) return refused(6);
-    if (frontiers(&m->history, open_processes(m)) * FRONTIER > window_len) return refused(34);
+    if (wrong_lengths(m, record_len, window_len)) return refused(6);
+    if (too_short(m, window_len)) return refused(34);
     if (process >= m->k || m->closed >> process & 1) return refused(41);
     for (unsigned i = 0; i < m->pending_number; i++)
         if (involved(&m->pending[i], (unsigned)process)) return refused(42);
     m->closed |= (uint8_t)(1u << process);
     lay_down(m, record, window, window_len);
     return reply_word(0, 0, frontiers(&m->history, open_processes(m)), 0);
+}
+
+/* No count in a record or window that the calls wrote is above the taken one of its process, but for those of pending
+ * events; places that are not used are 0. */
+static bool above(const struct model *m, unsigned most) {
+    for (unsigned p = 0; p < PROCESSES; p++) {
+        if (m->history.taken[p] > most) return true;
+        for (unsigned i = 0; i < m->pending_number; i++)
+            if (m->pending[i].clock[p] > most) return true;
+    }
+    return false;
+}
+
+uint64_t model_move(struct model *m, size_t record_len, size_t window_len, uint8_t *to_record, size_t to_record_len,
+                    uint8_t *to_window, size_t to_window_len) {
+    const struct layout *to = m->form == &wide_form ? &narrow_form : &wide_form;
+    if (wrong_lengths(m, record_len, window_len)) return refused(6);
+    if (to_record_len != to->record || !window_length(to, to_window_len)) return refused(6);
+    if (window_len / m->form->frontier != to_window_len / to->frontier) return refused(6);
+    if (too_short(m, window_len)) return refused(34);
+    if (above(m, to->most)) return refused(43);
+    m->form = to;
+    lay_down(m, to_record, to_window, to_window_len);
+    return 0;
+}
+
+void begin_late(struct model *m, const unsigned *begin) {
+    unsigned row = 0;
+    if (m->history.n > 0) abort();
+    for (unsigned p = 0; p < m->k; p++) {
+        m->history.begin[p] = m->history.taken[p] = begin[p];
+        if (begin[p] > row) row = begin[p];
+    }
+    m->first = judge_row(&m->rule, m->start, row);
 }

@@ -23,18 +23,24 @@ unsigned lowest_process(const struct event *e) {
 void append(struct history *h, const struct event *e) {
     if (h->n == HISTORY) abort();
     for (unsigned p = 0; p < PROCESSES; p++)
-        if (involved(e, p)) h->places[p][h->taken[p]++] = h->n;
+        if (involved(e, p)) h->places[p][h->taken[p]++ - h->begin[p]] = h->n;
     h->event[h->n++] = *e;
 }
 
 const struct event *numbered(const struct history *h, unsigned p, unsigned n) {
-    return n > 0 && n <= h->taken[p] ? &h->event[h->places[p][n - 1]] : NULL;
+    return n > h->begin[p] && n <= h->taken[p] ? &h->event[h->places[p][n - h->begin[p] - 1]] : NULL;
 }
 
 bool ready(const struct event *e, const unsigned *counts) {
     for (unsigned p = 0; p < PROCESSES; p++) {
-        if (involved(e, p) && e->clock[p] != counts[p] + 1) return false;
+        if (involved(e, p) && e->clock[p] != (uint64_t)counts[p] + 1) return false; /* none comes after the largest */
         if (!involved(e, p) && e->clock[p] > counts[p]) return false;
     }
     return true;
+}
+
+bool begins_late(const struct history *h) {
+    for (unsigned p = 0; p < PROCESSES; p++)
+        if (h->begin[p] > 0) return true;
+    return false;
 }

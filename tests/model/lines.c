@@ -5,7 +5,11 @@
 
 #include "program.h"
 
-enum { ENOUGH = 1000000 };
+/* Above every limit, and far from where a word ends. */
+static const uint64_t enough = 1000000000000;
+
+enum { K_MOST = 65535, ROOM_MOST = 1024, LABEL_MOST = 255, PROCESS_MOST = 7 };
+static const uint64_t count_most = 4294967295; /* request 6 */
 
 /* ---- a line's form, where numbers have any size and lists any length ---- */
 
@@ -35,7 +39,7 @@ static bool read_number(struct reader *r) {
         return false;
     }
     for (; digit_at(r, r->at); r->at++)
-        if (number.value < ENOUGH) number.value = 10 * number.value + (r->line[r->at] - '0');
+        if (number.value < enough) number.value = 10 * number.value + (r->line[r->at] - '0');
     if (parts->n == NUMBERS_MOST) abort();
     parts->number[parts->n++] = number;
     parts->list[number.list].numbers++;
@@ -126,8 +130,8 @@ static void wrong_length(struct fault *lowest, const struct parts *parts, unsign
 struct fault watch_line(const uint8_t *line, size_t length, struct parts *parts) {
     take_apart(line, length, "(watch", read_two_numbers, parts);
     struct fault lowest = form_and_length(parts, length);
-    if (parts->n > 0 && parts->number[0].value > 65535) found(&lowest, 10, parts->number[0].place);
-    if (parts->n > 1 && parts->number[1].value > 1024) found(&lowest, 10, parts->number[1].place);
+    if (parts->n > 0 && parts->number[0].value > K_MOST) found(&lowest, 10, parts->number[0].place);
+    if (parts->n > 1 && parts->number[1].value > ROOM_MOST) found(&lowest, 10, parts->number[1].place);
     if (parts->n > 1 && parts->number[1].value == 0) found(&lowest, 10, parts->number[1].place);
     return lowest;
 }
@@ -135,7 +139,7 @@ struct fault watch_line(const uint8_t *line, size_t length, struct parts *parts)
 struct fault start_line(const uint8_t *line, size_t length, unsigned k, struct parts *parts) {
     take_apart(line, length, "(start", read_start_labels, parts);
     struct fault lowest = form_and_length(parts, length);
-    numbers_above(&lowest, parts, 0, 255);
+    numbers_above(&lowest, parts, 0, LABEL_MOST);
     wrong_length(&lowest, parts, 0, k);
     return lowest;
 }
@@ -143,9 +147,9 @@ struct fault start_line(const uint8_t *line, size_t length, unsigned k, struct p
 struct fault did_line(const uint8_t *line, size_t length, unsigned k, struct parts *parts) {
     take_apart(line, length, "(did", read_three_lists, parts);
     struct fault lowest = form_and_length(parts, length);
-    numbers_above(&lowest, parts, 0, 7);
-    numbers_above(&lowest, parts, 1, 65535);
-    numbers_above(&lowest, parts, 2, 255);
+    numbers_above(&lowest, parts, 0, PROCESS_MOST);
+    numbers_above(&lowest, parts, 1, count_most);
+    numbers_above(&lowest, parts, 2, LABEL_MOST);
     not_ascending(&lowest, parts);
     if (parts->lists > 0 && parts->list[0].closed && parts->list[0].numbers == 0) found(&lowest, 10, parts->list[0].closing);
     wrong_length(&lowest, parts, 1, k);

@@ -10,7 +10,25 @@
 #include <stddef.h>
 #include <stdint.h>
 
-enum { PROCESSES = 8, LINES = 64, PENDING = 32, ROOM = 1024, FRONTIER = 40, RECORD = 1368, HISTORY = 512 };
+enum { PROCESSES = 8, LINES = 64, PENDING = 32, ROOM = 1024, HISTORY = 512, CLOCK_WORDS = 4 };
+
+/* ---- the two stored forms ---- */
+
+/* Request 6: the fields keep their order, and a count has 2 bytes or 4. Everything else follows from that. */
+struct layout {
+    unsigned width;                                 /* bytes of a count */
+    unsigned most;                                  /* the largest count */
+    size_t record, clocks_at, table_at, pending_at; /* of a record; the taken counts stand at TAKEN_AT */
+    size_t event, event_labels_at;                  /* of a pending event; its clock stands at CLOCK_AT */
+    size_t frontier, labels_at, masks_at, values_at; /* of a frontier; its counts stand first */
+};
+enum { CLOSED_AT = 3, KEPT_AT = 4, TAKEN_AT = 8, CLOCK_AT = 8 };
+
+extern const struct layout narrow_form, wide_form;
+
+unsigned get_count(const struct layout *form, const uint8_t *at);
+void put_count(const struct layout *form, uint8_t *at, unsigned count);
+bool window_length(const struct layout *form, size_t length);
 
 /* ---- events ---- */
 
@@ -20,9 +38,13 @@ struct event {
     uint8_t labels[PROCESSES];
 };
 
+/* No list is long enough to reach the largest counts event by event, so a history may begin late: after so many events
+ * of each process, of which each shared a process with the one before, the last one was of all processes, and none
+ * changed a label. Then all cuts so far stood in one row, and one of them is kept. */
 struct history {
     unsigned n;
     struct event event[HISTORY];          /* in the order in which they were taken */
+    unsigned begin[PROCESSES];            /* 0 unless it begins late */
     unsigned taken[PROCESSES];
     unsigned places[PROCESSES][HISTORY];  /* of each process's events, in that order */
 };
@@ -31,8 +53,9 @@ bool involved(const struct event *e, unsigned p);
 bool same_event(const struct event *e, const struct event *f); /* mask, clock and labels all agree */
 unsigned lowest_process(const struct event *e);
 void append(struct history *h, const struct event *e);
-const struct event *numbered(const struct history *h, unsigned p, unsigned n); /* p's event number n, from 1; NULL if there is none */
+const struct event *numbered(const struct history *h, unsigned p, unsigned n); /* p's event number n; NULL if none */
 bool ready(const struct event *e, const unsigned *counts);
+bool begins_late(const struct history *h);
 
 /* ---- rules ---- */
 
@@ -66,13 +89,13 @@ struct cut {
 };
 
 struct cuts {
-    unsigned top[PROCESSES]; /* the taken counts */
+    unsigned begin[PROCESSES], top[PROCESSES]; /* the history's first counts, and the taken ones */
     size_t n;
-    struct cut *cut; /* every vector of counts up to the top, ascending, process 0 compared first */
+    struct cut *cut; /* every vector of counts between them, ascending, process 0 compared first */
 };
 
 struct cuts all_cuts(const struct history *h);
-size_t cut_place(const struct cuts *all, const unsigned *counts); /* the counts must not be above the top */
+size_t cut_place(const struct cuts *all, const unsigned *counts); /* the counts must be between begin and top */
 bool precedes(const struct cuts *all, const struct event *e, const struct cut *s, size_t *place); /* e leads from the cut there to s */
 
 /* Of the cuts some are kept, by the set of open processes: those that have all taken events of one of these, and the
@@ -84,11 +107,16 @@ bool true_clock(const struct cuts *all, const struct event *e, unsigned open); /
 void free_cuts(struct cuts *all);
 
 void label_cut(const struct history *h, const uint8_t *start, const struct cut *s, uint8_t *labels);
-void judge_cuts(struct cuts *all, const struct history *h, const struct rule *rule, const uint8_t *start);
+void judge_cuts(struct cuts *all, const struct history *h, const struct rule *rule, const uint8_t *start,
+                const struct cut *first); /* of a history that begins late: its first cut */
+
+/* The truth at the last of so many cuts in one row behind the start, all with the start's labels. */
+struct cut judge_row(const struct rule *rule, const uint8_t *start, unsigned events);
 
 /* ---- the watch ---- */
 
 struct model {
+    const struct layout *form; /* in which it is stored */
     unsigned k;
     uint8_t start[PROCESSES];
     struct rule rule;
@@ -96,6 +124,7 @@ struct model {
     unsigned pending_number;
     struct event pending[PENDING]; /* by lowest process and its count */
     uint8_t closed;                /* bit p: process p is closed */
+    struct cut first;              /* the first cut of a history that begins late, judged */
 };
 
 unsigned open_processes(const struct model *m); /* bit p: the watch has process p, and it is not closed */
@@ -112,42 +141,61 @@ uint64_t reply_word(unsigned number, unsigned flag, uint64_t value, uint64_t pla
  * accepted. */
 enum { AGAIN = 256 };
 
+/* The watch as it stands, but late: before its first event so many of each process had been taken (see history). */
+void begin_late(struct model *m, const unsigned *begin);
+
+/* The words of an event, as offer gets them. A clock is two words of four counts, or in the wide form four words of
+ * two; the lower process is lower. */
+struct words {
+    uint64_t mask, clock[CLOCK_WORDS], labels;
+};
+
+struct event event_of(const struct layout *form, const struct words *w);
+unsigned refused_event(const struct layout *form, uint64_t k, const struct words *w); /* 7, 8, 9 or 0 */
+
 /* As the five calls, with the model of the watch that the lent bytes belong to. Of the kept frontiers that have
  * the line model_find answers the one that stands first in the window: flag 1, its number from 0 as value. The word is
  * 0 exactly if none has it. model_close answers the frontiers kept, and no truth. */
-uint64_t model_open(struct model *m, const uint8_t *rule, size_t rule_len, uint64_t k, uint64_t start_labels,
-                    uint8_t *record, size_t record_len, uint8_t *window, size_t window_len);
-uint64_t model_offer(struct model *m, uint64_t mask, uint64_t clock_low, uint64_t clock_high, uint64_t labels,
-                     uint8_t *record, size_t record_len);
+uint64_t model_open(struct model *m, const struct layout *form, const uint8_t *rule, size_t rule_len, uint64_t k,
+                    uint64_t start_labels, uint8_t *record, size_t record_len, uint8_t *window, size_t window_len);
+uint64_t model_offer(struct model *m, const struct words *w, uint8_t *record, size_t record_len);
 uint64_t model_take(struct model *m, uint8_t *record, size_t record_len, uint8_t *window, size_t window_len,
                     uint8_t *scratch, size_t scratch_len);
 uint64_t model_find(const struct model *m, uint64_t line, size_t record_len, size_t window_len);
 uint64_t model_close(struct model *m, uint64_t process, uint8_t *record, size_t record_len, uint8_t *window,
                      size_t window_len);
 
-struct event event_of(uint64_t mask, uint64_t clock_low, uint64_t clock_high, uint64_t labels);
-unsigned refused_event(uint64_t k, uint64_t mask, uint64_t clock_low, uint64_t clock_high, uint64_t labels); /* 7, 8, 9 or 0 */
-bool window_length(size_t length);
+/* A move to the other form: there the watch is laid down anew. The first two lengths are of the form that it has. */
+uint64_t model_move(struct model *m, size_t record_len, size_t window_len, uint8_t *to_record, size_t to_record_len,
+                    uint8_t *to_window, size_t to_window_len);
 
 /* ---- any bytes ---- */
 
 /* The refusal of offer, or AGAIN, or 0: then the event was accepted and is laid down in the record. */
-unsigned bytes_offer(uint64_t mask, uint64_t clock_low, uint64_t clock_high, uint64_t labels, uint8_t *record, size_t record_len);
+unsigned bytes_offer(const struct layout *form, const struct words *w, uint8_t *record, size_t record_len);
 
 /* The reply of find. What an accepted find answers on such bytes the scope leaves free; the library promises what
  * request 4 says on all bytes that it does not refuse, and is held to that here too. */
-uint64_t bytes_find(uint64_t line, const uint8_t *record, size_t record_len, const uint8_t *window, size_t window_len);
+uint64_t bytes_find(const struct layout *form, uint64_t line, const uint8_t *record, size_t record_len,
+                    const uint8_t *window, size_t window_len);
 
 /* What take may do on these bytes. Whether a window fits is free, so more than one may be possible. */
 struct possible {
     unsigned refused; /* 6 or 34: then nothing else is possible */
     bool nothing_ready, taken, false_clock, no_room;
 };
-struct possible bytes_take(const uint8_t *record, size_t record_len, const uint8_t *window, size_t window_len,
-                           size_t scratch_len);
+struct possible bytes_take(const struct layout *form, const uint8_t *record, size_t record_len, const uint8_t *window,
+                           size_t window_len, size_t scratch_len);
 
 /* The reply of close, and what it writes. Which frontiers stay is told by the bytes of record and window alone; what is
  * answered then the scope leaves free, and the library promises how many these are. */
-uint64_t bytes_close(uint64_t process, uint8_t *record, size_t record_len, uint8_t *window, size_t window_len);
+uint64_t bytes_close(const struct layout *form, uint64_t process, uint8_t *record, size_t record_len, uint8_t *window,
+                     size_t window_len);
+
+/* The reply of a move out of this form, and what it writes: every place, used or not. */
+uint64_t bytes_move(const struct layout *form, const uint8_t *record, size_t record_len, const uint8_t *window,
+                    size_t window_len, uint8_t *to_record, size_t to_record_len, uint8_t *to_window,
+                    size_t to_window_len);
+bool bytes_damaged(const struct layout *form, const uint8_t *record, size_t room); /* 34 */
 
 #endif

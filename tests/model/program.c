@@ -6,6 +6,8 @@
 
 #include "program.h"
 
+enum { RECORD = 2024, FRONTIER = 56 };
+
 enum awaited { WATCH, RULE, START, DID, ENDED };
 
 struct run {
@@ -90,8 +92,8 @@ static void judge_start(struct run *run, const uint8_t *line, size_t length) {
     }
     uint64_t labels = 0;
     for (unsigned p = 0; p < run->k; p++) labels |= run->parts.number[p].value << 8 * p;
-    uint64_t reply = model_open(&run->model, run->rule, run->rule_length, run->k, labels, run->record, RECORD, run->window,
-                                run->window_length);
+    uint64_t reply = model_open(&run->model, &wide_form, run->rule, run->rule_length, run->k, labels, run->record, RECORD,
+                                run->window, run->window_length);
     if (number_of(reply) != 0) {
         print_refused(run, number_of(reply), (size_t)(reply >> 32));
         return;
@@ -102,14 +104,15 @@ static void judge_start(struct run *run, const uint8_t *line, size_t length) {
 
 static uint64_t offer(struct run *run) {
     const struct parts *parts = &run->parts;
-    const struct number *process = parts->number, *count = process + parts->list[0].numbers, *label = count + parts->list[1].numbers;
-    uint64_t mask = 0, clock[2] = {0, 0}, labels = 0;
+    const struct number *process = parts->number, *count = process + parts->list[0].numbers;
+    const struct number *label = count + parts->list[1].numbers;
+    struct words w = {.mask = 0};
     for (size_t i = 0; i < parts->list[0].numbers; i++) {
-        mask |= (uint64_t)1 << process[i].value;
-        labels |= label[i].value << 8 * process[i].value;
+        w.mask |= (uint64_t)1 << process[i].value;
+        w.labels |= label[i].value << 8 * process[i].value;
     }
-    for (size_t p = 0; p < run->k; p++) clock[p / 4] |= count[p].value << 16 * (p % 4);
-    return model_offer(&run->model, mask, clock[0], clock[1], labels, run->record, RECORD);
+    for (size_t p = 0; p < run->k; p++) w.clock[p / 2] |= count[p].value << 32 * (p % 2);
+    return model_offer(&run->model, &w, run->record, RECORD);
 }
 
 /* Until nothing is ready or 36. */

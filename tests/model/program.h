@@ -1,6 +1,6 @@
 /* A model of the program: the whole input in, the whole output out. Section "Examples" of the scope from "The program
- * watch" on, refusals 1 and 10, and what request 1 has it print. What the calls say comes from the model of the calls,
- * a rule's own faults from its reader. */
+ * watch" on, refusals 1 and 10, what request 1 has it print, and the counts that request 6 lets through: the watch is
+ * stored in the wide form. What the calls say comes from the model of the calls, a rule's own faults from its reader. */
 #ifndef PROGRAM_H
 #define PROGRAM_H
 

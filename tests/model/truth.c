@@ -81,17 +81,37 @@ void label_cut(const struct history *h, const uint8_t *start, const struct cut *
     }
 }
 
+static void judge_cut(struct cut *s, const struct before *before, const uint8_t *labels, const struct rule *rule) {
+    for (unsigned i = 0; i < rule->lines; i++)
+        s->lines |= (uint64_t)line_holds(s, before, labels, rule->line[i], i) << i;
+    for (unsigned i = 0; i < rule->forms; i++)
+        s->forms |= (uint64_t)form_holds(s, before, labels, &rule->form[i], i) << i;
+}
+
 /* In ascending order, so that what precedes a cut is judged before it. */
-void judge_cuts(struct cuts *all, const struct history *h, const struct rule *rule, const uint8_t *start) {
+void judge_cuts(struct cuts *all, const struct history *h, const struct rule *rule, const uint8_t *start,
+                const struct cut *first) {
     for (size_t c = 0; c < all->n; c++) {
         struct cut *s = &all->cut[c];
         if (!s->consistent) continue;
         uint8_t labels[PROCESSES];
         label_cut(h, start, s, labels);
         struct before before = cuts_before(all, h, s);
-        for (unsigned i = 0; i < rule->lines; i++)
-            s->lines |= (uint64_t)line_holds(s, &before, labels, rule->line[i], i) << i;
-        for (unsigned i = 0; i < rule->forms; i++)
-            s->forms |= (uint64_t)form_holds(s, &before, labels, &rule->form[i], i) << i;
+        if (c > 0 || !begins_late(h)) judge_cut(s, &before, labels, rule);
+        else s->lines = first->lines, s->forms = first->forms;
     }
+}
+
+/* Nothing changes any more once two cuts in the row have the same truth. */
+struct cut judge_row(const struct rule *rule, const uint8_t *start, unsigned events) {
+    struct cut last = {.lines = 0}, next;
+    struct before before = {.n = 0};
+    judge_cut(&last, &before, start, rule);
+    before = (struct before){.n = 1, .cut = {&last}};
+    for (unsigned i = 0; i < events; i++, last = next) {
+        next = (struct cut){.lines = 0};
+        judge_cut(&next, &before, start, rule);
+        if (next.lines == last.lines && next.forms == last.forms) break;
+    }
+    return last;
 }

@@ -4,6 +4,8 @@
 
 #include "inputs.h"
 
+#define COUNT_MOST 4294967295
+
 struct session {
     struct source *s;
     unsigned k, room, spoiled, forgetting; /* percentages of did lines */
@@ -57,7 +59,7 @@ static void did_line(const struct session *t, struct sent e) {
     if (e.mask == 0) put_text(&line, before);
     for (unsigned p = 0; p < t->k; p++) {
         put_text(&line, p == 0 ? ") (" : " ");
-        put_number(&line, sent_count(&e, p));
+        put_number(&line, e.count[p]);
     }
     before = ") (";
     for (unsigned p = 0; p < 64; p++) {
@@ -97,7 +99,7 @@ static void head(const struct session *t) {
 /* A line that is no event of the execution: another, one twisted, one of the head, none. */
 static void stray_line(const struct session *t) {
     struct source *s = t->s;
-    struct sent e = random_sent(s, t->k);
+    struct sent e = random_sent(s, t->k, COUNT_MOST);
     unsigned choice = below(s, 100);
     if (choice < 35 && t->x.n > 0) e = twisted(s, t->x.event[below(s, t->x.n)], t->k);
     else if (choice < 65 && t->x.n > 0) e = t->x.event[below(s, t->x.n)];
@@ -118,7 +120,7 @@ static void forgetful_line(const struct session *t, struct sent e) {
 
 /* An event's line once more, or nearly: it may be held still. */
 static void repeated_line(const struct session *t, struct sent e) {
-    did_line(t, chance(t->s, 60) ? e : nearly(t->s, e, t->k));
+    did_line(t, chance(t->s, 60) ? e : nearly(t->s, e, t->k, COUNT_MOST));
     end_line(t);
 }
 
@@ -247,7 +249,7 @@ static void late_session(struct source *s, struct bytes *input) {
     for (unsigned i = 1; i <= shape.before; i++) {
         struct sent e = {.mask = (uint64_t)1 << shape.alone};
         e.labels = random_labels(s, e.mask);
-        set_sent_count(&e, shape.alone, i);
+        e.count[shape.alone] = i;
         did_line(&t, e);
         end_line(&t);
     }
@@ -279,7 +281,7 @@ static void brim_session(struct source *s, struct bytes *input) {
         unsigned p = below(s, 3);
         if (done[p] == last[p]) continue;
         struct sent e = {.mask = (uint64_t)1 << p, .labels = (uint64_t)below(s, 8) << 8 * p};
-        set_sent_count(&e, p, ++done[p]);
+        e.count[p] = ++done[p];
         t.x.event[t.x.n++] = e;
     }
     head(&t);

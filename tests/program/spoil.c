@@ -79,10 +79,12 @@ static bool find_number(struct source *s, const struct bytes *line, size_t *firs
 /* Limits, what lies beside them, and what a number of 8, 16, 32 or 64 bits would take for a small one. */
 static void odd_number(struct source *s, char *digits, size_t room) {
     static const char *const odd[] = {
-        "0", "1", "2", "3", "7", "8", "9", "10", "255", "256", "257", "1023", "1024", "1025", "9999", "10000", "65534", "65535", "65536",
-        "65537", "65538", "65791", "65792", "99999", "100000", "131072", "4294967295", "4294967296", "4294967297", "4294967298",
-        "18446744073709551615", "18446744073709551616", "18446744073709551617", "18446744073709551618", "184467440737095516160",
-        "340282366920938463463374607431768211457",
+        "0", "1", "2", "3", "7", "8", "9", "10", "255", "256", "257", "1023", "1024", "1025", "9999", "10000", "65534",
+        "65535", "65536", "65537", "65538", "65791", "65792", "99999", "100000", "131072", "999999999", "1000000000",
+        "4294967294", "4294967295", "4294967296", "4294967297", "4294967298", "4294967305", "4300000000", "5294967295",
+        "9999999999", "10000000000", "42949672950", "42949672960", "99999999999", "281474976710656",
+        "18446744073709551615", "18446744073709551616", "18446744073709551617", "18446744073709551618",
+        "184467440737095516160", "340282366920938463463374607431768211457",
     };
     if (chance(s, 92)) {
         snprintf(digits, room, "%s", odd[below(s, sizeof odd / sizeof odd[0])]);
@@ -162,7 +164,8 @@ static void put_many(struct source *s, struct bytes *b, size_t length) {
     size_t end = b->length + length;
     while (b->length < end) {
         put_text(b, " ");
-        put_number(b, kind == 0 ? below(s, 10) : kind == 1 ? below(s, 256) : chance(s, 5) ? 65535 : below(s, 65536));
+        unsigned large = chance(s, 5) ? 4294967295 : (unsigned)sized(s);
+        put_number(b, kind == 0 ? below(s, 10) : kind == 1 ? below(s, 256) : large);
         if (b->length > end) b->length = end;
     }
     if (length > 0 && b->at[end - 1] == ' ') b->at[end - 1] = '7';
@@ -171,10 +174,12 @@ static void put_many(struct source *s, struct bytes *b, size_t length) {
 /* Around place 4,096, where the numbers of a long list are. */
 static void spoil_around(struct source *s, struct bytes *line) {
     static const char *const pieces[] = {
-        ")", "(", " ", "  ", "0", "00", " 0", "05", " 05", " 65535", " 65536", "65535 ", "655360", "65536)", " 1000000", "99999999", "x",
-        "\r", ") (", "))", ") (1))", ") (1)", "256", " 256", "255 ", " 255)", "6553", "6553x", "65536x", " )", "( ",
+        ")", "(", " ", "  ", "0", "00", " 0", "05", " 05", " 65535", " 65536", "65535 ", "655360", "65536)", " 1000000",
+        "99999999", "x", "\r", ") (", "))", ") (1))", ") (1)", "256", " 256", "255 ", " 255)", "6553", "6553x", "65536x",
+        " )", "( ", " 4294967295", " 4294967296", "4294967295 ", "42949672960", "4294967296)", " 4294967295)",
+        "4294967296x", "429496729", " 10000000000", "9999999999 ",
     };
-    size_t place = between(s, LIMIT - 9, LIMIT + 6);
+    size_t place = between(s, LIMIT - 14, LIMIT + 6);
     const char *piece = pieces[below(s, sizeof pieces / sizeof pieces[0])];
     size_t length = strlen(piece);
     if (place >= line->length) return;

@@ -1,0 +1,137 @@
+/* See forms.h. */
+#include "forms.h"
+
+#include <stdio.h>
+#include <stdlib.h>
+
+#include "../wide.h"
+
+const struct layout *random_form(struct source *s) {
+    return chance(s, 50) && both_forms() ? &wide_form : &narrow_form;
+}
+
+const struct layout *other_form(const struct layout *form) {
+    return form == &wide_form ? &narrow_form : &wide_form;
+}
+
+struct words words_of(const struct layout *form, const struct sent *e) {
+    struct words w = {.mask = e->mask, .labels = e->labels};
+    const unsigned *c = e->count;
+    for (unsigned i = 0; form == &wide_form && i < 4; i++) w.clock[i] = watch32_counts(c[2 * i], c[2 * i + 1]);
+    for (unsigned i = 0; form == &narrow_form && i < 2; i++, c += 4)
+        w.clock[i] = watch_counts((uint16_t)c[0], (uint16_t)c[1], (uint16_t)c[2], (uint16_t)c[3]);
+    return w;
+}
+
+struct sent pending_sent(const struct layout *form, const uint8_t *record, unsigned place) {
+    const uint8_t *at = record + form->pending_at + form->event * place;
+    struct sent e = {.mask = at[0]};
+    for (unsigned p = 0; p < PROCESSES; p++) {
+        e.count[p] = get_count(form, at + CLOCK_AT + form->width * p);
+        e.labels |= (uint64_t)at[form->event_labels_at + p] << 8 * p;
+    }
+    return e;
+}
+
+#ifdef OLD_FORM_ALONE
+
+bool both_forms(void) {
+    return false;
+}
+
+#define CALL(form, name, arguments) ((form) == &wide_form ? (abort(), 0) : watch_##name arguments)
+
+static uint64_t call_offer_wide(const struct words *w, uint8_t *record, size_t record_len) {
+    (void)w, (void)record, (void)record_len;
+    abort();
+}
+
+uint64_t call_move(const struct layout *form, const uint8_t *record, size_t record_len, const uint8_t *window,
+                   size_t window_len, uint8_t *to_record, size_t to_record_len, uint8_t *to_window,
+                   size_t to_window_len) {
+    (void)form, (void)record, (void)record_len, (void)window, (void)window_len;
+    (void)to_record, (void)to_record_len, (void)to_window, (void)to_window_len;
+    abort();
+}
+
+#else
+
+bool both_forms(void) {
+    return true;
+}
+
+#define CALL(form, name, arguments) ((form) == &wide_form ? watch32_##name arguments : watch_##name arguments)
+
+static uint64_t call_offer_wide(const struct words *w, uint8_t *record, size_t record_len) {
+    return watch32_offer(w->mask, w->clock[0], w->clock[1], w->clock[2], w->clock[3], w->labels, record, record_len);
+}
+
+uint64_t call_move(const struct layout *form, const uint8_t *record, size_t record_len, const uint8_t *window,
+                   size_t window_len, uint8_t *to_record, size_t to_record_len, uint8_t *to_window,
+                   size_t to_window_len) {
+    return (form == &wide_form ? watch_narrow : watch_widen)(record, record_len, window, window_len, to_record,
+                                                             to_record_len, to_window, to_window_len);
+}
+
+#endif
+
+uint64_t call_open(const struct layout *form, const uint8_t *rule, size_t rule_len, uint64_t k, uint64_t labels,
+                   uint8_t *record, size_t record_len, uint8_t *window, size_t window_len) {
+    return CALL(form, open, (rule, rule_len, k, labels, record, record_len, window, window_len));
+}
+
+uint64_t call_offer(const struct layout *form, const struct sent *e, uint8_t *record, size_t record_len) {
+    struct words w = words_of(form, e);
+    if (form == &wide_form) return call_offer_wide(&w, record, record_len);
+    return watch_offer(w.mask, w.clock[0], w.clock[1], w.labels, record, record_len);
+}
+
+uint64_t call_take(const struct layout *form, uint8_t *record, size_t record_len, uint8_t *window, size_t window_len,
+                   uint8_t *scratch, size_t scratch_len) {
+    return CALL(form, take, (record, record_len, window, window_len, scratch, scratch_len));
+}
+
+uint64_t call_find(const struct layout *form, uint64_t line, const uint8_t *record, size_t record_len,
+                   const uint8_t *window, size_t window_len) {
+    return CALL(form, find, (line, record, record_len, window, window_len));
+}
+
+uint64_t call_close(const struct layout *form, uint64_t process, uint8_t *record, size_t record_len, uint8_t *window,
+                    size_t window_len) {
+    return CALL(form, close, (process, record, record_len, window, window_len));
+}
+
+/* ---- what was answered ---- */
+
+static struct {
+    unsigned long number[CALLS][256], nothing_ready, again;
+} answers[2];
+static unsigned most_kept;
+
+uint64_t tally(const struct layout *form, enum call call, uint64_t reply) {
+    unsigned wide = form == &wide_form;
+    if (call == TAKE && reply == 0) answers[wide].nothing_ready++;
+    else if (call == OFFER && watch_again(reply)) answers[wide].again++;
+    else answers[wide].number[call][watch_number(reply)]++;
+    if (call == TAKE && watch_value(reply) > most_kept) most_kept = watch_value(reply);
+    return reply;
+}
+
+static void print_answers(const char *name, unsigned wide, enum call call) {
+    const unsigned long *number = answers[wide].number[call];
+    printf("  %-10s accepted %lu", name, number[0]);
+    if (call == TAKE) printf(", nothing ready %lu", answers[wide].nothing_ready);
+    if (call == OFFER) printf(", again %lu", answers[wide].again);
+    for (unsigned i = 1; i < 256; i++)
+        if (number[i] != 0) printf(", %u: %lu", i, number[i]);
+    printf("\n");
+}
+
+void print_tally(void) {
+    static const char *const names[2][CALLS] = {{"open", "offer", "take", "find", "close", "widen"},
+                                                {"wide open", "offer", "take", "find", "close", "narrow"}};
+    for (unsigned wide = 0; wide <= both_forms(); wide++)
+        for (unsigned call = 0; call < CALLS; call++)
+            if (call != MOVE || both_forms()) print_answers(names[wide][call], wide, call);
+    printf("  at most %u frontiers kept\n", most_kept);
+}

@@ -1,0 +1,39 @@
+/* The calls of both stored forms under one name each. With OLD_FORM_ALONE, for a library that has the old form's calls
+ * only, every case is of that form and nothing is moved. */
+#ifndef FORMS_H
+#define FORMS_H
+
+#include "../model/model.h"
+#include "generate.h"
+
+const struct layout *random_form(struct source *s);
+const struct layout *other_form(const struct layout *form);
+bool both_forms(void); /* a watch can be moved */
+
+/* The words of an event, made by the header's own functions. */
+struct words words_of(const struct layout *form, const struct sent *e);
+
+/* The event in a pending place of a record, as it is offered. */
+struct sent pending_sent(const struct layout *form, const uint8_t *record, unsigned place);
+
+uint64_t call_open(const struct layout *form, const uint8_t *rule, size_t rule_len, uint64_t k, uint64_t labels,
+                   uint8_t *record, size_t record_len, uint8_t *window, size_t window_len);
+uint64_t call_offer(const struct layout *form, const struct sent *e, uint8_t *record, size_t record_len);
+uint64_t call_take(const struct layout *form, uint8_t *record, size_t record_len, uint8_t *window, size_t window_len,
+                   uint8_t *scratch, size_t scratch_len);
+uint64_t call_find(const struct layout *form, uint64_t line, const uint8_t *record, size_t record_len,
+                   const uint8_t *window, size_t window_len);
+uint64_t call_close(const struct layout *form, uint64_t process, uint8_t *record, size_t record_len, uint8_t *window,
+                    size_t window_len);
+
+/* Out of this form into the other. */
+uint64_t call_move(const struct layout *form, const uint8_t *record, size_t record_len, const uint8_t *window,
+                   size_t window_len, uint8_t *to_record, size_t to_record_len, uint8_t *to_window,
+                   size_t to_window_len);
+
+/* How often each call of each form gave each answer. */
+enum call { OPEN, OFFER, TAKE, FIND, CLOSE, MOVE, CALLS };
+uint64_t tally(const struct layout *form, enum call call, uint64_t reply); /* returns the reply */
+void print_tally(void);
+
+#endif
