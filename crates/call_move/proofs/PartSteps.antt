@@ -1,11 +1,11 @@
 -- Parts one behind the other, as the code goes through them: one more is looked at, or written behind those that are.
-use Prim.Native.Nat.{ℕ, _+_, _-_, _*_, _≤_}
+use Prim.Native.Nat.{ℕ, _+_, _*_, _≤_}
 use native.Mathlib.Omega.{arith}
-use mathlib.Core.Path.{_≡_, sym, ap, _∙_}
+use mathlib.Core.Path.{_≡_, refl, sym, ap, _∙_}
 use mathlib.Core.Bool.{_||_, or-comm}
 use mathlib.Core.List.{List, _++_}
 use lib.ListN.{length, take, drop, length-drop}
-use lib.Seq.{sets, take-all}
+use lib.Seq.{sets, take-add, drop-drop, length-take-le}
 use Rattle.codec.specs.SetsLaws.{sets-append, sets-whole}
 use Rattle.frontiers.specs.Bytes.{countBytes}
 use Rattle.frontiers.specs.BytesLaws.{length-countBytes}
@@ -36,9 +36,19 @@ module _ (v w : ℕ) (ps qs : List Part) (s : List ℕ) (place : ℕ) where
       stored-behind t 0 (moved v w ps s) to (moved v w qs (drop place s)) (omega arith)
       ∙ rw e (ap (sets t 0) (sym (moved-append v w ps qs s)))
 
--- The bytes of a part that was lent: those from a place on.
-pub part-lent : (s : List ℕ) (from n : ℕ) → take n (take (length s - from) (drop from s)) ≡ take n (drop from s)
-part-lent s from n = rw (take-all (length s - from) (drop from s) (simp length-drop (omega arith)))
+-- Bytes copied, none, and eight more.
+pub copied-none : (t : List ℕ) (to : ℕ) (s : List ℕ) → t ≡ sets t to (take (8 * 0) s)
+copied-none t to s = refl
+
+pub copied-more : (t : List ℕ) (to : ℕ) (s : List ℕ) (from i : ℕ) → from + 8 * (i + 1) ≤ length s
+    → sets (sets t to (take (8 * i) (drop from s))) (to + 8 * i) (take 8 (drop (from + 8 * i) s))
+    ≡ sets t to (take (8 * (i + 1)) (drop from s))
+copied-more t to s from i within =
+    let d = drop from s in
+    let far : 8 * (i + 1) ≡ 8 * i + 8 = omega arith in
+    let long : length (take (8 * i) d) ≡ 8 * i = length-take-le (8 * i) d (simp length-drop (omega arith)) in
+    rw (far, take-add (8 * i) 8 d, drop-drop (8 * i) from s)
+    (stored-behind t to (take (8 * i) d) (to + 8 * i) (take 8 (drop (from + 8 * i) s)) (omega arith))
 
 -- All parts written.
 pub all-written : (v w : ℕ) (ps : List Part) (s t : List ℕ) → lengthOf v ps ≤ length s → length t ≡ lengthOf w ps

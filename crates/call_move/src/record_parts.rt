@@ -1,6 +1,6 @@
 // The record moved, part by part.
 
-use crate::bytes::copy_part;
+use crate::bytes::copy_eights;
 use crate::counts::any_too_large;
 use crate::counts::move_counts;
 use numbers::limit::PENDING;
@@ -24,12 +24,12 @@ pub fn record_too_large(record: &[u8], v: usize, w: usize) -> bool
     requires { ⌜ length (now «record») ≡ recordLength v ⌝ }
     ensures { λ r. ⌜ r ≡ someTooLarge v w recordParts (now («record» .entry)) ⌝ }
 {
-    let taken = any_too_large(record, 8, v, 8, w);
-    let mut some = any_too_large(record, 8 + 8 * v, v, 64, w) | taken;
+    let taken = any_too_large(record, 8, v, 1, w);
+    let mut some = any_too_large(record, 8 + 8 * v, v, 8, w) | taken;
     let mut i = 0;
     while i < PENDING {
         let place = pending_place(v, i);
-        some = any_too_large(record, place + 8, v, 8, w) | some;
+        some = any_too_large(record, place + 8, v, 1, w) | some;
         i = i + 1;
     }
     some
@@ -45,10 +45,10 @@ fn move_front(record: &[u8], v: usize, target: &mut [u8], w: usize)
     ensures { λ r. ⌜ now (target .exit)
         ≡ sets (now (target .entry)) 0 (moved v w frontParts (now («record» .entry))) ⌝ }
 {
-    copy_part(record, 0, 8, target, 0);
-    move_counts(record, 8, v, 8, target, 8, w);
-    move_counts(record, 8 + 8 * v, v, 64, target, 8 + 8 * w, w);
-    copy_part(record, table_place(v), 192, target, table_place(w));
+    copy_eights(record, 0, 1, target, 0);
+    move_counts(record, 8, v, 1, target, 8, w);
+    move_counts(record, 8 + 8 * v, v, 8, target, 8 + 8 * w, w);
+    copy_eights(record, table_place(v), 24, target, table_place(w));
 }
 
 // Writes the pending event from a place on to a place of the other record.
@@ -61,9 +61,9 @@ fn move_event(record: &[u8], from: usize, v: usize, target: &mut [u8], to: usize
     ensures { λ r. ⌜ now (target .exit)
         ≡ sets (now (target .entry)) to (moved v w eventParts (drop from (now («record» .entry)))) ⌝ }
 {
-    copy_part(record, from, 8, target, to);
-    move_counts(record, from + 8, v, 8, target, to + 8, w);
-    copy_part(record, from + 8 + 8 * v, 8, target, to + 8 + 8 * w);
+    copy_eights(record, from, 1, target, to);
+    move_counts(record, from + 8, v, 1, target, to + 8, w);
+    copy_eights(record, from + 8 + 8 * v, 1, target, to + 8 + 8 * w);
 }
 
 // Writes a record with counts of v bytes as one with counts of w bytes.

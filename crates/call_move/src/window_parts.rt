@@ -1,6 +1,6 @@
 // The window moved, frontier by frontier.
 
-use crate::bytes::copy_part;
+use crate::bytes::copy_eights;
 use crate::counts::any_too_large;
 use crate::counts::move_counts;
 use frontiers::place::frontier_place;
@@ -26,7 +26,7 @@ pub fn window_too_large(window: &[u8], n: usize, v: usize, w: usize) -> bool
     let mut i = 0;
     while i < n {
         let place = frontier_place(v, i);
-        some = any_too_large(window, place, v, 8, w) | some;
+        some = any_too_large(window, place, v, 1, w) | some;
         i = i + 1;
     }
     some
@@ -42,8 +42,8 @@ fn move_frontier(window: &[u8], from: usize, v: usize, target: &mut [u8], to: us
     ensures { λ r. ⌜ now (target .exit)
         ≡ sets (now (target .entry)) to (moved v w frontierParts (drop from (now (window .entry)))) ⌝ }
 {
-    move_counts(window, from, v, 8, target, to, w);
-    copy_part(window, from + 8 * v, 24, target, to + 8 * w);
+    move_counts(window, from, v, 1, target, to, w);
+    copy_eights(window, from + 8 * v, 3, target, to + 8 * w);
 }
 
 // Writes a window's first n frontiers with counts of v bytes as such with counts of w bytes.

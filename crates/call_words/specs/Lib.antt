@@ -2,3 +2,5 @@
 
 -- What a reader has to believe
 pub mod Words
+-- What is proved of them
+pub mod WordLaws

@@ -1,11 +1,6 @@
-// The functions that C calls, on numbers and byte slices: those of the form with counts of two bytes.
-
-// Those of the form with counts of four bytes.
-pub mod wide;
-// A watch of one form written as one of the other.
-pub mod moves;
-// Counts and labels out of the words that C hands over.
-pub mod words;
+// The functions that C calls, on numbers and byte slices, for counts of two bytes: the five calls, and the move that
+// writes a watch of this form. Those of the other form are in `watch32`, compiled apart: so the compiler knows the width
+// of a count in every loop of either.
 
 ghost use mathlib.Core.Path.{_≡_};
 ghost use mathlib.Core.List.{[], _∷_};
@@ -15,6 +10,7 @@ ghost use Rattle.call_offer.specs.Offer.{offerCall};
 ghost use Rattle.call_take.specs.Take.{takeCall};
 ghost use Rattle.call_find.specs.Find.{findCall};
 ghost use Rattle.call_close.specs.Close.{closeCall};
+ghost use Rattle.call_move.specs.Move.{moveCall};
 ghost use Rattle.answers.specs.Answer.{replyWord};
 
 // Opens a watch with a rule's text, so many processes, and start labels that are the bytes of a word.
@@ -33,7 +29,7 @@ pub extern "C" fn watch_open(
     ensures window { λ r. ⌜ now (window .exit) ≡ openCall 2 (now (rule .entry)) k (unpackLabels labels)
         (now («record» .entry)) (now (window .entry)) .window ⌝ }
 {
-    let bytes = crate::words::unpack_labels(labels);
+    let bytes = call_words::unpack_labels(labels);
     call_open::open(2, rule, k, bytes, record, window)
 }
 
@@ -46,8 +42,8 @@ pub extern "C" fn watch_offer(mask: u64, low: u64, high: u64, labels: u64, recor
     ensures bytes { λ r. ⌜ now («record» .exit) ≡ offerCall 2 mask (unpackCounts 2 (low ∷ high ∷ []))
         (unpackLabels labels) (now («record» .entry)) .bytes ⌝ }
 {
-    let clock = crate::words::unpack_counts(low, high);
-    let bytes = crate::words::unpack_labels(labels);
+    let clock = call_words::unpack_counts(low, high);
+    let bytes = call_words::unpack_labels(labels);
     call_offer::offer(2, mask, clock, bytes, record)
 }
 
@@ -84,4 +80,23 @@ pub extern "C" fn watch_close(process: u64, record: &mut [u8], window: &mut [u8]
         ≡ closeCall 2 process (now («record» .entry)) (now (window .entry)) .window ⌝ }
 {
     call_close::close(2, process, record, window)
+}
+
+// Writes a watch with counts of four bytes as one with counts of two, where every count has a place there (02 [6]). The
+// one that is read stays as it is.
+#[no_mangle]
+pub extern "C" fn watch_narrow(
+    record32: &[u8],
+    window32: &[u8],
+    record: &mut [u8],
+    window: &mut [u8],
+) -> u64
+    ensures reply { λ r. ⌜ r ≡ moveCall 4 2 (now (record32 .entry)) (now (window32 .entry)) (now («record» .entry))
+        (now (window .entry)) .number ⌝ }
+    ensures bytes { λ r. ⌜ now («record» .exit) ≡ moveCall 4 2 (now (record32 .entry)) (now (window32 .entry))
+        (now («record» .entry)) (now (window .entry)) .bytes ⌝ }
+    ensures window { λ r. ⌜ now (window .exit) ≡ moveCall 4 2 (now (record32 .entry)) (now (window32 .entry))
+        (now («record» .entry)) (now (window .entry)) .window ⌝ }
+{
+    call_move::move_watch(4, 2, record32, window32, record, window)
 }

@@ -8,7 +8,7 @@ use replies::takes;
 use replies::takes_again;
 use reply_text::answer_text;
 use reply_text::form::FRONTIER_BYTES;
-use watch::wide::watch32_take;
+use watch32::watch32_take;
 ghost use Prim.Native.Nat.{_≤_, _<_};
 ghost use mathlib.Core.Path.{_≡_};
 ghost use lib.ListN.{length};

@@ -3,7 +3,7 @@ use Rattle.watch.proofs.watch_offer.Tie as tie
 use mathlib.Core.List.{[], _∷_}
 use borrow.Author.Needs.{needs}
 use Rattle.watch.proofs.watch_offer.Statement.{statement}
-use Rattle.watch.proofs.WordsSteps.{counts-fit}
+use Rattle.call_words.specs.WordLaws.{counts-fit}
 use Rattle.watch.proofs.UnpackedSteps.{offer-unpacked}
 
 unpack-counts-requires : tie.Need-unpack-counts-requires

@@ -8,17 +8,17 @@ use Rattle.call_move.proofs.RecordSteps.{front-counts-fit, front-writte
 use Rattle.call_move.proofs.record_parts.move_front.Statement.{statement}
 
 -- The start, and where a part is written.
-abbrev start : tie.After-copy-part → tie.Start
+abbrev start : tie.After-copy-eights → tie.Start
 start c = c .before .before .before .before
 
-abbrev first-written : tie.After-move-counts → tie.After-copy-part
+abbrev first-written : tie.After-move-counts → tie.After-copy-eights
 first-written c = c .before .before .before .before
 
 abbrev counts-written : tie.After-move-counts2 → tie.After-move-counts
 counts-written c = c .before .before .before .before
 
-copy-part-requires : tie.Need-copy-part-requires
-copy-part-requires c κs = search needs
+copy-eights-requires : tie.Need-copy-eights-requires
+copy-eights-requires c κs = search needs
 
 move-counts-requires : tie.Need-move-counts-requires
 move-counts-requires c κs =
@@ -50,8 +50,8 @@ table-place-requires c κs = search needs
 table-place-requires-2 : tie.Need-table-place-requires-2
 table-place-requires-2 c κs = search needs
 
-copy-part-requires-2 : tie.Need-copy-part-requires-2
-copy-part-requires-2 c κs = search needs
+copy-eights-requires-2 : tie.Need-copy-eights-requires-2
+copy-eights-requires-2 c κs = search needs
 
 same-length : tie.Need-same-length
 same-length c = search needs
@@ -65,14 +65,14 @@ returns c =
     let from = c .before .before .before .before .before .table-place in
     let to = c .before .before .before .table-place2 in
     front-written (a .v) (a .w) (now (a .«record»)) (now (a .target)) _ _ _ _ (from .result) (to .result)
-    (from .ensures .0) (to .ensures .0) (omega (arith, start first .pre .1 .1 .0)) (first .copy-part .ensures)
-    (taken .move-counts .ensures) (counts .move-counts2 .ensures) (c .before .before .copy-part2 .ensures)
+    (from .ensures .0) (to .ensures .0) (omega (arith, start first .pre .1 .1 .0)) (first .copy-eights .ensures)
+    (taken .move-counts .ensures) (counts .move-counts2 .ensures) (c .before .before .copy-eights2 .ensures)
 
 pub move-front-spec : {M : Type 1} → statement M
 move-front-spec =
     tie.close
     (tie.spec
-    copy-part-requires
+    copy-eights-requires
     move-counts-requires
     mul-move-counts
     add-move-counts
@@ -81,6 +81,6 @@ move-front-spec =
     move-counts-requires-2
     table-place-requires
     table-place-requires-2
-    copy-part-requires-2
+    copy-eights-requires-2
     same-length
     returns)

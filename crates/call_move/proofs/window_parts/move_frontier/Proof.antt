@@ -13,7 +13,7 @@ use Rattle.call_move.proofs.window_parts.move_frontier.Statement.{state
 abbrev start : tie.After-move-counts → tie.Start
 start c = c .before .before .before .before
 
-abbrev clock-written : tie.After-copy-part → tie.After-move-counts
+abbrev clock-written : tie.After-copy-eights → tie.After-move-counts
 clock-written c = c .before .before .before .before
 
 move-counts-requires : tie.Need-move-counts-requires
@@ -24,21 +24,21 @@ move-counts-requires c κs =
     let fit = sym (frontier-counts (a .v) (a .w) (drop (a .from) (now (a .window)))) ∙ b .pre .1 .1 .1 .1 in
     (search needs, (search needs, (search needs, (search needs, fit))))
 
-mul-copy-part : tie.Need-mul-copy-part
-mul-copy-part c = search needs
+mul-copy-eights : tie.Need-mul-copy-eights
+mul-copy-eights c = search needs
 
-add-copy-part : tie.Need-add-copy-part
-add-copy-part c = search needs
+add-copy-eights : tie.Need-add-copy-eights
+add-copy-eights c = search needs
 
-mul-copy-part-2 : tie.Need-mul-copy-part-2
-mul-copy-part-2 c = search needs
+mul-copy-eights-2 : tie.Need-mul-copy-eights-2
+mul-copy-eights-2 c = search needs
 
-add-copy-part-2 : tie.Need-add-copy-part-2
-add-copy-part-2 c = search needs
+add-copy-eights-2 : tie.Need-add-copy-eights-2
+add-copy-eights-2 c = search needs
 
-copy-part-requires : tie.Need-copy-part-requires
+copy-eights-requires : tie.Need-copy-eights-requires
 unfolding frontierLength
-copy-part-requires c κs = search needs
+copy-eights-requires c κs = search needs
 
 same-length : tie.Need-same-length
 same-length c = search needs
@@ -49,17 +49,17 @@ returns c =
     let clock = clock-written rest in
     let a = start clock .args in
     frontier-written (a .v) (a .w) (now (a .window)) (a .from) (now (a .target)) _ _ (a .to)
-    (clock .move-counts .ensures) (rest .copy-part .ensures)
+    (clock .move-counts .ensures) (rest .copy-eights .ensures)
 
 pub move-frontier-spec : {M : Type 1} → statement M
 move-frontier-spec =
     tie.close
     (tie.spec
     move-counts-requires
-    mul-copy-part
-    add-copy-part
-    mul-copy-part-2
-    add-copy-part-2
-    copy-part-requires
+    mul-copy-eights
+    add-copy-eights
+    mul-copy-eights-2
+    add-copy-eights-2
+    copy-eights-requires
     same-length
     returns)

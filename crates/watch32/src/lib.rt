@@ -1,4 +1,5 @@
-// The functions that C calls for counts of four bytes (02 [6]).
+// The functions that C calls, on numbers and byte slices, for counts of four bytes (02 [6]): the five calls, and the
+// move that writes a watch of this form.
 
 ghost use mathlib.Core.Path.{_≡_};
 ghost use mathlib.Core.List.{[], _∷_};
@@ -8,6 +9,7 @@ ghost use Rattle.call_offer.specs.Offer.{offerCall};
 ghost use Rattle.call_take.specs.Take.{takeCall};
 ghost use Rattle.call_find.specs.Find.{findCall};
 ghost use Rattle.call_close.specs.Close.{closeCall};
+ghost use Rattle.call_move.specs.Move.{moveCall};
 ghost use Rattle.answers.specs.Answer.{replyWord};
 
 // Opens a watch with a rule's text, so many processes, and start labels that are the bytes of a word.
@@ -26,7 +28,7 @@ pub extern "C" fn watch32_open(
     ensures window { λ r. ⌜ now (window .exit) ≡ openCall 4 (now (rule .entry)) k (unpackLabels labels)
         (now («record» .entry)) (now (window .entry)) .window ⌝ }
 {
-    let bytes = crate::words::unpack_labels(labels);
+    let bytes = call_words::unpack_labels(labels);
     call_open::open(4, rule, k, bytes, record, window)
 }
 
@@ -47,8 +49,8 @@ pub extern "C" fn watch32_offer(
     ensures bytes { λ r. ⌜ now («record» .exit) ≡ offerCall 4 mask (unpackCounts 4 (c01 ∷ c23 ∷ c45 ∷ c67 ∷ []))
         (unpackLabels labels) (now («record» .entry)) .bytes ⌝ }
 {
-    let clock = crate::words::unpack_wide_counts(c01, c23, c45, c67);
-    let bytes = crate::words::unpack_labels(labels);
+    let clock = call_words::unpack_wide_counts(c01, c23, c45, c67);
+    let bytes = call_words::unpack_labels(labels);
     call_offer::offer(4, mask, clock, bytes, record)
 }
 
@@ -85,4 +87,22 @@ pub extern "C" fn watch32_close(process: u64, record: &mut [u8], window: &mut [u
         ≡ closeCall 4 process (now («record» .entry)) (now (window .entry)) .window ⌝ }
 {
     call_close::close(4, process, record, window)
+}
+
+// Writes a watch with counts of two bytes as one with counts of four. The one that is read stays as it is.
+#[no_mangle]
+pub extern "C" fn watch_widen(
+    record: &[u8],
+    window: &[u8],
+    record32: &mut [u8],
+    window32: &mut [u8],
+) -> u64
+    ensures reply { λ r. ⌜ r ≡ moveCall 2 4 (now («record» .entry)) (now (window .entry)) (now (record32 .entry))
+        (now (window32 .entry)) .number ⌝ }
+    ensures bytes { λ r. ⌜ now (record32 .exit) ≡ moveCall 2 4 (now («record» .entry)) (now (window .entry))
+        (now (record32 .entry)) (now (window32 .entry)) .bytes ⌝ }
+    ensures window { λ r. ⌜ now (window32 .exit) ≡ moveCall 2 4 (now («record» .entry)) (now (window .entry))
+        (now (record32 .entry)) (now (window32 .entry)) .window ⌝ }
+{
+    call_move::move_watch(2, 4, record, window, record32, window32)
 }

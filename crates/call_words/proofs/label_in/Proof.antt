@@ -1,9 +1,9 @@
 -- A shift is a division by a power of 2.
-use Rattle.watch.proofs.words.label_in.Tie as tie
+use Rattle.call_words.proofs.label_in.Tie as tie
 use mathlib.Core.Path.{refl}
 use borrow.Author.Needs.{needs}
-use Rattle.watch.proofs.words.label_in.Statement.{statement}
+use Rattle.call_words.proofs.label_in.Statement.{statement}
 use Rattle.call_words.specs.Words.{part}
 
 mul-result : tie.Need-mul-result
 mul-result c = search needs

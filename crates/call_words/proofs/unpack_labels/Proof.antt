@@ -1,9 +1,9 @@
 -- Each byte is its part.
-use Rattle.watch.proofs.words.unpack_labels.Tie as tie
+use Rattle.call_words.proofs.unpack_labels.Tie as tie
 use borrow.Author.Needs.{needs}
 use Rattle.clocks.specs.Counts.{listOf}
-use Rattle.watch.proofs.words.unpack_labels.Statement.{statement}
+use Rattle.call_words.proofs.unpack_labels.Statement.{statement}
 use Rattle.call_words.specs.Words.{unpackLabels}
 
 label-in-requires : tie.Need-label-in-requires
 label-in-requires c κs = search needs

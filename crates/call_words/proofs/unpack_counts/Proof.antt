@@ -1,9 +1,9 @@
 -- Each count is its part.
-use Rattle.watch.proofs.words.unpack_counts.Tie as tie
+use Rattle.call_words.proofs.unpack_counts.Tie as tie
 use borrow.Author.Needs.{needs}
 use Rattle.clocks.specs.Counts.{listOf}
-use Rattle.watch.proofs.words.unpack_counts.Statement.{statement}
+use Rattle.call_words.proofs.unpack_counts.Statement.{statement}
 use Rattle.call_words.specs.Words.{unpackCounts}
 
 count-in-requires : tie.Need-count-in-requires
 count-in-requires c κs = search needs

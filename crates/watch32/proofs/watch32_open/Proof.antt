@@ -1,8 +1,8 @@
 -- The labels out of a word; the rest is the call's own promise.
-use Rattle.watch.proofs.wide.watch32_open.Tie as tie
+use Rattle.watch32.proofs.watch32_open.Tie as tie
 use borrow.Author.Needs.{needs}
-use Rattle.watch.proofs.wide.watch32_open.Statement.{statement}
-use Rattle.watch.proofs.UnpackedSteps.{open-unpacked}
+use Rattle.watch32.proofs.watch32_open.Statement.{statement}
+use Rattle.watch32.proofs.UnpackedSteps.{open-unpacked}
 
 -- Where the labels are unpacked, from where the watch is opened.
 abbrev unpacked : tie.After-open → tie.After-unpack-labels

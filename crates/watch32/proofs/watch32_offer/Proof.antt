@@ -1,10 +1,10 @@
 -- The counts out of four words fit four bytes; the rest is the call's own promise.
-use Rattle.watch.proofs.wide.watch32_offer.Tie as tie
+use Rattle.watch32.proofs.watch32_offer.Tie as tie
 use mathlib.Core.List.{[], _∷_}
 use borrow.Author.Needs.{needs}
-use Rattle.watch.proofs.wide.watch32_offer.Statement.{statement}
-use Rattle.watch.proofs.WordsSteps.{counts-fit}
-use Rattle.watch.proofs.UnpackedSteps.{offer-unpacked}
+use Rattle.watch32.proofs.watch32_offer.Statement.{statement}
+use Rattle.call_words.specs.WordLaws.{counts-fit}
+use Rattle.watch32.proofs.UnpackedSteps.{offer-unpacked}
 
 unpack-wide-counts-requires : tie.Need-unpack-wide-counts-requires
 unpack-wide-counts-requires c κs = search needs
