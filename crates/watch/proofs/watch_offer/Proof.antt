@@ -4,7 +4,6 @@ use mathlib.Core.List.{[], _∷_}
 use borrow.Author.Needs.{needs}
 use Rattle.watch.proofs.watch_offer.Statement.{statement}
 use Rattle.call_words.specs.WordLaws.{counts-fit}
-use Rattle.watch.proofs.UnpackedSteps.{offer-unpacked}
 
 unpack-counts-requires : tie.Need-unpack-counts-requires
 unpack-counts-requires c κs = search needs
@@ -24,8 +23,7 @@ returns : tie.Need-returns
 returns c =
     let o = c .before .before in
     let labels = o .before .before in
-    offer-unpacked 2 _ _ _ _ _ _ _ _ (labels .before .unpack-counts .ensures) (labels .unpack-labels .ensures)
-    (o .offer .ensures)
+    rw (← labels .before .unpack-counts .ensures, ← labels .unpack-labels .ensures) (o .offer .ensures)
 
 pub watch-offer-spec : {M : Type 1} → statement M
 watch-offer-spec =

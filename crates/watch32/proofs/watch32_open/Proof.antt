@@ -2,7 +2,6 @@
 use Rattle.watch32.proofs.watch32_open.Tie as tie
 use borrow.Author.Needs.{needs}
 use Rattle.watch32.proofs.watch32_open.Statement.{statement}
-use Rattle.watch32.proofs.UnpackedSteps.{open-unpacked}
 
 -- Where the labels are unpacked, from where the watch is opened.
 abbrev unpacked : tie.After-open → tie.After-unpack-labels
@@ -23,7 +22,7 @@ same-length-2 c = search needs
 returns : tie.Need-returns
 returns c =
     let o = c .before .before .before .before in
-    open-unpacked 4 _ _ _ _ _ _ _ _ _ (unpacked o .unpack-labels .ensures) (o .open .ensures)
+    rw (← unpacked o .unpack-labels .ensures) (o .open .ensures)
 
 pub watch32-open-spec : {M : Type 1} → statement M
 watch32-open-spec =

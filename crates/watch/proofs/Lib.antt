@@ -1,3 +1,0 @@
--- What the functions' proofs here share.
-pub mod WordsSteps
-pub mod UnpackedSteps
