@@ -18,7 +18,7 @@ SEED = 1
 COUNT = 60000
 SECONDS = 60
 
-LIBRARY = target/staticlib/libwatch.a
+LIBRARY = target/libwatch.a
 # The program and its manual page.
 PROGRAM = target/bin/watch_cli
 MANUAL = docs/watch.1
@@ -28,8 +28,7 @@ all: $(LIBRARY) $(PROGRAM)
 SOURCES = crates.txt $(shell find crates -type f -not -path '*/must-fail/*')
 
 $(LIBRARY): $(SOURCES)
-	rt staticlib watch
-	@touch $@
+	./library
 
 $(PROGRAM): $(SOURCES)
 	rt check watch_cli
@@ -69,7 +68,7 @@ bench: target/bench_calls
 
 PLAIN = bench/plain.c bench/plain_rule.c bench/plain_step.c bench/plain_wide.c bench/plain_step_wide.c
 
-target/bench_calls: bench/calls.c $(PLAIN) bench/plain.h bench/plain_inner.h include/watch.h tests/wide.h $(LIBRARY)
+target/bench_calls: bench/calls.c $(PLAIN) bench/plain.h bench/plain_inner.h include/watch.h $(LIBRARY)
 	$(CC) -O2 -std=c11 -Wall -Wextra -Werror -pedantic bench/calls.c $(PLAIN) $(LIBRARY) -o $@
 
 clean:

@@ -8,7 +8,7 @@
 #include <string.h>
 #include <time.h>
 
-#include "../tests/wide.h"
+#include "../include/watch.h"
 #include "plain.h"
 
 #define RULE_8 "(ey (and (es (at 0 0) (at 1 0)) (as (at 0 1) (at 1 1))))"

@@ -4,7 +4,7 @@
 #include <stdio.h>
 #include <stdlib.h>
 
-#include "wide.h"
+#include "../include/watch.h"
 
 extern __typeof__(watch_open) __real_watch_open, __wrap_watch_open;
 extern __typeof__(watch_offer) __real_watch_offer, __wrap_watch_offer;

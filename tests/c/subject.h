@@ -4,7 +4,7 @@
 #define SUBJECT_H
 
 #include "../lent.h"
-#include "../wide.h"
+#include "../../include/watch.h"
 #include "check.h"
 
 struct subject {

@@ -4,7 +4,7 @@
 #include <stdio.h>
 #include <stdlib.h>
 
-#include "../wide.h"
+#include "../../include/watch.h"
 
 const struct layout *random_form(struct source *s) {
     return chance(s, 50) && both_forms() ? &wide_form : &narrow_form;
