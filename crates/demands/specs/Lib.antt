@@ -9,7 +9,7 @@ pub mod Verdict
 pub mod EveryList
 pub mod Earlier
 pub mod Written
--- What is stated of every list, with no proofs: statements/X is proved in lists/X
+-- What is stated of every list, with no proofs: statements/X is proved in lists/X or forms/X
 pub mod statements
 -- The invariant of a watch that was written by calls only
 pub mod Watching
@@ -17,3 +17,4 @@ pub mod Watching
 pub mod bytes
 pub mod calls
 pub mod lists
+pub mod forms

@@ -18,8 +18,3 @@ pub mod Messages
 pub mod Earlier
 pub mod Close
 pub mod Dropped
-pub mod Moves
-pub mod TakeByLedger
-pub mod Twins
-pub mod TwinCalls
-pub mod BothForms

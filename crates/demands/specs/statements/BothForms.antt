@@ -1,5 +1,5 @@
 -- The same calls on watches of both forms (02 [6]): they answer alike, and at the end the one watch is the other, moved.
--- Proved in lists/BothForms.
+-- Proved in forms/BothForms.
 use Prim.Native.Nat.{ℕ, _*_, _<_}
 use mathlib.Core.Path.{_≡_}
 use mathlib.Core.Bool.{false}

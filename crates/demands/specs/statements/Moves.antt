@@ -1,5 +1,5 @@
 -- Watches in either form (02 [6]): all that is stated of the end of a list of calls is true of every watch that calls
--- and moves alone wrote, and so is what the next move answers. Proved in lists/Moves.
+-- and moves alone wrote, and so is what the next move answers. Proved in forms/Moves.
 use Prim.Native.Nat.{ℕ, _^_, _<_}
 use mathlib.Core.Path.{_≡_}
 use mathlib.Core.Bool.{false}

@@ -18,8 +18,8 @@ use Rattle.demands.specs.EveryList.{Accepts, EightBytes, AllPassed}
 use Rattle.demands.specs.calls.OpenLaws.{OpenCase, open-case, turned-back, opens, opened-long}
 use Rattle.demands.specs.statements.BothForms.{SameCalls, BothFormsAlike}
 use Rattle.demands.specs.lists.SoundRun.{Sound, sound-run}
-use Rattle.demands.specs.lists.Twins.{Twins, twins-moved}
-use Rattle.demands.specs.lists.TwinCalls.{after-same}
+use Rattle.demands.specs.forms.Twins.{Twins, twins-moved}
+use Rattle.demands.specs.forms.TwinCalls.{after-same}
 
 -- ---- Lists of calls
 

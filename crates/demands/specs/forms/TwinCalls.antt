@@ -33,8 +33,8 @@ use Rattle.demands.specs.statements.BothForms.{SameCall}
 use Rattle.demands.specs.lists.SoundRun.{Sound, after-sound}
 use Rattle.demands.specs.lists.Find.{searched, find-exact-of}
 use Rattle.demands.specs.lists.Close.{close-exact-of}
-use Rattle.demands.specs.lists.TakeByLedger.{takes-alike}
-use Rattle.demands.specs.lists.Twins.{Twins, kept-alike}
+use Rattle.demands.specs.forms.TakeByLedger.{takes-alike}
+use Rattle.demands.specs.forms.Twins.{Twins, kept-alike}
 
 module _ (v w k : ℕ) (f : Formula) (start : Cut) (Y Z : Watch) (t : Twins v w k f start Y Z) where
   abbrev table : List Line

@@ -1,0 +1,6 @@
+-- What is proved of watches in either form.
+pub mod Moves
+pub mod TakeByLedger
+pub mod Twins
+pub mod TwinCalls
+pub mod BothForms
