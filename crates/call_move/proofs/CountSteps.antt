@@ -78,8 +78,10 @@ looked-more v w i s place =
     let far : 8 * (i + 1) ≡ 8 * i + 8 = omega arith in
     let eight : anyBelow 8 (λ j. tooLarge w (at (listOf 8 (λ p. number s (place + i * (8 * v) + p * v) v)) j))
     ≡ anyBelow 8 (λ j. all (8 * i + j)) =
-    any-same 8 (λ j. tooLarge w (at (listOf 8 (λ p. number s (place + i * (8 * v) + p * v) v)) j)) (λ j. all (8 * i + j))
-    (λ j l. ap (tooLarge w) (at-listOf 8 (λ p. number s (place + i * (8 * v) + p * v) v) j l ∙ sym (number-drop s (place + i * (8 * v)) (j * v) v) ∙ behind v i s place j)) in
+    any-same 8 (λ j. tooLarge w (at (listOf 8 (λ p. number s (place + i * (8 * v) + p * v) v)) j))
+    (λ j. all (8 * i + j))
+    (λ j l. ap (tooLarge w) (at-listOf 8 (λ p. number s (place + i * (8 * v) + p * v) v) j l
+    ∙ sym (number-drop s (place + i * (8 * v)) (j * v) v) ∙ behind v i s place j)) in
     ap (λ (b : Bool). b || anyBelow (8 * i) all) eight ∙ sym (any-add (8 * i) 8 all)
     ∙ ap (λ (n : ℕ). anyBelow n all) (sym far)
 
@@ -157,7 +159,8 @@ written-more v w i s place t to =
     let front = countBytes w (countsFrom v (8 * i) d) in
     let next = countBytes w (countsFrom v 8 (drop (8 * i * v) d)) in
     let far : 8 * (i + 1) ≡ 8 * i + 8 = omega arith in
-    let here : place + i * (8 * v) ≡ place + 8 * i * v = omega (arith, mul-assoc 8 i v, mul-assoc i 8 v, mul-comm i 8) in
+    let here : place + i * (8 * v) ≡ place + 8 * i * v =
+    omega (arith, mul-assoc 8 i v, mul-assoc i 8 v, mul-comm i 8) in
     let there : to + i * (8 * w) ≡ to + 8 * i * w = omega (arith, mul-assoc 8 i w, mul-assoc i 8 w, mul-comm i 8) in
     let long : length front ≡ 8 * i * w =
     length-countBytes w (countsFrom v (8 * i) d) ∙ ap (λ (n : ℕ). n * w) (length-countsFrom v (8 * i) d) in

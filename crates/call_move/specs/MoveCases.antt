@@ -1,12 +1,15 @@
 -- What is known where a move is accepted, and where its number is another.
-use Prim.Native.Nat.{ℕ}
+use Prim.Native.Nat.{ℕ, _*_}
 use native.Mathlib.Omega.{arith}
-use mathlib.Core.Path.{_≡_, refl}
+use mathlib.Core.Path.{_≡_, refl, _∙_}
 use mathlib.Core.Bool.{Bool, true, false}
 use mathlib.Core.List.{List}
 use lib.ListN.{length}
+use Rattle.frontiers.specs.Bytes.{frontierLength}
 use Rattle.refusals.specs.Refusals.{roomOf, badState}
 use Rattle.call_move.specs.Parts.{recordParts, windowParts}
+use Rattle.call_move.specs.PartLaws.{length-windowParts, length-moved}
+use Rattle.call_move.specs.LengthLaws.{right-lengths}
 use Rattle.call_move.specs.Move.{moved, badLengths, overflows, moveCall}
 
 pub record Passes (v w : ℕ) (s window t target : List ℕ) : Type 0 where
@@ -33,6 +36,15 @@ passes v w s window t target q =
     go false h true i c j = let z : _≡_ {A = ℕ} 34 0 = rw (h, i) at q in absurd (omega arith)
     go false h false i true j = let z : _≡_ {A = ℕ} 43 0 = rw (h, i, j) at q in absurd (omega arith)
     go false h false i false j = record { lengths = h; state = i; fits = j; moves = rw (h, i, j) }
+
+-- The window that is written then: as many frontiers as the other has room for.
+pub window-written : (v w : ℕ) (s window t target : List ℕ) → Passes v w s window t target
+    → length (moved v w (windowParts (roomOf v (length window))) window) ≡ roomOf v (length window) * frontierLength w
+window-written v w s window t target p =
+    let n : ℕ = roomOf v (length window) in
+    let long = right-lengths v w (length s) (length window) (length t) (length target) (p .lengths) in
+    length-moved v w (windowParts n) window (omega (arith, long .whole, length-windowParts v n))
+    ∙ length-windowParts w n
 
 -- 43 comes only where some count is too large.
 pub too-large : (v w : ℕ) (s window t target : List ℕ) → moveCall v w s window t target .number ≡ 43

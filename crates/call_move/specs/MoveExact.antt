@@ -2,6 +2,7 @@
 -- Proved in MoveTheorem.
 use Prim.Native.Nat.{ℕ, _≤_, _<_}
 use mathlib.Core.Path.{_≡_}
+use mathlib.Core.Bool.{false}
 use mathlib.Core.List.{List}
 use mathlib.Core.Logic.{_≢_}
 use lib.ListN.{length}
@@ -10,7 +11,7 @@ use Rattle.frontiers.specs.Bytes.{frontierAt}
 use Rattle.records.specs.Record.{processCount, lineTotal, pendingCount, closedMask, keptCount, takenCounts, lastClocks, tableLines, pendingAt}
 use Rattle.refusals.specs.Refusals.{roomOf, badState}
 use Rattle.numbers.specs.Refusal.{tooLargeNumber}
-use Rattle.call_move.specs.Move.{Moved, moveCall}
+use Rattle.call_move.specs.Move.{Moved, badLengths, moveCall}
 
 -- A record t with counts of w bytes says in every field what s says with counts of v bytes.
 pub record SameFields (v w : ℕ) (s t : List ℕ) : Type 0 where
@@ -37,7 +38,6 @@ pub record Accepted (v w : ℕ) (s window : List ℕ) (m : Moved) : Type 0 where
   pub back : (t target : List ℕ) → length t ≡ length s → length target ≡ length window
       → moveCall w v (m .bytes) (m .window) t target ≡ record { number = 0; bytes = s; window = window }
 
--- So there and back gives the old bytes for all bytes that pass 6 and 34, and back and there where 43 does not hold.
 abbrev pub MoveExact : Type 0
 MoveExact =
     (v w : ℕ) (s window t target : List ℕ) → Bytes s → Bytes window
@@ -48,3 +48,14 @@ abbrev pub WidenNever43 : Type 0
 WidenNever43 =
     (v w : ℕ) → v ≤ w → (s window t target : List ℕ) → Bytes s → Bytes window
     → moveCall v w s window t target .number ≢ tooLargeNumber
+
+-- So there and back gives the old bytes, for all bytes that 6 and 34 let pass. (The other way round, from more bytes to
+-- fewer, it is `back` that says it, where 43 lets pass too.)
+abbrev pub ThereAndBack : Type 0
+ThereAndBack =
+    (v w : ℕ) → v ≤ w → (s window t target : List ℕ) → Bytes s → Bytes window
+    → badLengths v w (length s) (length window) (length t) (length target) ≡ false
+    → badState v (roomOf v (length window)) s ≡ false
+    → (u away : List ℕ) → length u ≡ length s → length away ≡ length window
+    → let m = moveCall v w s window t target in
+    moveCall w v (m .bytes) (m .window) u away ≡ record { number = 0; bytes = s; window = window }

@@ -1,5 +1,5 @@
 -- Every accepted move, on all bytes: the same fields and frontiers, the same refusal by 34, and the way back.
-use Prim.Native.Nat.{ℕ, _*_}
+use Prim.Native.Nat.{ℕ, _*_, _≤_}
 use native.Mathlib.Omega.{arith}
 use mathlib.Core.Path.{_≡_, sym, ap, _∙_}
 use mathlib.Core.Bool.{false, true≢false}
@@ -18,8 +18,8 @@ use Rattle.call_move.specs.CountLaws.{none-too-large}
 use Rattle.call_move.specs.BackLaws.{fit-again, moved-back}
 use Rattle.call_move.specs.FieldLaws.{record-same, frontier-moved}
 use Rattle.call_move.specs.LengthLaws.{Lengths, right-lengths, none-wrong}
-use Rattle.call_move.specs.MoveCases.{Passes, passes, too-large}
-use Rattle.call_move.specs.MoveExact.{SameFields, MoveExact, WidenNever43}
+use Rattle.call_move.specs.MoveCases.{Passes, passes, window-written, too-large, number-0}
+use Rattle.call_move.specs.MoveExact.{SameFields, MoveExact, WidenNever43, ThereAndBack}
 use Rattle.call_move.specs.Move.{moved, someTooLarge, badLengths, overflows, moveCall}
 
 module _ (v w : ℕ) (s window t target : List ℕ) (b : Bytes s) (c : Bytes window)
@@ -45,8 +45,7 @@ module _ (v w : ℕ) (s window t target : List ℕ) (b : Bytes s) (c : Bytes win
       length-moved v w recordParts s (omega (arith, long .source, length-recordParts v)) ∙ length-recordParts w
 
   length-window : length target′ ≡ n * frontierLength w
-  length-window =
-      length-moved v w (windowParts n) window (omega (arith, long .whole, length-windowParts v n)) ∙ length-windowParts w n
+  length-window = window-written v w s window t target p
 
   -- as long as the buffer that was lent
   window-as-lent : length target′ ≡ length target
@@ -92,16 +91,23 @@ move-exact v w s window t target b c q =
     let p = passes v w s window t target q in
     rw (p .moves) (record {
       same-fields = fields v w s window t target b c p;
-      same-frontiers = λ i l. frontier-moved v w (roomOf v (length window)) window (long v w s window t target b c p .whole)
-          (fits v w s window t target b c p .1) i l;
+      same-frontiers = frontier-moved v w (roomOf v (length window)) window (long v w s window t target b c p .whole)
+          (fits v w s window t target b c p .1);
       same-room = room-same v w s window t target b c p;
       same-state = state-same v w s window t target b c p;
       back = back-moves v w s window t target b c p;
     })
 
-pub widen-never-43 : WidenNever43
+-- With as many bytes or more every count fits.
+all-fit : (v w : ℕ) → v ≤ w → (s window : List ℕ) → Bytes s → Bytes window → overflows v w s window ≡ false
 unfolding overflows
+all-fit v w l s window b c =
+    rw (none-too-large v w l recordParts s b, none-too-large v w l (windowParts (roomOf v (length window))) window c)
+
+pub widen-never-43 : WidenNever43
 widen-never-43 v w l s window t target b c q =
-    let none : overflows v w s window ≡ false =
-    rw (none-too-large v w l recordParts s b, none-too-large v w l (windowParts (roomOf v (length window))) window c) in
-    true≢false (sym (too-large v w s window t target q) ∙ none)
+    true≢false (sym (too-large v w s window t target q) ∙ all-fit v w l s window b c)
+
+pub there-and-back : ThereAndBack
+there-and-back v w l s window t target b c right state =
+    move-exact v w s window t target b c (number-0 v w s window t target right state (all-fit v w l s window b c)) .back

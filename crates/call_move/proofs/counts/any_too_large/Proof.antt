@@ -59,8 +59,8 @@ loop-again c =
     let l = head c .loop in (
       search needs,
       omega (arith, count-next (l .i) (8 * a .v)),
-      looked-turn (a .v) (a .w) (l .i) (now (a .s)) (a .place) (l .next) _ _ _ (l .inv .1) (c .before .read-counts .ensures)
-          (c .one-too-large .ensures) (l .inv .2),
+      looked-turn (a .v) (a .w) (l .i) (now (a .s)) (a .place) (l .next) _ _ _ (l .inv .1)
+          (c .before .read-counts .ensures) (c .one-too-large .ensures) (l .inv .2),
     )
 
 returns : tie.Need-returns Inv-loop μ-loop
