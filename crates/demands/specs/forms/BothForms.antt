@@ -11,13 +11,20 @@ use Rattle.rules.specs.Formula.{Formula}
 use Rattle.rules.specs.Line.{linesAt}
 use Rattle.rules.specs.Reader.{readRule, formed}
 use Rattle.window.specs.Start.{startFrontier}
+use Rattle.refusals.specs.Refusals.{roomOf}
 use Rattle.answers.specs.Answer.{Answer, turnedBack, state, stateOf}
 use Rattle.call_open.specs.Open.{Opened, openTable, openCall}
+use Rattle.call_move.specs.Move.{Moved}
+use Rattle.call_move.specs.LengthLaws.{right-lengths}
+use Rattle.call_move.specs.MoveCases.{passes, window-written}
 use Rattle.demands.specs.Run.{Call, Watch, after, run, opened}
 use Rattle.demands.specs.EveryList.{Accepts, EightBytes, AllPassed}
 use Rattle.demands.specs.calls.OpenLaws.{OpenCase, open-case, turned-back, opens, opened-long}
-use Rattle.demands.specs.statements.BothForms.{SameCalls, BothFormsAlike}
+use Rattle.demands.specs.Written.{movedTo}
+use Rattle.demands.specs.statements.Moves.{nextMove}
+use Rattle.demands.specs.statements.BothForms.{SameCalls, BothFormsAlike, MovedGoesOn}
 use Rattle.demands.specs.lists.SoundRun.{Sound, sound-run}
+use Rattle.demands.specs.forms.Moves.{move-sound, written-sound}
 use Rattle.demands.specs.forms.Twins.{Twins, twins-moved}
 use Rattle.demands.specs.forms.TwinCalls.{after-same}
 
@@ -71,7 +78,7 @@ opened-as w pos text k labels eight s window a f i r = go (open-case w text k la
               ∙ opened-long w text k labels window pos (eight .0) (eight .1) g j h6 h5 h;
         }
 
--- ---- Theorem
+-- ---- Theorems
 
 pub both-forms-alike : BothFormsAlike
 both-forms-alike v w pos pos′ text k labels eight s window s′ window′ room l l′ a a′ cs ds p q same =
@@ -92,3 +99,23 @@ both-forms-alike v w pos pos′ text k labels eight s window s′ window′ room
     } in
     twins-moved v w k (x .0) (at labels) (run v cs Y) (run w ds Z)
     (run-same v w k (x .0) (at labels) cs ds p q same Y Z t)
+
+pub moved-goes-on : MovedGoesOn
+moved-goes-on v w pos text k labels eight Y y t target q cs ds p r same =
+    let x = written-sound text k labels eight v Y y in
+    let moves = passes v w (Y .bytes) (Y .window) t target q in
+    let Z : Watch = movedTo (nextMove v w Y t target) Y in
+    let twins : Twins v w k (x .0) (at labels) Y Z = record {
+      first = x .3;
+      second = move-sound v w k (x .0) (at labels) pos Y (x .3) t target q;
+      same-answers = refl;
+      same-ledger = refl;
+      same-accepted = refl;
+      room = roomOf v (length (Y .window));
+      long = right-lengths v w (length (Y .bytes)) (length (Y .window)) (length t) (length target) (moves .lengths) .whole;
+      other-long =
+          ap (λ (m : Moved). length (m .window)) (moves .moves)
+          ∙ window-written v w (Y .bytes) (Y .window) t target moves;
+    } in
+    twins-moved v w k (x .0) (at labels) (run v cs Y) (run w ds Z)
+    (run-same v w k (x .0) (at labels) cs ds p r same Y Z twins)

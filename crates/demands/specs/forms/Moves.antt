@@ -11,7 +11,6 @@ use Rattle.clocks.specs.Event.{Cut}
 use Rattle.clocks.specs.Counts.{at}
 use Rattle.rules.specs.Line.{linesAt}
 use Rattle.rules.specs.Formula.{Formula}
-use Rattle.rules.specs.Reader.{readRule, formed}
 use Rattle.rules.specs.reading.ReaderAccepts.{reader-accepts}
 use Rattle.refusals.specs.Refusals.{roomOf, badState, badWindowLength}
 use Rattle.call_move.specs.Move.{badLengths, overflows, moveCall}
@@ -28,11 +27,13 @@ use Rattle.demands.specs.lists.WindowExact.{window-exact-of}
 use Rattle.demands.specs.lists.TakeAnswers.{take-exact-of}
 use Rattle.demands.specs.lists.Find.{find-exact-of}
 use Rattle.demands.specs.lists.Close.{close-exact-of}
+use Rattle.demands.specs.lists.Dropped.{stays-dropped-of}
 use Rattle.demands.specs.lists.Again.{again-exact-of}
 use Rattle.demands.specs.lists.Messages.{messages-exact-of}
 use Rattle.demands.specs.lists.Balance.{balanced-of}
-use Rattle.demands.specs.lists.SoundRun.{Sound, after-sound, sound-run}
-use Rattle.demands.specs.statements.Moves.{nextMove, RightMove, CountsFit, MoveAnswers, WatchExact, EveryWatchIsExact, ExactAfterAMove}
+use Rattle.demands.specs.lists.SoundRun.{Sound, SoundAsRead, after-sound, sound-run}
+use Rattle.demands.specs.lists.OrderIndependent.{alike-as-read}
+use Rattle.demands.specs.statements.Moves.{nextMove, RightMove, CountsFit, MoveAnswers, WatchExact, EveryWatchIsExact, ExactAfterAMove, OrderIndependentWithMoves}
 
 -- ---- Soundness
 
@@ -52,8 +53,7 @@ module _ (v w k : ℕ) (f : Formula) (start : Cut) (pos : 0 < w) (W : Watch) (S 
 
 -- The formula is the one that the reader reads.
 pub written-sound : (text : List ℕ) (k : ℕ) (labels : List ℕ) → EightBytes labels → (w : ℕ) (Z : Watch)
-    → Written text k labels w Z
-    → (f : Formula) × (i : ℕ) × (readRule text k ≡ formed i f) × Sound w k f (at labels) Z
+    → Written text k labels w Z → SoundAsRead w text k labels Z
 unfolding run
 written-sound text k labels eight _ _ (opens w pos s window a) =
     sound-run w pos text k labels eight s window a [] (λ c m. absurd (List·Memᴰ·not-nil m))
@@ -178,6 +178,7 @@ exact-of w k f start Z S = record {
   takes = take-exact-of w k f start Z S;
   finds = find-exact-of w k f start Z S;
   closes = close-exact-of w k f start Z S;
+  dropped = stays-dropped-of w k f start Z S;
   agains = again-exact-of w k f start Z S;
   messages = messages-exact-of w k f start Z S;
   moves = λ to t target. move-answers w to k f start Z S t target;
@@ -196,3 +197,7 @@ exact-after-a-move v w pos pos′ text k labels eight s window a cs p t target q
     (moves v w pos′ W
     (run-written text k labels v cs p (opened (openCall v text k labels s window)) (opens v pos s window a)) t target
     q))
+
+pub order-independent-with-moves : OrderIndependentWithMoves
+order-independent-with-moves text k labels eight w Y Z y z =
+    alike-as-read w text k labels Y Z (written-sound text k labels eight w Y y) (written-sound text k labels eight w Z z)

@@ -10,19 +10,19 @@ use Rattle.clocks.specs.declared.Event.{Event}
 use Rattle.clocks.specs.History.{Causal}
 use Rattle.clocks.specs.Kept.{Kept}
 use Rattle.clocks.specs.cuts.KeptStep.{dropped-stays}
+use Rattle.clocks.specs.Event.{Cut}
+use Rattle.rules.specs.Formula.{Formula}
 use Rattle.rules.specs.Line.{linesAt}
-use Rattle.clocks.specs.Counts.{at}
 use Rattle.answers.specs.Answer.{Answer, turnedBack, state, nothingReady, held, again, found, absent, processClosed}
 use Rattle.answers.specs.Turns.{by-test}
 use Rattle.demands.specs.Ledger.{Ledger}
 use Rattle.demands.specs.World.{Open}
 use Rattle.demands.specs.Run.{Call, offers, takes, finds, closes, Watch, takenLedger, offeredLedger, closedLedger, after, run}
-use Rattle.demands.specs.EveryList.{atEnd}
-use Rattle.demands.specs.statements.Close.{DroppedStaysDropped}
+use Rattle.demands.specs.statements.Close.{StaysDropped, DroppedStaysDropped}
 use Rattle.demands.specs.calls.CloseLaws.{still-open}
 use Rattle.demands.specs.calls.KeptCutsLaws.{stays-kept, open-bit}
 use Rattle.demands.specs.calls.StoredFits.{causal-history}
-use Rattle.demands.specs.lists.SoundRun.{sound-run}
+use Rattle.demands.specs.lists.SoundRun.{Sound, run-sound, every-list}
 
 -- Events were taken, and processes were closed.
 record Later (L M : Ledger) : Type 0 where
@@ -91,30 +91,25 @@ run-later w (c ∷ cs) W =
     later-still (W .ledger) (after w c W .ledger) (run w cs (after w c W) .ledger) (after-later w c W)
     (run-later w cs (after w c W))
 
-run-append : (w : ℕ) (cs ds : List Call) (W : Watch) → run w (cs ++ ds) W ≡ run w ds (run w cs W)
-unfolding run
-run-append w [] ds W = refl
-run-append w (c ∷ cs) ds W = run-append w cs ds (after w c W)
-
 -- ---- Theorem
-pub dropped-for-good : DroppedStaysDropped
-dropped-for-good w pos text k labels eight s window a cs ds p S consistent dropped stays =
-    let x = sound-run w pos text k labels eight s window a (cs ++ ds) p in
-    let Z = atEnd w text k labels s window (cs ++ ds) in
-    let causal = causal-history w k (linesAt 0 (x .0)) (at labels) (x .3 .rule) (Z .ledger) (Z .bytes) (Z .window)
-    (x .3 .right) in
+pub stays-dropped-of : (w k : ℕ) (f : Formula) (start : Cut) (Y : Watch) → Sound w k f start Y
+    → StaysDropped w k f start Y
+stays-dropped-of w k f start Y sound cs p S consistent dropped stays =
+    let Z = run w cs Y in
+    let later = run-sound w k f start cs Y p sound in
+    let causal = causal-history w k (linesAt 0 f) start (later .rule) (Z .ledger) (Z .bytes) (Z .window)
+    (later .right) in
     dropped-stays k (λ q. not (bit (Y .ledger .closed) q)) (λ q. not (bit (Z .ledger .closed) q)) (grown .newer)
     (Y .ledger .history) (subst Causal (grown .history-is) causal) shrinks S consistent
     (λ h. dropped (stays-kept k (Y .ledger .closed) (Y .ledger .history) S .1 h))
     (subst (λ (ts : List Event). Kept k (λ q. not (bit (Z .ledger .closed) q)) ts S) (grown .history-is)
     (stays-kept k (Z .ledger .closed) (Z .ledger .history) S .0 stays))
   where
-    Y : Watch
-    Y = atEnd w text k labels s window cs
+    grown : Later (Y .ledger) (run w cs Y .ledger)
+    grown = run-later w cs Y
 
-    grown : Later (Y .ledger) (atEnd w text k labels s window (cs ++ ds) .ledger)
-    grown = rw (run-append w cs ds _) (run-later w ds Y)
-
-    shrinks : (q : ℕ) → T (not (bit (atEnd w text k labels s window (cs ++ ds) .ledger .closed) q))
-        → T (not (bit (Y .ledger .closed) q))
+    shrinks : (q : ℕ) → T (not (bit (run w cs Y .ledger .closed) q)) → T (not (bit (Y .ledger .closed) q))
     shrinks q t = rw (grown .shrinks q (open-bit _ t)) tt
+
+pub dropped-for-good : DroppedStaysDropped
+dropped-for-good = every-list _ stays-dropped-of

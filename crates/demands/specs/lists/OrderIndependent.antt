@@ -22,7 +22,8 @@ use Rattle.clocks.specs.Event.{Cut}
 use Rattle.clocks.specs.validity.ClockRule.{consistent-silent}
 use Rattle.clocks.specs.cuts.SameEvents.{Same, same-taken, same-last, same-agree}
 use Rattle.rules.specs.reading.ReaderAccepts.{reader-accepts}
-use Rattle.rules.specs.Reader.{formed}
+use Rattle.rules.specs.Text.{textOf}
+use Rattle.rules.specs.Reader.{readRule, formed}
 use Rattle.clocks.specs.Counts.{at}
 use Rattle.demands.specs.Watching.{Watching}
 use Rattle.demands.specs.lists.Delivery.{same-pending, same-taken-events}
@@ -35,7 +36,7 @@ use Rattle.demands.specs.Ledger.{Ledger, accounted, Settled}
 use Rattle.demands.specs.Run.{Watch}
 use Rattle.demands.specs.Status.{recordBytes}
 use Rattle.demands.specs.calls.AfterCall.{WatchRight}
-use Rattle.demands.specs.lists.SoundRun.{Sound, sound-run}
+use Rattle.demands.specs.lists.SoundRun.{Sound, SoundAsRead, sound-run}
 use Rattle.demands.specs.calls.StoredFits.{proper, causal-history, kept-shaped}
 use Rattle.demands.specs.World.{worldOf, statusOf, Valid}
 use Rattle.demands.specs.Verdict.{TrueVerdict}
@@ -171,18 +172,23 @@ module _ (w k : ℕ) (f : Formula) (start : Cut) (Y Z : Watch) (S : Sound w k f 
         verdict-alike counts t u (S .reporting .truthful counts t m i) (T′ .reporting .truthful counts u n j);
   }
 
--- ---- Theorem
-pub order-independent : OrderIndependent
-order-independent w pos text k labels eight s window a cs p s′ window′ a′ cs′ p′ q q′ same shut =
-    let x = sound-run w pos text k labels eight s window a cs p in
-    let y = sound-run w pos text k labels eight s′ window′ a′ cs′ p′ in
+-- Of two sound watches that were opened with one text: the formula is the one that the reader reads.
+pub alike-as-read : (w : ℕ) (text : List ℕ) (k : ℕ) (labels : List ℕ) (Y Z : Watch) → SoundAsRead w text k labels Y
+    → SoundAsRead w text k labels Z → EndsQuiet Y → EndsQuiet Z → SameAccepted Y Z → SameClosed Y Z
+    → (f : Formula) × (i : ℕ) × (readRule text k ≡ formed i f) × (textOf f ≡ text) × Alike w k f (at labels) Y Z
+alike-as-read w text k labels Y Z x y q q′ same shut =
     let r : formed (x .1) (x .0) ≡ formed (y .1) (y .0) = sym (x .2) ∙ y .2 in
     let e : x .0 ≡ y .0 = cc in (
       x .0,
       x .1,
       x .2,
       reader-accepts text k (x .1) (x .0) .0 (x .2) .0,
-      alike w k (x .0) (at labels) (atEnd w text k labels s window cs) (atEnd w text k labels s′ window′ cs′) (x .3)
-          (subst (λ (g : Formula). Sound w k g (at labels) (atEnd w text k labels s′ window′ cs′)) (sym e) (y .3))
-          q q′ same shut,
+      alike w k (x .0) (at labels) Y Z (x .3)
+          (subst (λ (g : Formula). Sound w k g (at labels) Z) (sym e) (y .3)) q q′ same shut,
     )
+
+-- ---- Theorem
+pub order-independent : OrderIndependent
+order-independent w pos text k labels eight s window a cs p s′ window′ a′ cs′ p′ =
+    alike-as-read w text k labels (atEnd w text k labels s window cs) (atEnd w text k labels s′ window′ cs′)
+    (sound-run w pos text k labels eight s window a cs p) (sound-run w pos text k labels eight s′ window′ a′ cs′ p′)

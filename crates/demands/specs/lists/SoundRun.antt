@@ -51,19 +51,19 @@ run-sound w k f start (c ∷ cs) W p S =
     run-sound w k f start cs (after w c W) (λ d m. p d (List·Memᴰ·tail m))
     (after-sound w k f start W c (p c (List·Memᴰ·head refl)) S)
 
+-- By the formula that the reader reads of the text that was opened (ReaderAccepts: reader-accepts).
+abbrev pub SoundAsRead : ℕ → List ℕ → ℕ → List ℕ → Watch → Type 0
+SoundAsRead w text k labels Z =
+    (f : Formula) × (i : ℕ) × (readRule text k ≡ formed i f) × Sound w k f (at labels) Z
+
 -- ---- Theorem
--- the form is the one that the reader reads, whose text was opened (ReaderAccepts: reader-accepts)
 pub sound-run : (w : ℕ) → 0 < w → (text : List ℕ) (k : ℕ) (labels : List ℕ) → EightBytes labels → (s window : List ℕ)
     → Accepts w text k labels s window
-    → (cs : List Call) → AllPassed w cs
-    → (f : Formula) × (i : ℕ) × (readRule text k ≡ formed i f)
-    × Sound w k f (at labels) (atEnd w text k labels s window cs)
+    → (cs : List Call) → AllPassed w cs → SoundAsRead w text k labels (atEnd w text k labels s window cs)
 unfolding openTable occurrences
 sound-run w pos text k labels eight s window a cs p = go (open-case w text k labels s window)
   where
-    go : OpenCase w text k labels s window
-        → (f : Formula) × (i : ℕ) × (readRule text k ≡ formed i f)
-        × Sound w k f (at labels) (atEnd w text k labels s window cs)
+    go : OpenCase w text k labels s window → SoundAsRead w text k labels (atEnd w text k labels s window cs)
     go (turned-back n i q) =
         let x : turnedBack n i ≡ state (a .0) (a .1) (a .2) = sym (ap (λ (o : Opened). o .answer) q) ∙ a .3 in
         let z : _≡_ {A = ℕ} 0 1 = cc in absurd (omega arith)

@@ -1,15 +1,16 @@
--- The same calls on watches of both forms (02 [6]): they answer alike, and at the end the one watch is the other, moved.
--- Proved in forms/BothForms.
+-- The same calls on watches of both forms (02 [6]): they answer alike, and at the end the one watch is the other,
+-- moved; so a moved watch goes on as the one that was read. Proved in forms/BothForms.
 use Prim.Native.Nat.{ℕ, _*_, _<_}
 use mathlib.Core.Path.{_≡_}
-use mathlib.Core.Bool.{false}
 use mathlib.Core.List.{List, [], _∷_}
 use lib.ListN.{length}
 use Rattle.frontiers.specs.Bytes.{frontierLength}
 use Rattle.call_move.specs.Parts.{recordParts, windowParts}
 use Rattle.call_move.specs.Move.{moved}
-use Rattle.demands.specs.Run.{Call, offers, takes, finds, closes, Watch}
+use Rattle.demands.specs.Run.{Call, offers, takes, finds, closes, Watch, run}
 use Rattle.demands.specs.EveryList.{Accepts, EightBytes, AllPassed, atEnd}
+use Rattle.demands.specs.Written.{Written, movedTo}
+use Rattle.demands.specs.statements.Moves.{nextMove}
 
 -- A call for counts of v bytes and one for counts of w bytes: the same, but that what a take is lent, zeros and scratch,
 -- has as many frontiers in the one form as in the other, and that the scratch may hold anything.
@@ -45,3 +46,11 @@ BothFormsAlike =
     → Accepts v text k labels s window → Accepts w text k labels s′ window′
     → (cs ds : List Call) → AllPassed v cs → AllPassed w ds → SameCalls v w cs ds
     → SameInBoth v w (atEnd v text k labels s window cs) (atEnd w text k labels s′ window′ ds)
+
+-- The same calls from a move on, Y being the watch that was read.
+abbrev pub MovedGoesOn : Type 0
+MovedGoesOn =
+    (v w : ℕ) → 0 < w → (text : List ℕ) (k : ℕ) (labels : List ℕ) → EightBytes labels
+    → (Y : Watch) → Written text k labels v Y → (t target : List ℕ) → nextMove v w Y t target .number ≡ 0
+    → (cs ds : List Call) → AllPassed v cs → AllPassed w ds → SameCalls v w cs ds
+    → SameInBoth v w (run v cs Y) (run w ds (movedTo (nextMove v w Y t target) Y))

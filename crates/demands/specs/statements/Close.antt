@@ -4,7 +4,7 @@
 use Prim.Native.Nat.{ℕ, _≤_, _<_}
 use mathlib.Core.Path.{_≡_}
 use mathlib.Core.Bool.{true, false}
-use mathlib.Core.List.{List, _++_, List·Memᴰ}
+use mathlib.Core.List.{List, List·Memᴰ}
 use mathlib.Core.Logic.{_⊎_, _↔_, _≢_}
 use lib.ListN.{length}
 use Rattle.codec.specs.Bit.{bit}
@@ -19,9 +19,9 @@ use Rattle.answers.specs.Answer.{turnedBack, processClosed}
 use Rattle.call_close.specs.Close.{Closed, closing, closeCall}
 use Rattle.call_offer.specs.Offer.{offeredEvent, offerCall}
 use Rattle.demands.specs.Ledger.{Ledger}
-use Rattle.demands.specs.Run.{Call, offers, closes, Passed, Watch, after}
+use Rattle.demands.specs.Run.{Call, offers, closes, Passed, Watch, after, run}
 use Rattle.demands.specs.World.{Open, Stays, KeptNumber}
-use Rattle.demands.specs.EveryList.{Accepts, EightBytes, AllPassed, AfterEveryList, atEnd}
+use Rattle.demands.specs.EveryList.{AllPassed, AfterEveryList}
 
 -- ---- The next close
 
@@ -85,12 +85,12 @@ CloseIsExact = AfterEveryList CloseExact
 
 -- ---- What was dropped
 
--- Whatever calls follow a list: a consistent cut of its taken events that is not kept at its end is not kept at theirs.
+-- Whatever calls follow: a consistent cut of the taken events that is not kept is not kept at their end.
+abbrev pub StaysDropped : ℕ → ℕ → Formula → Cut → Watch → Type 0
+StaysDropped w k f start Y =
+    (cs : List Call) → AllPassed w cs → (S : Cut) → Consistent (Y .ledger .history) S
+    → (Stays k (Y .ledger .closed) (Y .ledger .history) S → ⊥)
+    → let Z = run w cs Y in Stays k (Z .ledger .closed) (Z .ledger .history) S → ⊥
+
 abbrev pub DroppedStaysDropped : Type 0
-DroppedStaysDropped =
-    (w : ℕ) → 0 < w → (text : List ℕ) (k : ℕ) (labels : List ℕ) → EightBytes labels
-    → (s window : List ℕ) → Accepts w text k labels s window → (cs ds : List Call) → AllPassed w (cs ++ ds)
-    → let Y = atEnd w text k labels s window cs in
-    let Z = atEnd w text k labels s window (cs ++ ds) in
-    (S : Cut) → Consistent (Y .ledger .history) S
-    → (Stays k (Y .ledger .closed) (Y .ledger .history) S → ⊥) → Stays k (Z .ledger .closed) (Z .ledger .history) S → ⊥
+DroppedStaysDropped = AfterEveryList StaysDropped

@@ -16,16 +16,17 @@ use Rattle.rules.specs.Reader.{readRule, formed}
 use Rattle.call_move.specs.Move.{Moved, badLengths, moveCall}
 use Rattle.numbers.specs.Refusal.{lengthNumber, tooLargeNumber}
 use Rattle.demands.specs.Run.{Call, Watch, run}
-use Rattle.demands.specs.EveryList.{Accepts, EightBytes, AllPassed, atEnd}
+use Rattle.demands.specs.EveryList.{Accepts, EightBytes, AllPassed, atEnd, EndsQuiet, SameAccepted, SameClosed}
 use Rattle.demands.specs.Verdict.{Truthful}
-use Rattle.demands.specs.Written.{movedTo, OfEveryWatch}
+use Rattle.demands.specs.Written.{Written, movedTo, OfEveryWatch}
 use Rattle.demands.specs.statements.WindowExact.{WindowExact}
 use Rattle.demands.specs.statements.TakeAnswers.{TakeExact}
 use Rattle.demands.specs.statements.Find.{FindExact}
-use Rattle.demands.specs.statements.Close.{CloseExact}
+use Rattle.demands.specs.statements.Close.{CloseExact, StaysDropped}
 use Rattle.demands.specs.statements.Again.{AgainExact}
 use Rattle.demands.specs.statements.Messages.{MessagesExact}
 use Rattle.demands.specs.statements.Balance.{AnswersBalanced}
+use Rattle.demands.specs.statements.OrderIndependent.{Alike}
 
 -- ---- The next move
 
@@ -66,6 +67,7 @@ pub record WatchExact (w k : ℕ) (f : Formula) (start : Cut) (Z : Watch) : Type
   pub takes : TakeExact w k f start Z
   pub finds : FindExact w k f start Z
   pub closes : CloseExact w k f start Z
+  pub dropped : StaysDropped w k f start Z
   pub agains : AgainExact w k f start Z
   pub messages : MessagesExact w k f start Z
   pub moves : (to : ℕ) (t target : List ℕ) → MoveAnswers w to Z t target
@@ -88,3 +90,14 @@ ExactAfterAMove =
     × WatchExact w k f (at labels)
     (run w ds
     (movedTo (nextMove v w (atEnd v text k labels s window cs) t target) (atEnd v text k labels s window cs)))
+
+-- ---- Two watches
+
+-- Demand 3 too, of two watches that come to one form: whatever moves stand among the calls of either, the same accepted
+-- events, the same closed processes and "nothing ready" at both ends make them alike.
+abbrev pub OrderIndependentWithMoves : Type 0
+OrderIndependentWithMoves =
+    (text : List ℕ) (k : ℕ) (labels : List ℕ) → EightBytes labels
+    → (w : ℕ) (Y Z : Watch) → Written text k labels w Y → Written text k labels w Z
+    → EndsQuiet Y → EndsQuiet Z → SameAccepted Y Z → SameClosed Y Z
+    → (f : Formula) × (i : ℕ) × (readRule text k ≡ formed i f) × (textOf f ≡ text) × Alike w k f (at labels) Y Z
