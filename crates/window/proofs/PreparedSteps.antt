@@ -1,14 +1,15 @@
 -- What is made once says what it is made of.
-use Prim.Native.Nat.{ℕ, zero, suc, _+_, _-_, _*_, _^_, _≤_, _<_}
-use native.Mathlib.Nat.{mod-eq-of-lt}
+use Prim.Native.Nat.{ℕ, zero, suc, _+_, _-_, _%_, _^_, _≤_, _<_}
+use native.Mathlib.Nat.{mod-eq-of-lt, div-add-mod'}
+use native.Mathlib.Decide.{decLt}
 use native.Mathlib.Omega.{arith}
 use mathlib.Core.Path.{_≡_, refl, sym, subst, _∙_}
 use mathlib.Core.Bool.{Bool, true, false, not, _&&_}
 use mathlib.Core.List.{List}
+use mathlib.Core.Logic.{_⊎_, inl, inr}
 use lib.Dec.{T, eqb, leb, ltb, eqb→eq, leb→le, le→leb, ltb→lt, lt→ltb}
 use lib.ListN.{getD}
-use lib.Bits.{bitOr, bitAnd, or-zero-r, or-add-and, and-mask}
-use borrow.Author.Tests.{eq-eqb, le-ltb}
+use borrow.Author.Tests.{eq-eqb}
 use Rattle.codec.specs.Bit.{bit}
 use Rattle.clocks.specs.cuts.EventLaws.{true-T}
 use Rattle.clocks.specs.Event.{one}
@@ -17,7 +18,7 @@ use Rattle.clocks.specs.Bounded.{anyBelow}
 use Rattle.clocks.specs.stored.BoundedLaws.{and-i, and-l, and-r, same-test, any-i, any-e}
 use Rattle.clocks.specs.Tested.{readyAt}
 use Rattle.window.specs.StepCode.{completeAt, complete}
-use Rattle.window.specs.Prepared.{lowest, highest, openOnes}
+use Rattle.window.specs.Prepared.{lowest, spanOf, openOnes}
 use Rattle.window.specs.Lists.{made-at}
 
 -- ---- Bounds by arithmetic
@@ -27,35 +28,36 @@ digit-one zero l = refl
 digit-one (suc zero) l = refl
 digit-one (suc (suc x)) l = absurd (omega arith)
 
--- All bits are set, whatever is added to them.
-or-full : (n : ℕ) → n < 2 ^ 32 → bitOr n (2 ^ 32 - 1) ≡ 2 ^ 32 - 1
-or-full n l = let same : bitAnd n (2 ^ 32 - 1) ≡ n = and-mask n 32 ∙ mod-eq-of-lt l in
-    omega (arith, or-add-and n (2 ^ 32 - 1), same)
-
-pub highest-or : (u n before : ℕ) → u ≤ 1 → n < 2 ^ 32 → before ≡ n - u
-    → bitOr before ((1 - u) * 4294967295) ≡ highest u n
-highest-or zero n before l m e = let all : before ≡ n = omega arith in rw all (or-full n m)
-highest-or (suc zero) n before l m e = or-zero-r before ∙ e
-highest-or (suc (suc u)) n before l m e = absurd (omega arith)
-
 -- ---- Counts within an event's bounds
-pub between-ready : (b : Bool) (n c : ℕ) → c < 4294967296
-    → (leb (lowest (one b) n) c && leb c (highest (one b) n)) ≡ readyAt b n c
-between-ready false n c h =
-    let less : n - 0 ≡ n = omega arith in
-    rw (le-ltb n 0 (omega arith), less)
-    (same-test _ _ (and-l (leb n c) (leb c 4294967295))
-    (λ t. and-i (leb n c) (leb c 4294967295) t (le→leb c 4294967295 (omega arith))))
-between-ready true zero c h =
-    same-test _ _
-    (λ t. absurd (omega (arith, leb→le 1 c (and-l (leb 1 c) (leb c 0) t), leb→le c 0 (and-r (leb 1 c) (leb c 0) t))))
-    (λ t. absurd (omega (arith, eqb→eq 0 (c + 1) t)))
-between-ready true (suc n) c h =
-    let less : suc n - 1 ≡ n = omega arith in
-    rw (le-ltb (suc n) 1 (omega arith), less)
-    (same-test (leb n c && leb c n) (eqb (suc n) (c + 1))
-    (λ t. true-T (eq-eqb (suc n) (c + 1) (omega (arith, leb→le n c (and-l (leb n c) (leb c n) t), leb→le c n (and-r (leb n c) (leb c n) t)))))
-    (λ t. and-i (leb n c) (leb c n) (le→leb n c (omega (arith, eqb→eq (suc n) (c + 1) t))) (le→leb c n (omega (arith, eqb→eq (suc n) (c + 1) t)))))
+-- A difference that may have wrapped: d is c less low.
+wrapped : (d low c : ℕ) → d < 2 ^ 32 → low < 2 ^ 32 → (d + low) % 2 ^ 32 ≡ c
+    → (d + low ≡ c) ⊎ (d + low ≡ c + 2 ^ 32)
+wrapped d low c l m e = go (decLt (d + low) (2 ^ 32))
+  where
+    go : Dec (d + low < 2 ^ 32) → (d + low ≡ c) ⊎ (d + low ≡ c + 2 ^ 32)
+    go (yes h) = inl (sym (mod-eq-of-lt h) ∙ e)
+    go (no h) = inr (omega (arith, div-add-mod' (d + low) (2 ^ 32)))
+
+pub between-ready : (b : Bool) (n c d low : ℕ) → c < 2 ^ 32 → d < 2 ^ 32 → low < 2 ^ 32 → (d + low) % 2 ^ 32 ≡ c
+    → (b ≡ true → 0 < n) → low ≡ lowest (one b) n → leb d (spanOf (one b) n) ≡ readyAt b n c
+between-ready b n c d low lc ld ll w some e = go b some e (wrapped d low c ld ll w)
+  where
+    go : (b : Bool) → (b ≡ true → 0 < n) → low ≡ lowest (one b) n → (d + low ≡ c) ⊎ (d + low ≡ c + 2 ^ 32)
+        → leb d (spanOf (one b) n) ≡ readyAt b n c
+    go false some e (inl h) =
+        same-test _ _ (λ t. le→leb n c (omega (arith, leb→le d (4294967295 - n) t)))
+        (λ t. le→leb d (4294967295 - n) (omega (arith, leb→le n c t)))
+    go false some e (inr h) =
+        same-test _ _ (λ t. absurd (omega (arith, leb→le d (4294967295 - n) t)))
+        (λ t. absurd (omega (arith, leb→le n c t)))
+    go true some e (inl h) =
+        let pos : 0 < n = some refl in
+        same-test _ _ (λ t. true-T (eq-eqb n (c + 1) (omega (arith, leb→le d 0 t))))
+        (λ t. le→leb d 0 (omega (arith, eqb→eq n (c + 1) t)))
+    go true some e (inr h) =
+        let pos : 0 < n = some refl in
+        same-test _ _ (λ t. absurd (omega (arith, leb→le d 0 t)))
+        (λ t. absurd (omega (arith, eqb→eq n (c + 1) t)))
 
 -- ---- Complete at an open process
 -- What a list of the open ones says of process p.

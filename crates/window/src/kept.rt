@@ -12,6 +12,7 @@ ghost use Rattle.window.specs.Step.{keptAfter};
 ghost use Rattle.window.specs.StepCode.{settingWith};
 ghost use Rattle.window.specs.Room.{RoomFor};
 ghost use Rattle.window.specs.Marks.{Marked};
+ghost use Rattle.window.specs.Prepared.{Counted};
 
 // 1 for yes, 0 for no.
 fn one_if(t: bool) -> usize
@@ -35,19 +36,20 @@ pub fn count_after(
     requires { ⌜ RoomFor w n (now window) ⌝ }
     requires { ⌜ k ≤ 8 ⌝ }
     requires { ⌜ n ≤ length (now marks) ⌝ }
+    requires { ⌜ Counted e ⌝ }
     ensures { λ r. ⌜ ((table : List ℕ) (lines : ℕ) → r ≡ keptAfter (settingWith k closed table lines e reached) (frontiers w (now (window .entry)) n)) ⌝ }
     ensures { λ r. ⌜ r ≤ 2048 ⌝ }
     ensures { λ r. ⌜ ((table : List ℕ) (lines : ℕ) → Marked (settingWith k closed table lines e reached) w (now (window .entry)) n (now (marks .exit))) ⌝ }
 {
     let low = crate::prepared::bound_counts(e, false);
-    let high = crate::prepared::bound_counts(e, true);
+    let span = crate::prepared::bound_counts(e, true);
     let opens = crate::prepared::open_ones(k, closed);
     let mut total = 0;
     let mut i = 0;
     while i < n {
         let counts = frontiers::stored::counts_at(window, w, i);
         let here = one_if(crate::prepared::stays(opens, reached, counts));
-        let there = one_if(crate::prepared::within(low, high, counts));
+        let there = one_if(crate::prepared::within(low, span, counts));
         marks[i] = (here + 2 * there) as u8;
         total = total + here + there;
         i = i + 1;

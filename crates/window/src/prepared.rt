@@ -11,14 +11,14 @@ ghost use Rattle.clocks.specs.Event.{one};
 ghost use Rattle.clocks.specs.Tested.{readyAt, ready};
 ghost use Rattle.clocks.specs.declared.Event as event;
 ghost use Rattle.window.specs.StepCode.{complete, staysWith};
-ghost use Rattle.window.specs.Prepared.{lowest, highest, bound, boundCounts, openOnes};
+ghost use Rattle.window.specs.Prepared.{lowest, spanOf, bound, boundCounts, Counted, openOnes};
 
 // 1 for a process that takes part, 0 for another. As a number, so that the bounds of eight processes are made by the
 // same arithmetic: with bounds made of truths the compiler stopped testing eight counts at once when the code around
 // them changed.
 fn part(mask: u64, p: u32) -> u32
     requires { ⌜ p < 64 ⌝ }
-    ensures { λ r. ⌜ (r ≡ one (bit mask p)) × (r ≤ 1) ⌝ }
+    ensures { λ r. ⌜ r ≡ one (bit mask p) ⌝ }
 {
     ((mask >> p) % 2) as u32
 }
@@ -27,60 +27,60 @@ fn part(mask: u64, p: u32) -> u32
 fn lowest_count(part: u32, n: u32) -> u32
     ensures { λ r. ⌜ r ≡ lowest part n ⌝ }
 {
-    if n < part { 1 } else { n - part }
+    if n < part { 0 } else { n - part }
 }
 
-// The highest one: all bits set where the process does not take part.
-fn highest_count(part: u32, n: u32) -> u32
-    requires { ⌜ part ≤ 1 ⌝ }
-    ensures { λ r. ⌜ r ≡ highest part n ⌝ }
+// How far above it a count may lie: up to the largest, or not at all where the process takes part.
+fn span_of(part: u32, n: u32) -> u32
+    ensures { λ r. ⌜ r ≡ spanOf part n ⌝ }
 {
-    let before = if n < part { 0 } else { n - part };
-    before | (1 - part) * 4294967295
+    if part == 0 { 4294967295 - n } else { 0 }
 }
 
-// The highest or the lowest one.
-fn bound_count(high: bool, part: u32, n: u32) -> u32
-    requires { ⌜ part ≤ 1 ⌝ }
-    ensures { λ r. ⌜ r ≡ bound high part n ⌝ }
+// The span or the lowest one.
+fn bound_count(spans: bool, part: u32, n: u32) -> u32
+    ensures { λ r. ⌜ r ≡ bound spans part n ⌝ }
 {
-    if high {
-        highest_count(part, n)
+    if spans {
+        span_of(part, n)
     } else {
         lowest_count(part, n)
     }
 }
 
-// The highest or the lowest counts at which the event is enabled.
-pub fn bound_counts(e: Event, high: bool) -> [u32; 8]
-    ensures { λ r. ⌜ r ≡ boundCounts high e ⌝ }
+// The lowest counts at which the event is enabled, or their spans.
+pub fn bound_counts(e: Event, spans: bool) -> [u32; 8]
+    ensures { λ r. ⌜ r ≡ boundCounts spans e ⌝ }
 {
     let mask = e.mask as u64;
     let mut out = [0u32; 8];
     let mut p: u32 = 0;
     while p < 8 {
         let i = p as usize;
-        out[i] = bound_count(high, part(mask, p), e.clock[i]);
+        out[i] = bound_count(spans, part(mask, p), e.clock[i]);
         p = p + 1;
     }
     out
 }
 
-// Whether the event may be taken at a count of a process, by the lowest and the highest.
-fn between(low: u32, high: u32, c: u32) -> bool
-    ensures { λ r. ⌜ ((involved : Bool) (n : ℕ) → low ≡ lowest (one involved) n → high ≡ highest (one involved) n → r ≡ readyAt involved n c) ⌝ }
+// Whether the event may be taken at a count of a process. What is below the lowest wraps to what no span reaches: so
+// one comparison does, where two kept the compiler from testing eight counts of four bytes at once.
+fn between(low: u32, span: u32, c: u32) -> bool
+    ensures { λ r. ⌜ ((involved : Bool) (n : ℕ) → (involved ≡ true → 0 < n) → low ≡ lowest (one involved) n
+        → span ≡ spanOf (one involved) n → r ≡ readyAt involved n c) ⌝ }
 {
-    (low <= c) & (c <= high)
+    std::num::wrapping_sub_u32(c, low) <= span
 }
 
-// Whether the event is enabled at the counts, by its lowest and its highest.
-pub fn within(low: [u32; 8], high: [u32; 8], counts: [u32; 8]) -> bool
-    ensures { λ r. ⌜ ((e : event.Event) → low ≡ boundCounts false e → high ≡ boundCounts true e → r ≡ ready 8 e (at counts)) ⌝ }
+// Whether the event is enabled at the counts, by its lowest and their spans.
+pub fn within(low: [u32; 8], span: [u32; 8], counts: [u32; 8]) -> bool
+    ensures { λ r. ⌜ ((e : event.Event) → Counted e → low ≡ boundCounts false e → span ≡ boundCounts true e
+        → r ≡ ready 8 e (at counts)) ⌝ }
 {
     let mut all = true;
     let mut p = 0;
     while p < 8 {
-        all = between(low[p], high[p], counts[p]) & all;
+        all = between(low[p], span[p], counts[p]) & all;
         p = p + 1;
     }
     all

@@ -2,16 +2,31 @@
 -- nor for their marks.
 use Rattle.trial.proofs.kept_with.Tie as tie
 use native.Mathlib.Omega.{arith}
-use mathlib.Core.Path.{_≡_, refl, ap, _∙_}
-use Prim.Native.Nat.{ℕ, _<_}
+use mathlib.Core.Path.{_≡_, refl, sym, ap, _∙_}
+use Prim.Native.Nat.{ℕ, _+_, _<_}
+use mathlib.Core.Bool.{Bool, true, false, true≢false}
 use mathlib.Core.List.{List}
+use lib.Dec.{T, eqb→eq}
 use borrow.Author.Needs.{needs}
 use denote.Ref.{now}
 use Rattle.trial.proofs.kept_with.Statement.{statement}
-use Rattle.clocks.specs.Event.{apply}
+use Rattle.clocks.specs.declared.Event.{Event}
+use Rattle.clocks.specs.Event.{Cut, involved, count, apply}
+use Rattle.clocks.specs.Tested.{readyAt, ready}
+use Rattle.clocks.specs.stored.BoundedLaws.{all-e}
 use Rattle.clocks.specs.Counts.{at, listOf}
 use Rattle.records.specs.Record.{lineTotal, tablePlace, takenCounts, readyIn}
 use Rattle.trial.specs.SettingLaws.{setting-lent}
+
+-- An event that is ready somewhere has a count above 0 at each of its processes.
+ready-counted : (n : ℕ) (e : Event) (S : Cut) → T (ready n e S) → (p : ℕ) → p < n → involved e p ≡ true → 0 < count e p
+unfolding ready
+ready-counted n e S t p l =
+    above (involved e p) (all-e n (λ q. readyAt (involved e q) (count e q) (S q)) t p l)
+  where
+    above : (b : Bool) → T (readyAt b (count e p) (S p)) → b ≡ true → 0 < count e p
+    above true next h = omega (arith, eqb→eq (count e p) (S p + 1) next)
+    above false next h = absurd (true≢false (sym h))
 
 -- ---- Places in the walk: the start, where the processes are counted, and the step's counts
 
@@ -40,7 +55,10 @@ unfolding readyIn
 apply-requires c κs = rw (c .taken-counts .ensures) (start (counted c) .pre .1 .1 .1 .1 .0)
 
 count-after-requires : tie.Need-count-after-requires
-count-after-requires c κs = search needs
+unfolding readyIn
+count-after-requires c κs =
+    let b = start (counted (c .before .before)) in
+    (search needs, (search needs, (search needs, (search needs, ready-counted 8 (b .args .e) _ (b .pre .1 .1 .1 .1 .0)))))
 
 same-length : tie.Need-same-length
 same-length c = search needs

@@ -18,17 +18,18 @@ use Rattle.frontiers.specs.Bytes.{frontiers, frontierAt}
 use Rattle.window.specs.Step.{stays, enabledAt, keptAfter}
 use Rattle.window.specs.StepCode.{settingWith, staysWith}
 use Rattle.window.proofs.SettingSteps.{keptAfter-none, keptAfter-more}
-use Rattle.window.specs.Prepared.{boundCounts}
+use Rattle.window.specs.Prepared.{boundCounts, Counted}
 use Rattle.window.specs.Marks.{Marked, marked-none, marked-more}
 
 abbrev Inv-loop : tie.InvT-loop
-Inv-loop window marks₀ w n k closed reached low high opens total₀ i₀ marks total i =
+Inv-loop window marks₀ w n k closed reached low span opens total₀ i₀ marks total i =
     (i ≤ n) × (total ≤ 2 * i) × (length marks ≡ length marks₀)
-    × ((e : Event) (table : List ℕ) (lines : ℕ) → low ≡ boundCounts false e → high ≡ boundCounts true e
-    → (total ≡ keptAfter (settingWith k closed table lines e reached) (frontiers w window i)) × Marked (settingWith k closed table lines e reached) w window i marks)
+    × ((e : Event) (table : List ℕ) (lines : ℕ) → Counted e → low ≡ boundCounts false e → span ≡ boundCounts true e
+    → (total ≡ keptAfter (settingWith k closed table lines e reached) (frontiers w window i))
+    × Marked (settingWith k closed table lines e reached) w window i marks)
 
 abbrev μ-loop : tie.MeasureT-loop
-μ-loop window marks₀ w n k closed reached low high opens total₀ i₀ marks total i = n - i
+μ-loop window marks₀ w n k closed reached low span opens total₀ i₀ marks total i = n - i
 
 -- The start of the walk.
 abbrev start : tie.After-open-ones Inv-loop μ-loop → tie.Start Inv-loop μ-loop
@@ -49,7 +50,7 @@ loop-holds c =
       search needs,
       search needs,
       refl,
-      λ e table lines p q. let s = settingWith (a .k) (a .closed) table lines e (a .reached) in
+      λ e table lines m p q. let s = settingWith (a .k) (a .closed) table lines e (a .reached) in
           (sym (keptAfter-none s (a .w) (now (a .window))), marked-none s (a .w) (now (a .window)) (now (a .marks))),
     )
 
@@ -109,9 +110,9 @@ loop-again c =
       search needs,
       search needs,
       search needs,
-      λ e table lines p q. let there : c .one-if2 .result ≡ one (ready 8 e (at (f .counts))) =
-          rw (c .one-if2 .ensures .0, c .before .within .ensures e p q, read .counts-at .ensures) in
-          let old = l .inv .3 e table lines p q in (
+      λ e table lines m p q. let there : c .one-if2 .result ≡ one (ready 8 e (at (f .counts))) =
+          rw (c .one-if2 .ensures .0, c .before .within .ensures e m p q, read .counts-at .ensures) in
+          let old = l .inv .3 e table lines m p q in (
             rw (here, there, old .0) (omega (arith, keptAfter-more (a .k) (a .closed) table lines e (a .reached) (a .w) (now (a .window)) (l .i))),
             marked-more (settingWith (a .k) (a .closed) table lines e (a .reached)) (a .w) (now (a .window)) (l .i) (l .marks) _ (omega arith) (rw (here, there)) (old .1),
           ),
@@ -127,8 +128,11 @@ returns c =
     let l = c .before .loop in
     let e : l .i ≡ a .n = omega arith in
     let low = b .before .before .bound-counts .ensures in
-    let high = b .before .bound-counts2 .ensures in
-    (λ table lines. rw (← e) (l .inv .3 (a .e) table lines low high .0), (search needs, λ table lines. rw (← e) (l .inv .3 (a .e) table lines low high .1)))
+    let span = b .before .bound-counts2 .ensures in
+    let counted : Counted (a .e) = start b .pre .1 .1 .1 .1 in (
+      λ table lines. rw (← e) (l .inv .3 (a .e) table lines counted low span .0),
+      (search needs, λ table lines. rw (← e) (l .inv .3 (a .e) table lines counted low span .1)),
+    )
 
 pub count-after-spec : {M : Type 1} → statement M
 count-after-spec =

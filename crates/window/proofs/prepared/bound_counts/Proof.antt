@@ -11,11 +11,11 @@ use Rattle.window.proofs.prepared.bound_counts.Statement.{statement}
 use Rattle.window.proofs.prepared.bound_counts.Tie as tie
 
 abbrev Inv-loop : tie.InvT-loop
-Inv-loop high e mask out₀ p₀ out p =
-    (p ≤ 8) × (length out ≡ 8) × ((q : ℕ) → q < p → getD out q 0 ≡ bound high (one (involved e q)) (count e q))
+Inv-loop spans e mask out₀ p₀ out p =
+    (p ≤ 8) × (length out ≡ 8) × ((q : ℕ) → q < p → getD out q 0 ≡ bound spans (one (involved e q)) (count e q))
 
 abbrev μ-loop : tie.MeasureT-loop
-μ-loop high e mask out₀ p₀ out p = 8 - p
+μ-loop spans e mask out₀ p₀ out p = 8 - p
 
 cast-mask : tie.Need-cast-mask Inv-loop μ-loop
 cast-mask c = search needs
@@ -53,14 +53,14 @@ loop-less c = search needs
 -- What is stored is the bound there.
 stored : (c : tie.After-bound-count Inv-loop μ-loop) → let b = c .before .before .before .before in
     let a = b .before .args in
-    c .bound-count .result ≡ bound (a .high) (one (involved (a .t1) (b .loop .p))) (count (a .t1) (b .loop .p))
+    c .bound-count .result ≡ bound (a .spans) (one (involved (a .t1) (b .loop .p))) (count (a .t1) (b .loop .p))
 unfolding involved count
 stored c =
     let b = c .before .before .before .before in
     let a = b .before .args in
     let p = b .loop .p in
     c .bound-count .ensures
-    ∙ ap (λ (u : ℕ). bound (a .high) u (at (a .t1 .clock) p)) (c .before .before .part .ensures .0)
+    ∙ ap (λ (u : ℕ). bound (a .spans) u (at (a .t1 .clock) p)) (c .before .before .part .ensures)
 
 loop-again : tie.Need-loop-again Inv-loop μ-loop
 loop-again c =

@@ -17,7 +17,7 @@ returns : tie.Need-returns
 unfolding bit
 returns c =
     let digit : (c .args .mask / 2 ^ c .args .p) % 2 < 2 = omega arith in
-    (digit-one _ digit, omega arith)
+    digit-one _ digit
 
 pub part-spec : {M : Type 1} → statement M
 part-spec = tie.close (tie.spec shr-result cast-result returns)

@@ -11,7 +11,7 @@ use Rattle.clocks.specs.Counts.{at}
 use Rattle.clocks.specs.Bounded.{allBelow}
 use Rattle.clocks.specs.stored.BoundedTurns.{all-none, all-more}
 use Rattle.clocks.specs.Tested.{readyAt, ready}
-use Rattle.window.specs.Prepared.{boundCounts}
+use Rattle.window.specs.Prepared.{boundCounts, Counted}
 use Rattle.window.proofs.prepared.within.Statement.{statement}
 use Rattle.window.proofs.prepared.within.Tie as tie
 use Rattle.window.specs.Lists.{made-at}
@@ -21,14 +21,15 @@ abbrev test : Event → List ℕ → ℕ → Bool
 test e counts p = readyAt (involved e p) (count e p) (at counts p)
 
 abbrev Inv-loop : tie.InvT-loop
-Inv-loop low high counts all₀ p₀ all p =
-    (p ≤ 8) × ((e : Event) → low ≡ boundCounts false e → high ≡ boundCounts true e → all ≡ allBelow p (test e counts))
+Inv-loop low span counts all₀ p₀ all p =
+    (p ≤ 8)
+    × ((e : Event) → Counted e → low ≡ boundCounts false e → span ≡ boundCounts true e → all ≡ allBelow p (test e counts))
 
 abbrev μ-loop : tie.MeasureT-loop
-μ-loop low high counts all₀ p₀ all p = 8 - p
+μ-loop low span counts all₀ p₀ all p = 8 - p
 
 loop-holds : tie.Need-loop-holds Inv-loop μ-loop
-loop-holds c = (search needs, λ e m h. sym (all-none _))
+loop-holds c = (search needs, λ e k m h. sym (all-none _))
 
 mul-between : tie.Need-mul-between Inv-loop μ-loop
 mul-between c = search needs
@@ -61,9 +62,14 @@ loop-again : tie.Need-loop-again Inv-loop μ-loop
 loop-again c =
     let a = c .before .before .before .args in
     let l = c .before .before .loop in
-    let here : (e : Event) → a .t1 ≡ boundCounts false e → a .t2 ≡ boundCounts true e → c .between .result ≡ test e (a .t3) (l .p) =
-    λ e m h. c .between .ensures (involved e (l .p)) (count e (l .p)) (made-at (a .t1) _ 0 (l .p) m (search needs)) (made-at (a .t2) _ 0 (l .p) h (search needs)) in
-    (search needs, λ e m h. ap (λ (b : Bool). b && l .all) (here e m h) ∙ ap (λ (b : Bool). test e (a .t3) (l .p) && b) (l .inv .1 e m h) ∙ all-more (l .p) (test e (a .t3)))
+    let here : (e : Event) → Counted e → a .t1 ≡ boundCounts false e → a .t2 ≡ boundCounts true e
+    → c .between .result ≡ test e (a .t3) (l .p) =
+    λ e k m h. c .between .ensures (involved e (l .p)) (count e (l .p)) (k (l .p) (search needs))
+    (made-at (a .t1) _ 0 (l .p) m (search needs)) (made-at (a .t2) _ 0 (l .p) h (search needs)) in (
+      search needs,
+      λ e k m h. ap (λ (b : Bool). b && l .all) (here e k m h)
+          ∙ ap (λ (b : Bool). test e (a .t3) (l .p) && b) (l .inv .1 e k m h) ∙ all-more (l .p) (test e (a .t3)),
+    )
 
 returns : tie.Need-returns Inv-loop μ-loop
 unfolding ready
@@ -71,7 +77,7 @@ returns c =
     let a = c .before .before .args in
     let l = c .before .loop in
     let every : l .p ≡ 8 = omega arith in
-    λ e m h. l .inv .1 e m h ∙ ap (λ (n : ℕ). allBelow n (test e (a .t3))) every
+    λ e k m h. l .inv .1 e k m h ∙ ap (λ (n : ℕ). allBelow n (test e (a .t3))) every
 
 pub within-spec : {M : Type 1} → statement M
 within-spec =
