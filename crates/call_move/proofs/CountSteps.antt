@@ -4,12 +4,12 @@ use native.Mathlib.Omega.{arith}
 use native.Mathlib.Nat.{add-zero, add-suc, zero-add, suc-add, zero-mul, suc-mul, add-mul, mul-assoc, mul-comm}
 use mathlib.Core.Path.{_≡_, refl, sym, ap, ap₂, _∙_}
 use mathlib.Core.Bool.{Bool, false, _||_, or-assoc}
-use mathlib.Core.List.{List, [], _∷_, _++_}
+use mathlib.Core.List.{List, _∷_, _++_}
 use lib.ListN.{length, drop}
 use lib.Seq.{sets, drop-drop}
 use lib.Dec.{ltb}
 use borrow.Author.Tests.{lt-leb}
-use Rattle.codec.specs.Little.{number, put, bytesOf}
+use Rattle.codec.specs.Little.{number}
 use Rattle.codec.specs.SetsLaws.{sets-append}
 use Rattle.codec.specs.PutLaws.{number-drop}
 use Rattle.clocks.specs.Bounded.{anyBelow}
