@@ -1,5 +1,5 @@
-/* The vault watcher's calls: open a watch, offer it events, take them, find a frontier, close a process; and write a
- * watch of one form as one of the other.
+/* The vault watcher's calls: open a watch, offer it events, take them, find a frontier, close a process; write a watch
+ * of one form as one of the other; and print what it keeps, a row for each frontier.
  *
  * A watch is two buffers of the caller's, a record and a window. Take borrows a third, the scratch, as long as the
  * window. The library has no heap, no global state and no files: what it knows of a watch stands in these bytes, so a
@@ -7,7 +7,7 @@
  *
  * There are two forms of a watch, which differ in the width of a count and so in lengths (since 0.7.0). Each has its
  * own calls, and a call of one form cannot tell a watch of the other but by a length. All that is said of a call below
- * is true of both forms, each with its own lengths.
+ * is true of both forms, each with its own lengths. The page is of the wide form alone.
  *
  *                      watch_open, _offer, ..          watch32_open, _offer, ..
  *   a count            16 bits, to 65,535              32 bits, to 4,294,967,295
@@ -48,8 +48,8 @@
 extern "C" {
 #endif
 
-#define WATCH_VERSION "0.7.0"    /* of this header and of the library that it was installed with */
-#define WATCH_VERSION_NUMBER 700 /* the same as a number: 10000 major + 100 minor + patch */
+#define WATCH_VERSION "0.8.0"    /* of this header and of the library that it was installed with */
+#define WATCH_VERSION_NUMBER 800 /* the same as a number: 10000 major + 100 minor + patch */
 
 #define WATCH_PROCESSES 8        /* at most so many processes */
 #define WATCH_LINES 64           /* a rule has at most so many lines */
@@ -61,6 +61,8 @@ extern "C" {
 #define WATCH32_FRONTIER_BYTES 56
 #define WATCH32_WINDOW_BYTES(room) ((size_t)(room) * WATCH32_FRONTIER_BYTES)
 #define WATCH32_RECORD_BYTES 2024
+#define WATCH32_ROW_BYTES 93     /* a row of a page: 92 columns and a line feed */
+#define WATCH32_PAGE_BYTES(kept) ((size_t)(kept) * WATCH32_ROW_BYTES)
 #define WATCH_STACK_BYTES 16384  /* no call uses more stack */
 
 /* Why a call was refused. But for WATCH_CLOCK_FALSE nothing in record or window has changed then, not a byte. */
@@ -83,7 +85,8 @@ enum {
     WATCH_NO_ROOM = 36,     /* take: events are ready but none fits; lend a longer window */
     WATCH_NOT_OPEN = 41,    /* close: the watch has no such process, or it is closed already */
     WATCH_NAMED = 42,       /* close: a pending event names the process; offer: the event names a closed one */
-    WATCH_TOO_LARGE = 43    /* narrow: some count, in an unused place too, is above 65,535 */
+    WATCH_TOO_LARGE = 43,   /* narrow: some count, in an unused place too, is above 65,535 */
+    WATCH_SHORT = 44        /* page: it is too short for all rows */
 };
 
 /* A reply is one word: number, flag, value and place. A number above 0 is the refusal; a refusal has flag 0, value 0
@@ -180,6 +183,17 @@ uint64_t watch_widen(const uint8_t *record, size_t record_len, const uint8_t *wi
                      uint8_t *record32, size_t record32_len, uint8_t *window32, size_t window32_len);
 uint64_t watch_narrow(const uint8_t *record32, size_t record32_len, const uint8_t *window32, size_t window32_len,
                       uint8_t *record, size_t record_len, uint8_t *window, size_t window_len);
+
+/* Prints the kept frontiers, a row for each, in the window's order (since 0.8.0). A row is 92 characters of ASCII and a
+ * line feed: for each of eight processes a column of 11 characters, with its count in decimal digits to the right and
+ * blanks before it, all blanks where the watch has no such process; then a blank, and "yes" or "no " for the rule there.
+ * A count has at most ten digits, so a blank stands before each.
+ * Accepted: value is the number of rows, which is watch_kept. Writes the rows at the page's start, 93 bytes for each,
+ * and no other byte: what stands behind them stays. No 0 ends the text.
+ * Refused, in this order: 6 record or window, 34, 44 a page shorter than WATCH32_PAGE_BYTES(watch_kept(record)). A
+ * longer one is fine. Writes nothing then. */
+uint64_t watch32_page(const uint8_t *record, size_t record_len, const uint8_t *window, size_t window_len,
+                      uint8_t *page, size_t page_len);
 
 static inline unsigned watch_bytes2(const uint8_t *at) { return at[0] | (unsigned)at[1] << 8; }
 static inline uint32_t watch_bytes4(const uint8_t *at) {
