@@ -2,5 +2,6 @@
 
 -- What a reader has to believe
 pub mod Answer
+pub mod Result
 -- What is proved of refusals in their order
 pub mod Turns

@@ -6,3 +6,6 @@ pub mod PutLaws
 pub mod Bit
 pub mod BitLaws
 pub mod LowestBit
+pub mod Ascii
+pub mod Decimal
+pub mod DecimalLaws

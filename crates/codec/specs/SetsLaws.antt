@@ -101,6 +101,14 @@ module _ {ℓ} {A : Type ℓ} where
   sets-sets s at (x ∷ xs) (y ∷ ys) h =
       rw (set-sets (set s at x) at y (suc at) xs (omega arith), set-set) (sets-sets (set s at y) (suc at) xs ys (omega arith))
 
+  -- One element of a run stored anew.
+  pub set-within : (s : List A) (at : ℕ) (xs : List A) (y : A) (zs : List A) (b : ℕ) (z : A) → b ≡ at + length xs
+      → set (sets s at (xs ++ y ∷ zs)) b z ≡ sets s at (xs ++ z ∷ zs)
+  set-within s at xs y zs b z e =
+      rw (e, ← sets-append s at xs (y ∷ zs), ← sets-append s at xs (z ∷ zs))
+      (set-sets (set (sets s at xs) (at + length xs) y) (at + length xs) z (suc (at + length xs)) zs (omega arith)
+      ∙ rw set-set)
+
   -- A whole list stored over another.
   pub sets-whole : (s bs : List A) → length bs ≡ length s → sets s 0 bs ≡ bs
   sets-whole s bs e =

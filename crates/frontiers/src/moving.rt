@@ -1,4 +1,4 @@
-// Bytes moved within a slice, and cleared.
+// Bytes moved within a slice, filled in, and cleared.
 
 ghost use Prim.Native.Nat.{_+_, _≤_};
 ghost use mathlib.Core.Path.{_≡_};
@@ -29,16 +29,24 @@ pub fn move_down(s: &mut [u8], to: usize, n: usize, by: usize)
     }
 }
 
+// Stores one byte n times.
+pub fn fill(s: &mut [u8], from: usize, n: usize, byte: u8)
+    requires { ⌜ from + n ≤ length (now s) ⌝ }
+    ensures { λ r. ⌜ now (s .exit) ≡ sets (now (s .entry)) from (replicate n byte) ⌝ }
+{
+    let mut i = 0;
+    while i < n {
+        s[from + i] = byte;
+        i = i + 1;
+    }
+}
+
 // Clears n bytes.
 pub fn clear(s: &mut [u8], from: usize, n: usize)
     requires { ⌜ from + n ≤ length (now s) ⌝ }
     ensures { λ r. ⌜ now (s .exit) ≡ sets (now (s .entry)) from (replicate n 0) ⌝ }
 {
-    let mut i = 0;
-    while i < n {
-        s[from + i] = 0;
-        i = i + 1;
-    }
+    fill(s, from, n, 0);
 }
 
 // Clears every byte.

@@ -6,7 +6,7 @@ use mathlib.Core.Bool.{Bool, cond}
 use mathlib.Core.List.{List, [], _∷_, _++_}
 use lib.ListN.{length, drop}
 use Rattle.rules.specs.Text.{byteAt}
-use Rattle.line_pieces.specs.Number.{digits, value}
+use Rattle.codec.specs.Decimal.{digits, value}
 use Rattle.line_pieces.specs.Reading.{lineLimit}
 use Rattle.line_laws.specs.Grammar.{Numeral, Numerals, spaced, between, Piece, one, number, list, spacedList, PieceText, Fault1}
 use Rattle.rules.specs.Fault.{Span}

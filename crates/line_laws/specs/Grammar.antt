@@ -6,9 +6,10 @@ use mathlib.Core.Logic.{_⊎_}
 use mathlib.Core.Bool.{Bool, true, false}
 use mathlib.Core.List.{List, [], _∷_, _++_, map}
 use lib.ListN.{length, take}
-use Rattle.rules.specs.Text.{byteAt, ascii}
+use Rattle.codec.specs.Ascii.{ascii}
+use Rattle.rules.specs.Text.{byteAt}
 use Rattle.rules.specs.Fault.{Stands}
-use Rattle.line_pieces.specs.Number.{isDigit}
+use Rattle.codec.specs.Decimal.{isDigit}
 use Rattle.lines.specs.Lines.{kLimit, countLimit, labelLimit, processLimit, roomLimit}
 
 -- The text of a number: digits, the first of them no needless 0.

@@ -3,7 +3,7 @@ use Prim.Native.Nat.{ℕ}
 use mathlib.Core.Path.{_≡_, refl}
 use mathlib.Core.List.{List, [], _∷_, map}
 use Rattle.clocks.specs.Counts.{listOf}
-use Rattle.rules.specs.Text.{ascii}
+use Rattle.codec.specs.Ascii.{ascii}
 use Rattle.rules.specs.Line.{constantWeight, unaryWeight, binaryWeight, lineCount}
 use Rattle.rules.specs.Reader.{restAt, aWordAt, eWordAt, wordAt, andThen, expect, expectDigit, closeAt, atomAt, innerWith, unaryWith, binaryWith, bodyWith, formAt, readRule}
 use Rattle.lines.specs.declared.RuleLine.{RuleLine}
@@ -14,7 +14,8 @@ use Rattle.lines.specs.declared.StartLine.{StartLine}
 use Rattle.lines.specs.declared.StartLine.the-variants.{Start, Refused as StartRefused}
 use Rattle.lines.specs.declared.DidLine.{DidLine}
 use Rattle.lines.specs.declared.DidLine.the-variants.{Did, Refused as DidRefused}
-use Rattle.line_pieces.specs.Number.{digits, valueFrom, numberOf, numberAt}
+use Rattle.codec.specs.Decimal.{digits, valueFrom}
+use Rattle.line_pieces.specs.Number.{numberOf, numberAt}
 use Rattle.line_pieces.specs.Reading.{valueOf, thenByte, thenBytes, thenNumber, thenEnd, limited, thenLast}
 use Rattle.line_pieces.specs.NumberList.{afterNumber, numbersAt, thenList, thenSpacedList, thenClose}
 use Rattle.lines.specs.Words.{word, placed}

@@ -9,9 +9,10 @@ use lib.ListN.{length}
 use Rattle.codec.specs.Bit.{bit}
 use Rattle.clocks.specs.Counts.{at}
 use Rattle.rules.specs.Formula.{Formula}
-use Rattle.rules.specs.Text.{ascii, textOf, Grammatical, Within}
+use Rattle.codec.specs.Ascii.{ascii}
+use Rattle.rules.specs.Text.{textOf, Grammatical, Within}
 use Rattle.call_words.specs.Words.{unpackCounts, unpackLabels}
-use Rattle.line_pieces.specs.Number.{value}
+use Rattle.codec.specs.Decimal.{value}
 use Rattle.line_pieces.specs.Reading.{lineLimit}
 use Rattle.line_pieces.specs.NumberList.{eight}
 use Rattle.lines.specs.declared.WatchLine.the-variants.{Watch}

@@ -4,7 +4,8 @@ use Prim.Native.Nat.{ℕ, zero, suc, _-_, _<_}
 use mathlib.Core.Path.{_≡_}
 use mathlib.Core.List.{List}
 use lib.ListN.{length, take}
-use Rattle.rules.specs.Text.{byteAt, ascii}
+use Rattle.codec.specs.Ascii.{ascii}
+use Rattle.rules.specs.Text.{byteAt}
 use Rattle.rules.specs.Fault.{Stands, FirstFault}
 use Rattle.line_pieces.specs.Reading.{lineLimit}
 use Rattle.lines.specs.Lines.{ruleText}

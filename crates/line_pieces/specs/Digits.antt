@@ -6,7 +6,7 @@ use mathlib.Core.List.{List, []}
 use mathlib.Core.Logic.{_⊎_}
 use lib.Dec.{leb}
 use lib.ListN.{length, drop}
-use Rattle.line_pieces.specs.Number.{digits, valueFrom, value}
+use Rattle.codec.specs.Decimal.{digits, valueFrom, value}
 
 -- The largest number that the code tells apart from larger ones.
 abbrev pub largest : ℕ

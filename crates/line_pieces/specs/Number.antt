@@ -1,29 +1,12 @@
 -- A number in a program's line (01, Examples: the program; Turned back, from the input: 1 and 10).
-use Prim.Native.Nat.{ℕ, _+_, _-_, _*_}
-use mathlib.Core.Bool.{Bool, cond, _&&_}
+use Prim.Native.Nat.{ℕ, _+_}
+use mathlib.Core.Bool.{cond, _&&_}
 use mathlib.Core.List.{List, [], _∷_}
 use lib.Dec.{leb, ltb, eqb}
 use lib.ListN.{length, drop}
+use Rattle.codec.specs.Decimal.{digits, value}
 use Rattle.line_pieces.specs.declared.Read.{Read}
 use Rattle.line_pieces.specs.declared.Read.the-variants.{At, Refused}
-
--- A byte is a decimal digit.
-abbrev pub isDigit : ℕ → Bool
-isDigit c = leb 48 c && leb c 57
-
--- The digits that a text begins with.
-unfoldable pub digits : List ℕ → List ℕ
-digits [] = []
-digits (c ∷ s) = cond (isDigit c) (c ∷ digits s) []
-
--- The number that digits say behind a number that stands already; it has no bound.
-unfoldable pub valueFrom : ℕ → List ℕ → ℕ
-valueFrom v [] = v
-valueFrom v (d ∷ ds) = valueFrom (10 * v + (d - 48)) ds
-
--- The number that digits say.
-abbrev pub value : List ℕ → ℕ
-value ds = valueFrom 0 ds
 
 -- A number is read from its digits ds, which begin at place i, and has to be one of `least` to `most`. 1 where there
 -- is no digit, or at the digit behind a needless leading 0; 10 at the first digit where the number is another.

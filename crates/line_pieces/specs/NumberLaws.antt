@@ -13,7 +13,8 @@ use Rattle.rules.specs.Text.{byteAt}
 use Rattle.rules.specs.reading.TextLaws.{byteAt-behind}
 use Rattle.clocks.specs.stored.BoundedLaws.{and-true}
 use Rattle.line_pieces.specs.declared.Read.the-variants.{At, Refused}
-use Rattle.line_pieces.specs.Number.{isDigit, digits, valueFrom, value, numberOf, numberAt}
+use Rattle.codec.specs.Decimal.{isDigit, digits, valueFrom, value}
+use Rattle.line_pieces.specs.Number.{numberOf, numberAt}
 
 -- ---- Places and bytes
 

@@ -4,7 +4,8 @@ use crate::Read;
 ghost use Prim.Native.Nat.{_≤_, _<_};
 ghost use mathlib.Core.Path.{_≡_};
 ghost use Rattle.rules.specs.Text.{byteAt};
-ghost use Rattle.line_pieces.specs.Number.{isDigit, numberAt};
+ghost use Rattle.codec.specs.Decimal.{isDigit};
+ghost use Rattle.line_pieces.specs.Number.{numberAt};
 ghost use Rattle.line_pieces.specs.Digits as digits;
 ghost use Rattle.line_pieces.specs.Digits.{DigitsRead};
 

@@ -1,4 +1,4 @@
--- The refusals' numbers (01, Turned back; 02 [5]: 41, 42; [6]: 43). Each one's condition is a definition, named beside it.
+-- The refusals' numbers (01, Turned back; 02 [5]: 41, 42; [6]: 43; [7]: 44). Each one's condition is a definition, named beside it.
 use Prim.Native.Nat.{ℕ}
 
 -- ---- From the input
@@ -84,3 +84,7 @@ namedNumber = 42
 -- call_move Move: overflows.
 abbrev pub tooLargeNumber : ℕ
 tooLargeNumber = 43
+
+-- call_page Page: shortPage.
+abbrev pub shortPageNumber : ℕ
+shortPageNumber = 44

@@ -1,4 +1,4 @@
-// The refusals' numbers (01, Turned back; 02 [5]: 41, 42; [6]: 43). Each one's condition is a definition, named beside it.
+// The refusals' numbers (01, Turned back; 02 [5]: 41, 42; [6]: 43; [7]: 44). Each one's condition is a definition, named beside it.
 
 // From the input.
 
@@ -45,3 +45,5 @@ pub const NOT_OPEN: u64 = 41;
 pub const NAMED: u64 = 42;
 // call_move Move: overflows.
 pub const TOO_LARGE: u64 = 43;
+// call_page Page: shortPage.
+pub const SHORT_PAGE: u64 = 44;

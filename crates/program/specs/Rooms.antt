@@ -5,12 +5,14 @@ use mathlib.Core.List.{List, [], _∷_}
 use lib.Dec.{T, ltb, leb, eqb, leb→le}
 use lib.ListN.{length, drop}
 use Rattle.clocks.specs.stored.BoundedLaws.{and-r}
-use Rattle.rules.specs.Text.{ascii, byteAt}
+use Rattle.codec.specs.Ascii.{ascii}
+use Rattle.rules.specs.Text.{byteAt}
 use Rattle.line_pieces.specs.declared.Read.{Read}
 use Rattle.line_pieces.specs.declared.Read.the-variants.{At, Refused}
 use Rattle.lines.specs.declared.WatchLine.{WatchLine}
 use Rattle.lines.specs.declared.WatchLine.the-variants.{Watch, Refused as WatchRefused}
-use Rattle.line_pieces.specs.Number.{digits, value, numberOf, numberAt}
+use Rattle.codec.specs.Decimal.{digits, value}
+use Rattle.line_pieces.specs.Number.{numberOf, numberAt}
 use Rattle.line_pieces.specs.Reading.{lineLimit, thenByte, thenNumber, thenEnd, limited, headRead, valueOf, thenLast}
 use Rattle.lines.specs.Lines.{watchOf, watchLine, kLimit, roomLimit}
 

@@ -8,7 +8,8 @@ use lib.ListN.{length, getD, set, take}
 use lib.Seq.{take-suc, take-suc-set}
 use borrow.Author.Tests.{lt-ltb, le-ltb}
 use Rattle.clocks.specs.Counts.{at}
-use Rattle.reply_text.specs.Texts.{numeralOf, numeral, moreCounts, countsText}
+use Rattle.codec.specs.Decimal.{numeralOf, numeral}
+use Rattle.reply_text.specs.Texts.{moreCounts, countsText}
 
 -- One byte more behind the text so far.
 pub laid-next : (out start bytes : List ℕ) (at i : ℕ) → at + i < length out → i < length bytes → take (at + i) out ≡ start ++ take i bytes

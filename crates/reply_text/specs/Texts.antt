@@ -1,20 +1,11 @@
 -- The answers' text (01, Examples: the program; 02 [1]), each with its line feed.
-use Prim.Native.Nat.{ℕ, zero, suc, _+_, _-_, _/_, _%_}
+use Prim.Native.Nat.{ℕ, zero, suc, _-_}
 use mathlib.Core.Bool.{Bool, cond}
 use mathlib.Core.List.{List, [], _∷_, _++_}
-use lib.Dec.{ltb}
 use Rattle.clocks.specs.Counts.{at}
-use Rattle.rules.specs.Text.{ascii}
+use Rattle.codec.specs.Ascii.{ascii}
+use Rattle.codec.specs.Decimal.{numeral}
 use Rattle.answers.specs.Answer.{Answer, turnedBack, state, nothingReady, held, again, found, absent, processClosed}
-
--- A number's decimal digits, without needless zeros, for a number of at most so many digits.
-unfoldable pub numeralOf : ℕ → ℕ → List ℕ
-numeralOf zero n = []
-numeralOf (suc most) n = cond (ltb n 10) ((48 + n) ∷ []) (numeralOf most (n / 10) ++ ((48 + n % 10) ∷ []))
-
--- The digits of a number of 64 bits, which are at most 20.
-abbrev pub numeral : ℕ → List ℕ
-numeral n = numeralOf 20 n
 
 -- The n counts behind the first, with a space before each.
 unfoldable pub moreCounts : List ℕ → ℕ → List ℕ

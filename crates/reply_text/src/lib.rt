@@ -9,10 +9,11 @@ ghost use Prim.Native.Nat.{_+_, _≤_};
 ghost use mathlib.Core.Path.{_≡_};
 ghost use mathlib.Core.List.{_++_};
 ghost use lib.ListN.{length, take};
-ghost use Rattle.rules.specs.Text.{ascii};
+ghost use Rattle.codec.specs.Ascii.{ascii};
 ghost use Rattle.records.specs.Record.{recordLength};
 ghost use Rattle.reply_text.specs.Form.{programWidth};
-ghost use Rattle.reply_text.specs.Texts.{numeralOf, numeral, countsText};
+ghost use Rattle.codec.specs.Decimal.{numeralOf, numeral};
+ghost use Rattle.reply_text.specs.Texts.{countsText};
 ghost use Rattle.reply_text.specs.Promises.{TextPromised};
 
 // Lays bytes from a place on: the place behind them.

@@ -12,7 +12,8 @@ use Rattle.rules.specs.declared.Unary.the-variants.{Not, Ey, Ep, Ap, Ay,
 use Rattle.rules.specs.declared.Binary.the-variants.{And, Es, As, Or}
 use Rattle.rules.specs.Formula.{Formula}
 use Rattle.rules.specs.Line.{constantWeight, unaryWeight, binaryWeight}
-use Rattle.rules.specs.Text.{ascii, byteAt, constantLetters, unaryLetters, binaryLetters, textOf, Grammatical, Within}
+use Rattle.codec.specs.Ascii.{ascii}
+use Rattle.rules.specs.Text.{byteAt, constantLetters, unaryLetters, binaryLetters, textOf, Grammatical, Within}
 use Rattle.rules.specs.Reader.{formed, refused, readRule}
 
 -- 1: no text of the grammar begins with the bytes up to and with this one; or the text ends here and is no whole text

@@ -1,10 +1,9 @@
 -- The text of a form, byte by byte, and the limits on a rule (01, The rule: a form; Turned back, from the input: 1 to
 -- 4).
 use Prim.Native.Nat.{ℕ, suc, _+_, _≤_, max}
-use Prim.Native.Char.{code}
-use Prim.Native.String.{String, [] as none, _∷_ as more}
 use mathlib.Core.List.{List, [], _∷_, _++_}
 use lib.ListN.{getD}
+use Rattle.codec.specs.Ascii.{ascii}
 use Rattle.rules.specs.declared.Constant.{Constant}
 use Rattle.rules.specs.declared.Constant.the-variants.{True, False}
 use Rattle.rules.specs.declared.Unary.{Unary}
@@ -17,11 +16,6 @@ use Rattle.rules.specs.Line.{lineCount}
 -- The byte at a place of a text; behind its end 256, which is no byte.
 abbrev pub byteAt : List ℕ → ℕ → ℕ
 byteAt s i = getD s i 256
-
--- The bytes of quoted ASCII.
-abbrev pub ascii : String → List ℕ
-ascii none = []
-ascii (more c cs) = code c ∷ ascii cs
 
 -- The letters of each word.
 unfoldable pub constantLetters : Constant → List ℕ

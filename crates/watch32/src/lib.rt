@@ -1,5 +1,5 @@
-// The functions that C calls, on numbers and byte slices, for counts of four bytes (02 [6]): the five calls, and the
-// move that writes a watch of this form.
+// The functions that C calls, on numbers and byte slices, for counts of four bytes (02 [6]): the five calls, the move
+// that writes a watch of this form, and the page.
 
 ghost use mathlib.Core.Path.{_≡_};
 ghost use mathlib.Core.List.{[], _∷_};
@@ -10,7 +10,9 @@ ghost use Rattle.call_take.specs.Take.{takeCall};
 ghost use Rattle.call_find.specs.Find.{findCall};
 ghost use Rattle.call_close.specs.Close.{closeCall};
 ghost use Rattle.call_move.specs.Move.{moveCall};
+ghost use Rattle.call_page.specs.Page.{pageCall};
 ghost use Rattle.answers.specs.Answer.{replyWord};
+ghost use Rattle.answers.specs.Result.{resultWord};
 
 // Opens a watch with a rule's text, so many processes, and start labels that are the bytes of a word.
 #[no_mangle]
@@ -105,4 +107,15 @@ pub extern "C" fn watch_widen(
         (now (record32 .entry)) (now (window32 .entry)) .window ⌝ }
 {
     call_move::move_watch(2, 4, record, window, record32, window32)
+}
+
+// Writes the kept frontiers as text, a row for each (02 [7]).
+#[no_mangle]
+pub extern "C" fn watch32_page(record: &[u8], window: &[u8], page: &mut [u8]) -> u64
+    ensures reply { λ r. ⌜ r
+        ≡ resultWord (pageCall 4 (now («record» .entry)) (now (window .entry)) (now (page .entry)) .answer) ⌝ }
+    ensures page { λ r. ⌜ now (page .exit)
+        ≡ pageCall 4 (now («record» .entry)) (now (window .entry)) (now (page .entry)) .page ⌝ }
+{
+    call_page::write_page(4, record, window, page)
 }

@@ -20,7 +20,7 @@ use Rattle.clocks.specs.Key.{lowest, keyOf, keyBefore}
 use Rattle.clocks.specs.Refusal.{badMask, badClock, badLabels, badStart}
 use Rattle.clocks.specs.SameEvent.{sameEvent}
 use Rattle.repeats.specs.Repeats.{repeated}
-use Rattle.rules.specs.Text.{ascii}
+use Rattle.codec.specs.Ascii.{ascii}
 use Rattle.rules.specs.Reader.{restAt, aWordAt, eWordAt, wordAt, andThen, expect, expectDigit, closeAt, atomAt, innerWith, unaryWith, binaryWith, bodyWith, formAt, readRule}
 use Rattle.rules.specs.Line.{trueLines, constantLines, linesBefore, linesAfter, linesBetween, linesAfterBoth, constantWeight, unaryWeight, binaryWeight, lineCount, linesAt}
 use Rattle.pactl.specs.Table.{tableBytes, goodLine, goodFrom}

@@ -1,4 +1,4 @@
--- What one turn of a loop adds that moves bytes within a list, or clears them.
+-- What one turn of a loop adds that moves bytes within a list, or fills it.
 use Prim.Native.Nat.{ℕ, _+_, _≤_, _<_, suc}
 use native.Mathlib.Omega.{arith}
 use native.Mathlib.Numerals.{add-one}
@@ -52,12 +52,13 @@ down-next s to by n i l h =
 pub down-all : (s : List ℕ) (to by n : ℕ) → movedDown s to by n n ≡ sets s to (take n (drop (to + by) s))
 down-all s to by n = rw (take-take n n (drop (to + by) s) (omega arith))
 
--- ---- Cleared
+-- ---- Filled in
 
-pub clear-next : (s : List ℕ) (from i : ℕ) → set (sets s from (replicate i 0)) (from + i) 0 ≡ sets s from (replicate (i + 1) 0)
-clear-next s from i =
-    rw (← replicate-append-replicate {A = ℕ} i 1 0)
-    (rw (length-replicate {A = ℕ} i 0) at (sets-append s from (replicate i 0) (0 ∷ [])))
+pub fill-next : (s : List ℕ) (from i byte : ℕ)
+    → set (sets s from (replicate i byte)) (from + i) byte ≡ sets s from (replicate (i + 1) byte)
+fill-next s from i byte =
+    rw (← replicate-append-replicate {A = ℕ} i 1 byte)
+    (rw (length-replicate {A = ℕ} i byte) at (sets-append s from (replicate i byte) (byte ∷ [])))
 
 -- ---- All at once
 

@@ -4,7 +4,7 @@ use native.Mathlib.Omega.{arith}
 use mathlib.Core.Path.{_≡_, refl}
 use mathlib.Core.Bool.{true}
 use mathlib.Core.List.{List}
-use Rattle.rules.specs.Text.{ascii}
+use Rattle.codec.specs.Ascii.{ascii}
 use Rattle.line_pieces.specs.Reading.{valueOf, thenBytes, headRead, thenNumber, limited, thenLast}
 use Rattle.line_pieces.specs.NumberList.{thenList, thenSpacedList, thenClose, eight}
 use Rattle.lines.specs.Lines.{kLimit, labelLimit, processLimit, watchOf, watchLine, startOf, startLine, didOf, didLine}

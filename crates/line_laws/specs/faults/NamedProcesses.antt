@@ -11,12 +11,13 @@ use lib.Dec.{eqb}
 use lib.ListN.{length, length-map, drop}
 use lib.Seq.{drop-cons}
 use borrow.Author.Tests.{ne-eqb}
-use Rattle.rules.specs.Text.{ascii, byteAt}
+use Rattle.codec.specs.Ascii.{ascii}
+use Rattle.rules.specs.Text.{byteAt}
 use Rattle.rules.specs.Fault.{Stands}
 use Rattle.rules.specs.reading.WordLaws.{span-append}
 use Rattle.line_pieces.specs.declared.Read.{Read}
 use Rattle.line_pieces.specs.declared.Read.the-variants.{At, Refused}
-use Rattle.line_pieces.specs.Number.{value}
+use Rattle.codec.specs.Decimal.{value}
 use Rattle.line_pieces.specs.NumberLaws.{inside, digit-bounds}
 use Rattle.line_pieces.specs.Reading.{valueOf, thenBytes, headRead, thenEnd}
 use Rattle.line_pieces.specs.NumberList.{thenList, thenClose}

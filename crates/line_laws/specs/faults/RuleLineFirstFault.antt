@@ -12,7 +12,8 @@ use lib.ListN.{length, take}
 use lib.Seq.{getD-take, length-take-le}
 use borrow.Author.Tests.{ltb-true, ltb-false}
 use Rattle.clocks.specs.stored.BoundedLaws.{and-true}
-use Rattle.rules.specs.Text.{ascii, byteAt}
+use Rattle.codec.specs.Ascii.{ascii}
+use Rattle.rules.specs.Text.{byteAt}
 use Rattle.rules.specs.Fault.{Stands}
 use Rattle.rules.specs.Formula.{Formula}
 use Rattle.rules.specs.Reader.{Reading, formed, refused, readRule}

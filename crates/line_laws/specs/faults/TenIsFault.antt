@@ -12,7 +12,8 @@ use Rattle.rules.specs.Text.{byteAt}
 use Rattle.rules.specs.reading.WordLaws.{span-nil, span-byte, span-append}
 use Rattle.line_pieces.specs.declared.Read.{Read}
 use Rattle.line_pieces.specs.declared.Read.the-variants.{At, Refused}
-use Rattle.line_pieces.specs.Number.{isDigit, digits, value, numberOf, numberAt}
+use Rattle.codec.specs.Decimal.{isDigit, digits, value}
+use Rattle.line_pieces.specs.Number.{numberOf, numberAt}
 use Rattle.line_pieces.specs.NumberLaws.{digits-next, digits-end, digits-first}
 use Rattle.line_laws.specs.Grammar.{Numeral, Numerals, spaced, between, Piece, one, number, list, spacedList}
 use Rattle.line_laws.specs.pieces.ReadPieces.{if-test, readPiece}

@@ -15,7 +15,8 @@ use Rattle.rules.specs.Fault.{Stands, Span}
 use Rattle.rules.specs.reading.WordLaws.{span-byte, span-append}
 use Rattle.line_pieces.specs.declared.Read.{Read}
 use Rattle.line_pieces.specs.declared.Read.the-variants.{At, Refused}
-use Rattle.line_pieces.specs.Number.{isDigit, digits, value, numberOf, numberAt}
+use Rattle.codec.specs.Decimal.{isDigit, digits, value}
+use Rattle.line_pieces.specs.Number.{numberOf, numberAt}
 use Rattle.line_pieces.specs.NumberLaws.{inside, digit-bounds, digits-next, digits-end}
 use Rattle.line_pieces.specs.Reading.{thenByte, thenNumber}
 use Rattle.line_pieces.specs.NumberList.{afterNumber, numbersAt, allNumbersAt, thenList, thenSpacedList, thenClose}

@@ -15,7 +15,8 @@ use Rattle.rules.specs.reading.WordLaws.{if-byte}
 use Rattle.rules.specs.reading.WordsAnswered.{StandsTo, known}
 use Rattle.line_pieces.specs.declared.Read.{Read}
 use Rattle.line_pieces.specs.declared.Read.the-variants.{At, Refused}
-use Rattle.line_pieces.specs.Number.{isDigit, digits, value, numberOf, numberAt}
+use Rattle.codec.specs.Decimal.{isDigit, digits, value}
+use Rattle.line_pieces.specs.Number.{numberOf, numberAt}
 use Rattle.line_pieces.specs.NumberLaws.{digits-next, digits-end, digits-first}
 use Rattle.line_pieces.specs.Reading.{thenByte}
 use Rattle.line_laws.specs.Grammar.{AllDigits, Numeral}

@@ -15,7 +15,8 @@ use Rattle.rules.specs.reading.WordLaws.{if-byte}
 use Rattle.rules.specs.grammar.FirstBytes.{Begun, begun-inside, begun-next}
 use Rattle.line_pieces.specs.declared.Read.{Read}
 use Rattle.line_pieces.specs.declared.Read.the-variants.{At, Refused}
-use Rattle.line_pieces.specs.Number.{isDigit, digits, value, numberOf, numberAt}
+use Rattle.codec.specs.Decimal.{isDigit, digits, value}
+use Rattle.line_pieces.specs.Number.{numberOf, numberAt}
 use Rattle.line_pieces.specs.NumberLaws.{digit-bounds, digits-first}
 use Rattle.line_laws.specs.Grammar.{AllDigits, Numeral, Numerals, spaced, between, Piece, one, number, list, spacedList, PieceText, TextOf}
 use Rattle.line_pieces.specs.Reading.{thenByte, thenNumber}

@@ -15,7 +15,8 @@ use Rattle.rules.specs.reading.WordLaws.{if-byte}
 use Rattle.rules.specs.reading.WordsAnswered.{StandsTo, known, standsTo-left, standsTo-right}
 use Rattle.line_pieces.specs.declared.Read.{Read}
 use Rattle.line_pieces.specs.declared.Read.the-variants.{At, Refused}
-use Rattle.line_pieces.specs.Number.{isDigit, numberAt}
+use Rattle.codec.specs.Decimal.{isDigit}
+use Rattle.line_pieces.specs.Number.{numberAt}
 use Rattle.line_pieces.specs.NumberLaws.{inside, digit-bounds}
 use Rattle.line_pieces.specs.Reading.{thenByte, thenNumber}
 use Rattle.line_pieces.specs.NumberList.{Listed, afterNumber, numbersAt, allNumbersAt, thenList, thenSpacedList, thenClose}

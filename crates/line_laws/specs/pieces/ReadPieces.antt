@@ -10,7 +10,8 @@ use lib.ListN.{length, drop}
 use Rattle.rules.specs.Text.{byteAt}
 use Rattle.line_pieces.specs.declared.Read.{Read}
 use Rattle.line_pieces.specs.declared.Read.the-variants.{At, Refused}
-use Rattle.line_pieces.specs.Number.{digits, value, numberOf, numberAt}
+use Rattle.codec.specs.Decimal.{digits, value}
+use Rattle.line_pieces.specs.Number.{numberOf, numberAt}
 use Rattle.line_pieces.specs.Reading.{thenByte, thenNumber}
 use Rattle.line_pieces.specs.NumberList.{Listed, afterNumber, numbersAt, thenList, thenSpacedList, thenClose}
 use Rattle.line_laws.specs.Grammar.{Piece, one, number, list, spacedList}

@@ -10,7 +10,8 @@ use lib.ListN.{length, drop}
 use borrow.Author.Tests.{lt-ltb, lt-leb, eqb-false}
 use Rattle.rules.specs.Text.{byteAt}
 use Rattle.line_pieces.specs.declared.Read.the-variants.{At, Refused}
-use Rattle.line_pieces.specs.Number.{isDigit, digits, valueFrom, value, numberOf, numberAt}
+use Rattle.codec.specs.Decimal.{isDigit, digits, valueFrom, value}
+use Rattle.line_pieces.specs.Number.{numberOf, numberAt}
 use Rattle.line_pieces.specs.NumberLaws.{digit-bounds, digits-end, digits-first, valueFrom-grows}
 
 -- A number within any limit has at most so many digits: a count of 32 bits has ten.

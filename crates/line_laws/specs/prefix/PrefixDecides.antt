@@ -12,7 +12,8 @@ use borrow.Author.Tests.{ltb-true, ltb-false, leb-true, leb-false, lt-ltb}
 use Rattle.rules.specs.Text.{byteAt}
 use Rattle.line_pieces.specs.declared.Read.{Read}
 use Rattle.line_pieces.specs.declared.Read.the-variants.{At, Refused}
-use Rattle.line_pieces.specs.Number.{isDigit, digits, numberAt}
+use Rattle.codec.specs.Decimal.{isDigit, digits}
+use Rattle.line_pieces.specs.Number.{numberAt}
 use Rattle.line_pieces.specs.NumberLaws.{digits-next, digits-end, number-after}
 use Rattle.line_pieces.specs.Reading.{thenByte, thenNumber, thenEnd, lineLimit, limited}
 use Rattle.line_laws.specs.faults.GrammarTheorem.{lineRead}

@@ -9,12 +9,13 @@ use lib.Dec.{ltb, eqb}
 use lib.ListN.{length, drop}
 use lib.Seq.{ext-getD}
 use borrow.Author.Tests.{ltb-false, eqb-true}
-use Rattle.rules.specs.Text.{ascii, byteAt}
+use Rattle.codec.specs.Ascii.{ascii}
+use Rattle.rules.specs.Text.{byteAt}
 use Rattle.rules.specs.Fault.{Stands, Span}
 use Rattle.rules.specs.reading.WordLaws.{span-nil, span-byte, span-append}
 use Rattle.line_pieces.specs.declared.Read.{Read}
 use Rattle.line_pieces.specs.declared.Read.the-variants.{At, Refused}
-use Rattle.line_pieces.specs.Number.{digits, value}
+use Rattle.codec.specs.Decimal.{digits, value}
 use Rattle.line_pieces.specs.NumberLaws.{inside, number-after}
 use Rattle.line_pieces.specs.Reading.{valueOf, thenByte, thenBytes, headRead, thenNumber, thenEnd, lineLimit, limited, thenLast}
 use Rattle.line_pieces.specs.NumberList.{thenList, thenSpacedList, thenClose, eight}

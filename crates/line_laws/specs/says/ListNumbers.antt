@@ -11,7 +11,8 @@ use Rattle.rules.specs.Text.{byteAt}
 use Rattle.rules.specs.reading.WordLaws.{span-nil, span-byte, span-append}
 use Rattle.line_pieces.specs.declared.Read.{Read}
 use Rattle.line_pieces.specs.declared.Read.the-variants.{At, Refused}
-use Rattle.line_pieces.specs.Number.{digits, value, numberAt}
+use Rattle.codec.specs.Decimal.{digits, value}
+use Rattle.line_pieces.specs.Number.{numberAt}
 use Rattle.line_pieces.specs.NumberLaws.{number-after}
 use Rattle.line_pieces.specs.NumberList.{Listed, afterNumber, numbersAt, thenList, thenSpacedList, thenClose}
 use Rattle.line_laws.specs.Grammar.{Numeral, Numerals, spaced, between}

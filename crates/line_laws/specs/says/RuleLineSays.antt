@@ -9,7 +9,8 @@ use lib.ListN.{length, length-append, length-take, length-drop, drop}
 use lib.Seq.{getD-take, getD-drop, take-append-seam}
 use borrow.Author.Tests.{ltb-false, le-ltb}
 use Rattle.rules.specs.Formula.{Formula, atom, constant, unary, binary}
-use Rattle.rules.specs.Text.{ascii, byteAt, textOf}
+use Rattle.codec.specs.Ascii.{ascii}
+use Rattle.rules.specs.Text.{byteAt, textOf}
 use Rattle.rules.specs.Fault.{Stands, Span}
 use Rattle.rules.specs.Reader.{Reading, formed, refused, readRule}
 use Rattle.rules.specs.reading.ReaderAccepts.{reader-accepts}

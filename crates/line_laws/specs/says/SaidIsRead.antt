@@ -7,10 +7,12 @@ use mathlib.Core.Bool.{Bool, true, false, cond}
 use mathlib.Core.List.{List, [], _∷_, _++_, append-assoc, append-nil, map}
 use lib.ListN.{length, length-append, length-map}
 use borrow.Author.Tests.{eq-eqb, ne-eqb, le-leb, le-ltb}
-use Rattle.rules.specs.Text.{ascii, byteAt}
+use Rattle.codec.specs.Ascii.{ascii}
+use Rattle.rules.specs.Text.{byteAt}
 use Rattle.rules.specs.Fault.{Stands}
 use Rattle.line_pieces.specs.declared.Read.the-variants.{At}
-use Rattle.line_pieces.specs.Number.{isDigit, value, numberOf, numberAt}
+use Rattle.codec.specs.Decimal.{isDigit, value}
+use Rattle.line_pieces.specs.Number.{numberOf, numberAt}
 use Rattle.line_pieces.specs.NumberLaws.{digit-bounds}
 use Rattle.line_pieces.specs.Reading.{valueOf, thenByte, thenBytes, thenNumber, thenEnd, lineLimit, limited, thenLast}
 use Rattle.line_pieces.specs.NumberList.{listed, afterNumber, numbersAt, thenList, thenSpacedList, thenClose, eight}

@@ -10,7 +10,8 @@ use lib.ListN.{length, drop}
 use borrow.Author.Tests.{ltb-true, ltb-false, leb-true, leb-false, lt-ltb, le-leb, lt-leb}
 use Rattle.rules.specs.Text.{byteAt}
 use Rattle.line_pieces.specs.declared.Read.the-variants.{At, Refused}
-use Rattle.line_pieces.specs.Number.{digits, valueFrom, value, numberOf, numberAt}
+use Rattle.codec.specs.Decimal.{digits, valueFrom, value}
+use Rattle.line_pieces.specs.Number.{numberOf, numberAt}
 use Rattle.line_pieces.specs.Digits.{largest, grown, Says, DigitsRead}
 use Rattle.line_pieces.specs.NumberLaws.{digits-first, valueFrom-grows}
 

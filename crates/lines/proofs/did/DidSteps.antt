@@ -8,7 +8,7 @@ use lib.ListN.{length, replicate, getD-replicate, take, drop}
 use lib.Seq.{take-all}
 use Rattle.clocks.specs.Counts.{at}
 use Rattle.clocks.specs.stored.CountsLaws.{length-listOf, listOf-at, at-listOf}
-use Rattle.rules.specs.Text.{ascii}
+use Rattle.codec.specs.Ascii.{ascii}
 use Rattle.line_pieces.specs.declared.Read.{Read}
 use Rattle.line_pieces.specs.declared.Read.the-variants.{At, Refused}
 use Rattle.lines.specs.declared.DidLine.{DidLine}

@@ -2,7 +2,7 @@
 use Prim.Native.Nat.{ℕ}
 use mathlib.Core.Path.{_≡_}
 use mathlib.Core.List.{List}
-use Rattle.rules.specs.Text.{ascii}
+use Rattle.codec.specs.Ascii.{ascii}
 use Rattle.line_pieces.specs.declared.Read.{Read}
 use Rattle.line_pieces.specs.declared.Numbers.{Numbers}
 use Rattle.lines.specs.declared.StartLine.{StartLine}

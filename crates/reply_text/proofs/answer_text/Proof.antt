@@ -4,10 +4,11 @@ use mathlib.Core.Path.{refl, ap, _∙_}
 use Prim.Native.Nat.{ℕ}
 use mathlib.Core.List.{List, _++_, [], _∷_}
 use Rattle.reply_text.specs.Form.{programWidth}
-use Rattle.reply_text.specs.Texts.{numeral, countsText, refusedText, heldText, againText, stateText, verdictText}
+use Rattle.codec.specs.Decimal.{numeral}
+use Rattle.reply_text.specs.Texts.{countsText, refusedText, heldText, againText, stateText, verdictText}
 use Rattle.reply_text.proofs.TextSteps.{behind}
 use Rattle.reply_text.proofs.ReplySteps.{says-refused, says-nothing, says-again, says-held, says-state}
-use Rattle.rules.specs.Text.{ascii}
+use Rattle.codec.specs.Ascii.{ascii}
 use Rattle.records.specs.Record.{takenCounts}
 use mathlib.Core.Bool.{true, false}
 use borrow.Author.Needs.{needs}

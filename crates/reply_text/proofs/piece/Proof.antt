@@ -1,7 +1,7 @@
 -- The number goes behind the bytes.
 use native.Mathlib.Omega.{arith}
 use Rattle.reply_text.proofs.TextSteps.{behind}
-use Rattle.reply_text.specs.Texts.{numeral}
+use Rattle.codec.specs.Decimal.{numeral}
 use borrow.Author.Needs.{needs}
 use Rattle.reply_text.proofs.piece.Statement.{statement}
 use Rattle.reply_text.proofs.piece.Tie as tie

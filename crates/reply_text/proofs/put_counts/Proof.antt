@@ -5,9 +5,10 @@ use mathlib.Core.Path.{_≡_, refl, sym, _∙_}
 use Prim.Native.Nat.{_≤_, _-_, _+_, _*_}
 use mathlib.Core.List.{_++_, append-nil, [], _∷_}
 use lib.ListN.{length, take}
-use Rattle.reply_text.specs.Texts.{moreCounts, numeral}
+use Rattle.codec.specs.Decimal.{numeral}
+use Rattle.reply_text.specs.Texts.{moreCounts}
 use Rattle.reply_text.proofs.TextSteps.{behind, counts-next, counts-end}
-use Rattle.rules.specs.Text.{ascii}
+use Rattle.codec.specs.Ascii.{ascii}
 use borrow.Author.Needs.{needs}
 use Rattle.reply_text.proofs.put_counts.Statement.{statement}
 use Rattle.reply_text.proofs.put_counts.Tie as tie

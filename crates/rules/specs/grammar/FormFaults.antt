@@ -10,7 +10,8 @@ use Rattle.rules.specs.grammar.OpenForms.{Frame, closedLines, opening, b
 use Rattle.rules.specs.grammar.FaultLaws.{Clean, clean-next, clean-span, first-digit-below, second-digit-below}
 use Rattle.rules.specs.reading.WordLaws.{span-next, span-byte, span-append, span-nil, WordSpan, wordAt-span}
 use Rattle.rules.specs.grammar.LimitFaults.{Outcome, Reached, stop, expect-out, digit-out, close-out, andThen-out, too-deep, opened-clean, stop-in, over-in}
-use Rattle.rules.specs.Text.{byteAt, ascii, textOf, constantLetters, unaryLetters, binaryLetters}
+use Rattle.codec.specs.Ascii.{ascii}
+use Rattle.rules.specs.Text.{byteAt, textOf, constantLetters, unaryLetters, binaryLetters}
 use Rattle.rules.specs.Fault.{Stands, Fault4, Span}
 use Rattle.rules.specs.Formula.{Atoms, atom, constant, unary, binary}
 use Rattle.rules.specs.grammar.PlainBytes.{every, small, text-small, every-append, plain-small, at-plain, constant-plain, unary-plain, binary-plain}

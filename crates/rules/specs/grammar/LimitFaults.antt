@@ -13,7 +13,8 @@ use Rattle.rules.specs.grammar.OpenForms.{Frame, before, closedLines, Fr
 use Rattle.rules.specs.grammar.FaultLaws.{Clean, first-over, Over, fault4-digit, clean-next}
 use Rattle.rules.specs.Line.{lineCount}
 use Rattle.rules.specs.reading.WordLaws.{span-byte, span-append, if-byte}
-use Rattle.rules.specs.Text.{byteAt, textOf, Grammatical, ascii}
+use Rattle.codec.specs.Ascii.{ascii}
+use Rattle.rules.specs.Text.{byteAt, textOf, Grammatical}
 use Rattle.rules.specs.reading.ReaderLaws.{Digit}
 use Rattle.rules.specs.Fault.{count, Fault2, linesClosed, Fault3, Fault, FirstFault, Fault4, Span}
 use Rattle.rules.specs.Formula.{Formula}

@@ -10,7 +10,8 @@ use Rattle.rules.specs.declared.Constant.the-variants.{True}
 use Rattle.rules.specs.declared.Unary.{Unary}
 use Rattle.rules.specs.declared.Binary.{Binary}
 use Rattle.rules.specs.Line.{unaryWeight, binaryWeight, lineCount}
-use Rattle.rules.specs.Text.{unaryLetters, binaryLetters, textOf, Grammatical, ascii, constantLetters}
+use Rattle.codec.specs.Ascii.{ascii}
+use Rattle.rules.specs.Text.{unaryLetters, binaryLetters, textOf, Grammatical, constantLetters}
 use Rattle.rules.specs.grammar.ScanLaws.{count-append, balanced-append, balanced-plain, text-balanced, unary-weight, binary-weight, closed-word, closed-space, closed-form}
 use Rattle.rules.specs.Fault.{count, linesClosed}
 use Rattle.rules.specs.Formula.{Formula, constant, Atoms, unary, binary, atom}

@@ -7,7 +7,8 @@ use Rattle.rules.specs.declared.WordRead.{WordRead}
 use Rattle.rules.specs.declared.WordRead.the-variants.{AtWord, ConstantWord, UnaryWord, BinaryWord, NoWord}
 use Rattle.rules.specs.grammar.OpenForms.{Viable, viable-part, viable-at, viable-constant, viable-unary, viable-binary}
 use Rattle.rules.specs.reading.WordLaws.{span-byte, span-append, if-byte, span-nil}
-use Rattle.rules.specs.Text.{byteAt, ascii, constantLetters, unaryLetters, binaryLetters}
+use Rattle.codec.specs.Ascii.{ascii}
+use Rattle.rules.specs.Text.{byteAt, constantLetters, unaryLetters, binaryLetters}
 use Rattle.rules.specs.grammar.PlainBytes.{every, plain, every-left, at-plain, constant-plain, unary-plain, binary-plain}
 use Rattle.rules.specs.Reader.{restAt, aWordAt, eWordAt, wordAt}
 use Rattle.rules.specs.declared.Constant.the-variants.{True, False}

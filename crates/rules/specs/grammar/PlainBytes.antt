@@ -6,7 +6,8 @@ use mathlib.Core.Path.{_≡_, refl}
 use mathlib.Core.Bool.{Bool, true, false, cond, _&&_}
 use mathlib.Core.List.{List, [], _∷_, _++_}
 use lib.Dec.{leb, ltb, T, leb→le, lt→ltb}
-use Rattle.rules.specs.Text.{constantLetters, unaryLetters, binaryLetters, textOf, Grammatical, ascii}
+use Rattle.codec.specs.Ascii.{ascii}
+use Rattle.rules.specs.Text.{constantLetters, unaryLetters, binaryLetters, textOf, Grammatical}
 use Rattle.rules.specs.declared.Constant.{Constant}
 use Rattle.rules.specs.declared.Constant.the-variants.{True, False}
 use Rattle.rules.specs.declared.Unary.{Unary}

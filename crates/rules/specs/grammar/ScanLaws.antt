@@ -13,7 +13,8 @@ use Rattle.rules.specs.declared.Unary.the-variants.{Not, Ey, Ep, Ap, Ay,
 use Rattle.rules.specs.declared.Binary.{Binary}
 use Rattle.rules.specs.declared.Binary.the-variants.{And, Es, As, Or}
 use Rattle.rules.specs.Line.{constantWeight, unaryWeight, binaryWeight, lineCount}
-use Rattle.rules.specs.Text.{constantLetters, unaryLetters, binaryLetters, textOf, ascii}
+use Rattle.codec.specs.Ascii.{ascii}
+use Rattle.rules.specs.Text.{constantLetters, unaryLetters, binaryLetters, textOf}
 use Rattle.rules.specs.Fault.{count, begins, words, weightOf, openedAfter, linesClosed}
 use Rattle.rules.specs.Formula.{Formula, atom, constant, unary, binary}
 use Rattle.rules.specs.grammar.PlainBytes.{every, plain, and-left, and-right, plain-e, constant-plain, unary-plain, binary-plain, at-plain}

@@ -9,7 +9,8 @@ use Rattle.rules.specs.declared.Unary.the-variants.{Not, Ey, Ep, Ap, Ay,
 use Rattle.rules.specs.declared.Binary.the-variants.{And, Es, As, Or}
 use Rattle.rules.specs.Formula.{Formula, atom, constant, unary, binary}
 use Rattle.rules.specs.Line.{trueLines, constantLines, linesBefore, linesAfter, linesBetween, linesAfterBoth, constantWeight, unaryWeight, binaryWeight, lineCount, linesAt}
-use Rattle.rules.specs.Text.{ascii, textOf, constantLetters, unaryLetters, binaryLetters}
+use Rattle.codec.specs.Ascii.{ascii}
+use Rattle.rules.specs.Text.{textOf, constantLetters, unaryLetters, binaryLetters}
 use Rattle.rules.specs.Fault.{begins, words, weightOf, openedAfter, linesClosed}
 use Rattle.rules.specs.Reader.{restAt, aWordAt, eWordAt, wordAt, Reading, formed, refused, andThen, expect, expectDigit, closeAt, atomAt, innerWith, unaryWith, binaryWith, bodyWith, formAt, readRule}
 use Rattle.pactl.specs.Line.{line}

@@ -11,7 +11,8 @@ use borrow.Author.Tests.{eqb-true, eqb-false}
 use Rattle.rules.specs.declared.Binary.the-variants.{And}
 use Rattle.rules.specs.declared.WordRead.{WordRead}
 use Rattle.rules.specs.declared.WordRead.the-variants.{AtWord, ConstantWord, UnaryWord, BinaryWord, NoWord}
-use Rattle.rules.specs.Text.{ascii, byteAt, constantLetters, unaryLetters, binaryLetters}
+use Rattle.codec.specs.Ascii.{ascii}
+use Rattle.rules.specs.Text.{byteAt, constantLetters, unaryLetters, binaryLetters}
 use Rattle.rules.specs.Reader.{restAt, aWordAt, eWordAt, wordAt}
 use Rattle.rules.specs.Fault.{Stands, Span}
 

@@ -13,7 +13,8 @@ use Rattle.rules.specs.declared.WordRead.{WordRead}
 use Rattle.rules.specs.declared.WordRead.the-variants.{NoWord, AtWord, ConstantWord, UnaryWord, BinaryWord}
 use Rattle.rules.specs.reading.ForwardLaws.{wordPlace, word-from, aWord-from, eWord-from}
 use Rattle.rules.specs.reading.WordLaws.{if-byte}
-use Rattle.rules.specs.Text.{byteAt, ascii, constantLetters, unaryLetters, binaryLetters}
+use Rattle.codec.specs.Ascii.{ascii}
+use Rattle.rules.specs.Text.{byteAt, constantLetters, unaryLetters, binaryLetters}
 use Rattle.rules.specs.Reader.{restAt, aWordAt, wordAt, eWordAt}
 use Rattle.rules.specs.declared.Constant.{Constant}
 use Rattle.rules.specs.declared.Constant.the-variants.{True, False}

@@ -8,7 +8,7 @@ use mathlib.Core.List.{List, [], _∷_}
 use lib.ListN.{length, drop, drop-of-length-le}
 use borrow.Author.Tests.{not-true, not-false}
 use Rattle.rules.specs.Text.{byteAt}
-use Rattle.line_pieces.specs.Number.{digits, value}
+use Rattle.codec.specs.Decimal.{digits, value}
 use Rattle.line_pieces.specs.NumberLaws.{digits-next, digits-end, digit-bounds}
 use borrow.Author.Needs.{needs}
 use Rattle.line_pieces.proofs.number.read_digits.Statement.{statement}

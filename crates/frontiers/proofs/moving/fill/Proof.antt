@@ -1,5 +1,5 @@
--- The first i bytes are cleared, one more with each turn: the law `clear-next`.
-use Rattle.frontiers.proofs.moving.clear.Tie as tie
+-- The first i bytes are stored, one more with each turn: the law `fill-next`.
+use Rattle.frontiers.proofs.moving.fill.Tie as tie
 use Prim.Native.Nat.{_≤_, _-_}
 use native.Mathlib.Omega.{arith}
 use mathlib.Core.Path.{_≡_}
@@ -7,14 +7,14 @@ use lib.ListN.{length, replicate}
 use lib.Seq.{sets}
 use borrow.Author.Needs.{needs}
 use denote.Ref.{now}
-use Rattle.frontiers.proofs.moving.clear.Statement.{statement}
-use Rattle.frontiers.proofs.moving.MovingSteps.{clear-next}
+use Rattle.frontiers.proofs.moving.fill.Statement.{statement}
+use Rattle.frontiers.proofs.moving.MovingSteps.{fill-next}
 
 abbrev Inv-loop : tie.InvT-loop
-Inv-loop s₀ from n i₀ s i = (i ≤ n) × (length s ≡ length s₀) × (s ≡ sets s₀ from (replicate i 0))
+Inv-loop s₀ from n byte i₀ s i = (i ≤ n) × (length s ≡ length s₀) × (s ≡ sets s₀ from (replicate i byte))
 
 abbrev μ-loop : tie.MeasureT-loop
-μ-loop s₀ from n i₀ s i = n - i
+μ-loop s₀ from n byte i₀ s i = n - i
 
 loop-holds : tie.Need-loop-holds Inv-loop μ-loop
 loop-holds c = search needs
@@ -34,7 +34,7 @@ loop-less c = search needs
 loop-again : tie.Need-loop-again Inv-loop μ-loop
 loop-again c =
     let a = c .before .before .args in
-    (search needs, search needs, cc (clear-next (now (a .s)) (a .from) (c .before .loop .i)))
+    (search needs, search needs, cc (fill-next (now (a .s)) (a .from) (c .before .loop .i) (a .byte)))
 
 same-length : tie.Need-same-length Inv-loop μ-loop
 same-length c = search needs
@@ -42,8 +42,8 @@ same-length c = search needs
 returns : tie.Need-returns Inv-loop μ-loop
 returns c = let all : c .before .loop .i ≡ c .before .before .args .n = omega arith in cc
 
-pub clear-spec : {M : Type 1} → statement M
-clear-spec =
+pub fill-spec : {M : Type 1} → statement M
+fill-spec =
     tie.close
     (tie.spec
     Inv-loop

@@ -1,0 +1,72 @@
+-- A page (02 [7]): the kept frontiers as text, a row of 92 columns and a line feed for each.
+use Prim.Native.Nat.{ℕ, zero, suc, _-_, _*_}
+use mathlib.Core.Bool.{Bool, cond, _||_}
+use mathlib.Core.List.{List, [], _∷_, _++_}
+use lib.Dec.{ltb}
+use lib.ListN.{length, drop, replicate}
+use Rattle.codec.specs.Ascii.{ascii}
+use Rattle.codec.specs.Bit.{bit}
+use Rattle.codec.specs.Decimal.{numeral}
+use Rattle.clocks.specs.Counts.{at}
+use Rattle.frontiers.specs.declared.Frontier.{Frontier}
+use Rattle.frontiers.specs.Bytes.{frontiers}
+use Rattle.records.specs.Record.{processCount, lineTotal, keptCount}
+use Rattle.refusals.specs.Refusals.{badRecordLength, badWindowLength, roomOf, badState}
+use Rattle.numbers.specs.Refusal.{lengthNumber, stateNumber, shortPageNumber}
+use Rattle.answers.specs.Result.{Result, refused, gives}
+
+-- ---- A row
+
+-- The bytes of a row, with its line feed.
+abbrev pub rowLength : ℕ
+rowLength = 93
+
+-- A text at the right of so many characters, blanks before it.
+unfoldable pub aligned : ℕ → List ℕ → List ℕ
+aligned width text = replicate (width - length text) 32 ++ text
+
+-- The column of process p: its count, or blanks where there are not so many as k processes.
+unfoldable pub column : ℕ → List ℕ → ℕ → List ℕ
+column k counts p = aligned 11 (cond (ltb p k) (numeral (at counts p)) [])
+
+-- The columns of the first n processes.
+unfoldable pub columns : ℕ → List ℕ → ℕ → List ℕ
+columns k counts zero = []
+columns k counts (suc p) = columns k counts p ++ column k counts p
+
+-- What is said of the rule.
+unfoldable pub word : Bool → List ℕ
+word truth = cond truth (ascii "yes") (ascii "no ")
+
+-- The row of a cut with these counts, at which the rule has this truth.
+unfoldable pub row : ℕ → List ℕ → Bool → List ℕ
+row k counts truth = columns k counts 8 ++ ascii " " ++ word truth ++ (10 ∷ [])
+
+-- The rows of frontiers, one behind the other, for the rule that is this line of the table.
+unfoldable pub rows : ℕ → ℕ → List Frontier → List ℕ
+rows k line [] = []
+rows k line (f ∷ fs) = row k (f .counts) (bit (f .values) line) ++ rows k line fs
+
+-- ---- The call
+
+-- 44: a page of n bytes is too short for all rows.
+unfoldable pub shortPage : ℕ → ℕ → Bool
+shortPage kept n = ltb n (rowLength * kept)
+
+-- What the call answers, and leaves in the page. Record and window stay as they are.
+pub record Paged : Type 0 where
+  pub answer : Result
+  pub page : List ℕ
+
+unfoldable pub pageCall : ℕ → List ℕ → List ℕ → List ℕ → Paged
+pageCall w s window page =
+    let turned : ℕ → Paged = λ n. record { answer = refused n; page = page } in
+    cond (badRecordLength w (length s) || badWindowLength w (length window)) (turned lengthNumber)
+    (cond (badState w (roomOf w (length window)) s) (turned stateNumber)
+    (cond (shortPage (keptCount s) (length page)) (turned shortPageNumber)
+    (record {
+      answer = gives (keptCount s);
+      page =
+          rows (processCount s) (lineTotal s - 1) (frontiers w window (keptCount s))
+          ++ drop (rowLength * keptCount s) page;
+    })))

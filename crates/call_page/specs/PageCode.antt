@@ -1,0 +1,19 @@
+-- What the code of a page keeps to: a row's last bytes, and the number that the call is turned back with.
+use Prim.Native.Nat.{ℕ}
+use mathlib.Core.Bool.{Bool, cond, _||_}
+use mathlib.Core.List.{List, [], _∷_, _++_}
+use lib.ListN.{length}
+use Rattle.codec.specs.Ascii.{ascii}
+use Rattle.records.specs.Record.{keptCount}
+use Rattle.refusals.specs.Refusals.{badRecordLength, badWindowLength, roomOf, badState}
+use Rattle.call_page.specs.Page.{word, shortPage}
+
+-- What stands behind the columns.
+unfoldable pub ending : Bool → List ℕ
+ending truth = ascii " " ++ word truth ++ (10 ∷ [])
+
+-- The number, by the page's length; 0 for none.
+unfoldable pub pageFault : ℕ → List ℕ → List ℕ → ℕ → ℕ
+pageFault w s window n =
+    cond (badRecordLength w (length s) || badWindowLength w (length window)) 6
+    (cond (badState w (roomOf w (length window)) s) 34 (cond (shortPage (keptCount s) n) 44 0))
