@@ -14,8 +14,8 @@ use Rattle.codec.specs.Decimal.{numeral}
 use Rattle.codec.specs.SetsLaws.{sets-append}
 use Rattle.clocks.specs.Counts.{at}
 use Rattle.call_page.specs.Page.{aligned, column, columns, word, row}
-use Rattle.call_page.specs.PageCode.{ending}
-use Rattle.call_page.specs.RowLaws.{TenDigits, length-columns}
+use Rattle.call_page.specs.PageCode.{TenDigits, ending}
+use Rattle.call_page.specs.RowLaws.{length-columns}
 
 -- ---- The ending
 

@@ -1,12 +1,17 @@
--- What the code of a page keeps to: a row's last bytes, and the number that the call is turned back with.
-use Prim.Native.Nat.{ℕ}
+-- What the code of a page keeps to: counts that have a place in a column, a row's last bytes, and the number that the call is turned back with.
+use Prim.Native.Nat.{ℕ, _^_, _<_}
 use mathlib.Core.Bool.{Bool, cond, _||_}
 use mathlib.Core.List.{List, [], _∷_, _++_}
 use lib.ListN.{length}
 use Rattle.codec.specs.Ascii.{ascii}
+use Rattle.clocks.specs.Counts.{at}
 use Rattle.records.specs.Record.{keptCount}
 use Rattle.refusals.specs.Refusals.{badRecordLength, badWindowLength, roomOf, badState}
 use Rattle.call_page.specs.Page.{word, shortPage}
+
+-- No count has more than ten digits.
+abbrev pub TenDigits : List ℕ → Type 0
+TenDigits counts = (p : ℕ) → at counts p < 10 ^ 10
 
 -- What stands behind the columns.
 unfoldable pub ending : Bool → List ℕ

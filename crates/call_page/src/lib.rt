@@ -5,16 +5,11 @@ pub mod row;
 use crate::row::put_row;
 use frontiers::stored::counts_at;
 use frontiers::stored::values_at;
-use numbers::refusal::LENGTH;
 use numbers::refusal::SHORT_PAGE;
-use numbers::refusal::STATE;
 use records::fields::kept_count;
 use records::fields::line_total;
 use records::fields::process_count;
-use refusals::bad_record_length;
-use refusals::bad_state;
-use refusals::bad_window_length;
-use refusals::room_of;
+use refusals::watch_fault;
 ghost use Prim.Native.Nat.{_*_, _≤_, _<_};
 ghost use mathlib.Core.Path.{_≡_};
 ghost use lib.ListN.{length};
@@ -53,14 +48,9 @@ fn page_fault(w: usize, record: &[u8], window: &[u8], page_len: usize) -> u64
     requires { ⌜ Width w ⌝ }
     ensures { λ r. ⌜ r ≡ pageFault w (now («record» .entry)) (now (window .entry)) «page_len» ⌝ }
 {
-    if bad_record_length(w, record.len()) {
-        return LENGTH;
-    }
-    if bad_window_length(w, window.len()) {
-        return LENGTH;
-    }
-    if bad_state(record, w, room_of(w, window.len())) {
-        return STATE;
+    let fault = watch_fault(w, record, window.len());
+    if fault != 0 {
+        return fault;
     }
     if page_len < ROW * (kept_count(record) as usize) {
         return SHORT_PAGE;

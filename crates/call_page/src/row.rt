@@ -8,7 +8,7 @@ ghost use lib.ListN.{length};
 ghost use lib.Seq.{sets};
 ghost use Rattle.codec.specs.Decimal.{numeral};
 ghost use Rattle.call_page.specs.Page.{aligned, row};
-ghost use Rattle.call_page.specs.PageCode.{ending};
+ghost use Rattle.call_page.specs.PageCode.{TenDigits, ending};
 
 // A blank.
 const BLANK: u8 = 32;
@@ -46,6 +46,7 @@ fn put_ending(page: &mut [u8], at: usize, holds: bool)
 // Writes a row, where there are k processes.
 pub fn put_row(page: &mut [u8], at: usize, k: usize, counts: [u32; 8], holds: bool)
     requires { ⌜ k ≤ 8 ⌝ }
+    requires { ⌜ TenDigits counts ⌝ }
     requires { ⌜ at + 93 ≤ length (now page) ⌝ }
     ensures { λ r. ⌜ now (page .exit) ≡ sets (now (page .entry)) at (row k counts holds) ⌝ }
 {

@@ -4,3 +4,6 @@
 pub mod Refusals
 -- What is proved of them
 pub mod RefusalLaws
+-- The number that the calls' functions look for first
+pub mod RefusalCode
+pub mod FaultLaws

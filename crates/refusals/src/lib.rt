@@ -6,6 +6,8 @@ use numbers::limit::FRONTIERS;
 use numbers::limit::LINES;
 use numbers::limit::PENDING;
 use numbers::limit::PROCESSES;
+use numbers::refusal::LENGTH;
+use numbers::refusal::STATE;
 use records::fields::kept_count;
 use records::fields::line_total;
 use records::fields::pending_count;
@@ -21,6 +23,7 @@ ghost use Rattle.clocks.specs.Counts.{at};
 ghost use Rattle.frontiers.specs.Width.{Width};
 ghost use Rattle.records.specs.Record.{recordLength};
 ghost use Rattle.refusals.specs.Refusals.{badRecordLength, badWindowLength, roomOf, badProcesses, badState, alreadyTaken, namesClosed, badNumbers};
+ghost use Rattle.refusals.specs.RefusalCode.{watchFault};
 ghost use Rattle.refusals.specs.Refusals as conditions;
 
 // 6: a record of a wrong length.
@@ -108,6 +111,23 @@ pub fn bad_state(record: &[u8], w: usize, room: usize) -> bool
     }
     let place = table_place(w);
     !pactl::table::good_table(k, &record[place..], lines)
+}
+
+// The number that record and window alone turn a call back with, for a window of n bytes; 0 for none.
+pub fn watch_fault(w: usize, record: &[u8], n: usize) -> u64
+    requires { ⌜ Width w ⌝ }
+    ensures { λ r. ⌜ r ≡ watchFault w (now («record» .entry)) n ⌝ }
+{
+    if bad_record_length(w, record.len()) {
+        return LENGTH;
+    }
+    if bad_window_length(w, n) {
+        return LENGTH;
+    }
+    if bad_state(record, w, room_of(w, n)) {
+        return STATE;
+    }
+    0
 }
 
 // What 31 asks of one process: it takes part, and its count is taken.

@@ -5,6 +5,10 @@ use mathlib.Core.List.{List, _++_}
 use lib.ListN.{length, getD, take, drop, set, length-set}
 use mathlib.Core.Logic.{⊎-elim}
 use borrow.Author.Needs.{needs}
+use denote.Ref.{now}
+use lib.Seq.{sets}
+use Rattle.call_page.specs.Page.{columns}
+use Rattle.call_page.proofs.RowSteps.{no-columns, next-column, row-stands}
 use Rattle.call_page.proofs.row.put_row.Statement.{statement}
 use Rattle.call_page.proofs.row.put_row.Tie as tie
 use Rattle.call_page.proofs.row.put_row.Reads as reads
@@ -14,14 +18,17 @@ use Rattle.call_page.proofs.row.put_ending.Reads as put-ending-reads
 use Rattle.frontiers.proofs.moving.fill.Reads as fill-reads
 
 abbrev Inv-loop : tie.InvT-loop
-Inv-loop page₀ at k holds counts p₀ page p = ?
+Inv-loop page₀ at k holds counts p₀ page p =
+    (p ≤ k) × (length page ≡ length page₀) × (page ≡ sets page₀ at (columns k counts p))
 
 abbrev μ-loop : tie.MeasureT-loop
-μ-loop page₀ at k holds counts p₀ page p = ?
+μ-loop page₀ at k holds counts p₀ page p = k - p
 
 -- src/row.rt:53:5
 loop-holds : tie.Need-loop-holds Inv-loop μ-loop
-loop-holds c = search needs
+loop-holds c =
+    let b = c .before in
+    (search needs, search needs, no-columns (now (b .args .page)) (b .args .at) (b .args .k) (b .args .t4) (b .pre .1 .0))
 
 -- src/row.rt:54:30
 mul-put-count : tie.Need-mul-put-count Inv-loop μ-loop
@@ -53,7 +60,13 @@ loop-less c = search needs
 
 -- src/row.rt:53:5
 loop-again : tie.Need-loop-again Inv-loop μ-loop
-loop-again c = search needs
+loop-again c =
+    let done = c .before .before in
+    let l = done .before .before .before .loop in
+    let b = done .before .before .before .before .before in
+    let a = b .args in
+    let next = next-column (now (a .page)) (a .at) (a .k) (a .t4) (b .pre .1 .0) (l .p) (omega arith) in
+    (search needs, search needs, cc)
 
 -- src/row.rt:57:21
 mul-fill : tie.Need-mul-fill Inv-loop μ-loop
@@ -89,7 +102,18 @@ same-length c = search needs
 
 -- src/row.rt:47:1
 returns : tie.Need-returns Inv-loop μ-loop
-returns c = search needs
+returns c =
+    let done = c .before .before in
+    let blanks = done .before .before .before .before in
+    let l = blanks .before .before .before .loop in
+    let b = blanks .before .before .before .before .before in
+    let a = b .args in
+    let all : l .p ≡ a .k = omega arith in
+    let stands =
+    row-stands (now (a .page)) (a .at) (a .k) (a .t4) (a .holds) (b .pre .1 .0) (b .pre .0) (blanks .fill .last .0)
+    (l .page) (l .inv .2 ∙ ap (λ (n : ℕ). sets (now (a .page)) (a .at) (columns (a .k) (a .t4) n)) all)
+    (blanks .fill .ensures) in
+    done .put-ending .ensures ∙ stands
 
 pub put-row-spec : {M : Type 1} → statement M
 put-row-spec =

@@ -1,0 +1,147 @@
+use native.Mathlib.Omega.{arith}
+use mathlib.Core.Path.{_≡_, refl, sym, ap, _∙_}
+use Prim.Native.Nat.{ℕ, _≤_, _<_, _-_, _+_, _*_}
+use mathlib.Core.List.{List, _++_}
+use lib.ListN.{length, getD, take, drop, set, length-set}
+use mathlib.Core.Logic.{⊎-elim}
+use borrow.Author.Needs.{needs}
+use denote.Ref.{now}
+use lib.Seq.{sets}
+use Rattle.codec.specs.Little.{Bytes}
+use Rattle.frontiers.specs.Bytes.{frontiers}
+use Rattle.records.specs.Record.{processCount, lineTotal, keptCount}
+use Rattle.refusals.specs.FaultLaws.{Good}
+use Rattle.call_page.specs.Page.{rows}
+use Rattle.call_page.specs.PageCode.{pageFault}
+use Rattle.call_page.proofs.PageSteps.{page-turned, page-good, page-written}
+use Rattle.call_page.proofs.write_page.Statement.{statement}
+use Rattle.call_page.proofs.write_page.Tie as tie
+use Rattle.call_page.proofs.write_page.Reads as reads
+use Rattle.call_page.proofs.write_page.Lts as lts
+use Rattle.call_page.proofs.page_fault.Reads as page-fault-reads
+use Rattle.call_page.proofs.put_rows.Reads as put-rows-reads
+use Rattle.records.proofs.fields.kept_count.Reads as kept-count-reads
+use Rattle.records.proofs.fields.line_total.Reads as line-total-reads
+use Rattle.records.proofs.fields.process_count.Reads as process-count-reads
+
+-- ---- Places in the walk: the start, and where nothing turns the call back
+
+abbrev start : tie.After-page-fault → tie.Start
+start c = c .before .before .before .before
+
+-- No number was found: record and window are good, and the page is long enough.
+none : (c : tie.Else1) → let a = start (c .before) .args in
+    pageFault (a .w) (now (a .«record»)) (now (a .window)) (length (now (a .page))) ≡ 0
+none c = sym (c .before .page-fault .ensures) ∙ c .if1 .left
+
+good : (c : tie.Else1) → let a = start (c .before) .args in
+    Good (a .w) (now (a .«record»)) (length (now (a .window)))
+    × (93 * keptCount (now (a .«record»)) ≤ length (now (a .page)))
+good c =
+    let a = start (c .before) .args in
+    page-good (a .w) (now (a .«record»)) (now (a .window)) (now (a .page)) (none c)
+
+-- ---- Needs
+
+-- src/lib.rt:69:9
+page-fault-requires : tie.Need-page-fault-requires
+page-fault-requires c κs = search needs
+
+-- src/lib.rt:71:9
+returns : tie.Need-returns
+returns c =
+    let f = c .before in
+    let a = start f .args in
+    let back =
+    page-turned (a .w) (now (a .«record»)) (now (a .window)) (now (a .page)) _ (f .page-fault .ensures) (c .if1 .taken) in
+    (back .0, back .1)
+
+-- src/lib.rt:73:9
+kept-count-requires : tie.Need-kept-count-requires
+kept-count-requires c κs = omega (arith, good c .0 .record-long)
+
+-- src/lib.rt:74:13
+process-count-requires : tie.Need-process-count-requires
+process-count-requires c κs = omega (arith, good (c .before) .0 .record-long)
+
+-- src/lib.rt:74:13
+cast-k : tie.Need-cast-k
+cast-k c = search needs
+
+-- src/lib.rt:75:31
+cast-put-rows : tie.Need-cast-put-rows
+cast-put-rows c = search needs
+
+-- src/lib.rt:75:49
+line-total-requires : tie.Need-line-total-requires
+line-total-requires c κs = omega (arith, good (c .before .before .before) .0 .record-long)
+
+-- src/lib.rt:75:49
+sub-put-rows : tie.Need-sub-put-rows
+sub-put-rows c = omega (arith, good (c .before .before .before .before) .0 .some-line)
+
+-- src/lib.rt:75:5
+put-rows-requires : tie.Need-put-rows-requires
+put-rows-requires c κs =
+    let e = c .before .before .before .before in
+    let fine = good e .0 in
+    let kept : c .before .before .before .kept-count .result ≡ keptCount (now (start (e .before) .args .«record»)) =
+    c .before .before .before .kept-count .ensures in
+    let within = fine .kept-within in (
+      search needs,
+      (
+        omega (arith, fine .processes),
+        (
+          omega (arith, fine .lines, fine .some-line),
+          (omega (arith, fine .kept), (rw kept within, omega (arith, good e .1))),
+        ),
+      ),
+    )
+
+-- src/lib.rt:76:14
+cast-result : tie.Need-cast-result
+cast-result c = search needs
+
+-- src/lib.rt:76:5
+mul-result : tie.Need-mul-result
+mul-result c = search needs
+
+-- src/lib.rt:62:1
+same-length : tie.Need-same-length
+same-length c = search needs
+
+-- src/lib.rt:62:1
+returns-2 : tie.Need-returns-2
+returns-2 c =
+    let done = c .before .before in
+    let lines = done .before in
+    let processes = lines .before .before in
+    let read = processes .before in
+    let e = read .before in
+    let f = e .before in
+    let a = start f .args in
+    let bytes : Bytes (now (a .window)) = λ i. f .before .before .shared-slice-known2 .given i .fits in
+    let narrow : a .w ≤ 4 = omega (arith, start f .pre .most) in
+    let laid : done .put-rows .last .0 ≡ sets (now (a .page)) 0 (rows (processCount (now (a .«record»)))
+    (lineTotal (now (a .«record»)) - 1) (frontiers (a .w) (now (a .window)) (keptCount (now (a .«record»))))) = cc in
+    let whole =
+    page-written (a .w) (now (a .«record»)) (now (a .window)) (now (a .page)) (none e) bytes narrow _ laid in
+    (ap (λ (n : ℕ). 65536 * n) (read .kept-count .ensures) ∙ whole .0, whole .1)
+
+pub write-page-spec : {M : Type 1} → statement M
+write-page-spec =
+    tie.close
+    (tie.spec
+    page-fault-requires
+    returns
+    kept-count-requires
+    process-count-requires
+    cast-k
+    cast-put-rows
+    line-total-requires
+    sub-put-rows
+    put-rows-requires
+    cast-result
+    mul-result
+    same-length
+    returns-2)
