@@ -6,7 +6,7 @@
 
 #include "model.h"
 
-static uint32_t get_kept(const uint8_t *record) {
+uint32_t get_kept(const uint8_t *record) {
     uint32_t kept_frontiers = 0;
     for (unsigned i = 0; i < 4; i++) kept_frontiers += (uint32_t)record[KEPT_AT + i] << 8 * i;
     return kept_frontiers;

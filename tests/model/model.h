@@ -169,6 +169,10 @@ uint64_t model_close(struct model *m, uint64_t process, uint8_t *record, size_t 
 uint64_t model_move(struct model *m, size_t record_len, size_t window_len, uint8_t *to_record, size_t to_record_len,
                     uint8_t *to_window, size_t to_window_len);
 
+/* Prints the kept frontiers of a watch in the wide form. Writes the rows alone, and those only if it answers their
+ * number. */
+uint64_t model_page(const struct model *m, size_t record_len, size_t window_len, uint8_t *page, size_t page_len);
+
 /* ---- any bytes ---- */
 
 /* The refusal of offer, or AGAIN, or 0: then the event was accepted and is laid down in the record. */
@@ -196,6 +200,12 @@ uint64_t bytes_close(const struct layout *form, uint64_t process, uint8_t *recor
 uint64_t bytes_move(const struct layout *form, const uint8_t *record, size_t record_len, const uint8_t *window,
                     size_t window_len, uint8_t *to_record, size_t to_record_len, uint8_t *to_window,
                     size_t to_window_len);
+
+/* The same page of any bytes in the wide form, which is exact: reply and rows. */
+uint64_t bytes_page(const uint8_t *record, size_t record_len, const uint8_t *window, size_t window_len, uint8_t *page,
+                    size_t page_len);
+
 bool bytes_damaged(const struct layout *form, const uint8_t *record, size_t room); /* 34 */
+uint32_t get_kept(const uint8_t *record); /* all four bytes, whatever they say */
 
 #endif
