@@ -28,6 +28,9 @@ static void try_case(uint64_t seed, uint64_t number) {
     } else if (number % 40 == 21) {
         case_begins(seed, number, "moves");
         try_moves(&s, &one);
+    } else if (number % 40 == 36) {
+        case_begins(seed, number, "pages");
+        try_pages(&s, &one);
     } else if (number % 40 == 31) {
         case_begins(seed, number, "a crowd");
         try_crowd(&s, &one);

@@ -75,6 +75,32 @@ uint64_t call_move(const struct layout *form, const uint8_t *record, size_t reco
 
 #endif
 
+#if defined(OLD_FORM_ALONE) || defined(WITHOUT_PAGE)
+
+bool can_print(const struct layout *form) {
+    (void)form;
+    return false;
+}
+
+uint64_t call_page(const uint8_t *record, size_t record_len, const uint8_t *window, size_t window_len, uint8_t *page,
+                   size_t page_len) {
+    (void)record, (void)record_len, (void)window, (void)window_len, (void)page, (void)page_len;
+    abort();
+}
+
+#else
+
+bool can_print(const struct layout *form) {
+    return form == &wide_form;
+}
+
+uint64_t call_page(const uint8_t *record, size_t record_len, const uint8_t *window, size_t window_len, uint8_t *page,
+                   size_t page_len) {
+    return watch32_page(record, record_len, window, window_len, page, page_len);
+}
+
+#endif
+
 uint64_t call_open(const struct layout *form, const uint8_t *rule, size_t rule_len, uint64_t k, uint64_t labels,
                    uint8_t *record, size_t record_len, uint8_t *window, size_t window_len) {
     return CALL(form, open, (rule, rule_len, k, labels, record, record_len, window, window_len));
@@ -104,7 +130,7 @@ uint64_t call_close(const struct layout *form, uint64_t process, uint8_t *record
 /* ---- what was answered ---- */
 
 static struct {
-    unsigned long number[CALLS][256], nothing_ready, again;
+    unsigned long number[CALLS][256], nothing_ready, again, rows;
 } answers[2];
 static unsigned most_kept;
 
@@ -114,6 +140,7 @@ uint64_t tally(const struct layout *form, enum call call, uint64_t reply) {
     else if (call == OFFER && watch_again(reply)) answers[wide].again++;
     else answers[wide].number[call][watch_number(reply)]++;
     if (call == TAKE && watch_value(reply) > most_kept) most_kept = watch_value(reply);
+    if (call == PAGE) answers[wide].rows += watch_value(reply);
     return reply;
 }
 
@@ -122,16 +149,19 @@ static void print_answers(const char *name, unsigned wide, enum call call) {
     printf("  %-10s accepted %lu", name, number[0]);
     if (call == TAKE) printf(", nothing ready %lu", answers[wide].nothing_ready);
     if (call == OFFER) printf(", again %lu", answers[wide].again);
+    if (call == PAGE) printf(", rows %lu", answers[wide].rows);
     for (unsigned i = 1; i < 256; i++)
         if (number[i] != 0) printf(", %u: %lu", i, number[i]);
     printf("\n");
 }
 
 void print_tally(void) {
-    static const char *const names[2][CALLS] = {{"open", "offer", "take", "find", "close", "widen"},
-                                                {"wide open", "offer", "take", "find", "close", "narrow"}};
-    for (unsigned wide = 0; wide <= both_forms(); wide++)
-        for (unsigned call = 0; call < CALLS; call++)
+    static const char *const names[2][CALLS] = {{"open", "offer", "take", "find", "close", "widen", ""},
+                                                {"wide open", "offer", "take", "find", "close", "narrow", "page"}};
+    for (unsigned wide = 0; wide <= both_forms(); wide++) {
+        for (unsigned call = 0; call < PAGE; call++)
             if (call != MOVE || both_forms()) print_answers(names[wide][call], wide, call);
+        if (can_print(wide ? &wide_form : &narrow_form)) print_answers(names[wide][PAGE], wide, PAGE);
+    }
     printf("  at most %u frontiers kept\n", most_kept);
 }

@@ -1,5 +1,5 @@
 /* The calls of both stored forms under one name each. With OLD_FORM_ALONE, for a library that has the old form's calls
- * only, every case is of that form and nothing is moved. */
+ * only, every case is of that form and nothing is moved. With WITHOUT_PAGE no page is printed. */
 #ifndef FORMS_H
 #define FORMS_H
 
@@ -9,6 +9,7 @@
 const struct layout *random_form(struct source *s);
 const struct layout *other_form(const struct layout *form);
 bool both_forms(void); /* a watch can be moved */
+bool can_print(const struct layout *form); /* a page of it */
 
 /* The words of an event, made by the header's own functions. */
 struct words words_of(const struct layout *form, const struct sent *e);
@@ -31,8 +32,12 @@ uint64_t call_move(const struct layout *form, const uint8_t *record, size_t reco
                    size_t window_len, uint8_t *to_record, size_t to_record_len, uint8_t *to_window,
                    size_t to_window_len);
 
-/* How often each call of each form gave each answer. */
-enum call { OPEN, OFFER, TAKE, FIND, CLOSE, MOVE, CALLS };
+/* Of the wide form. */
+uint64_t call_page(const uint8_t *record, size_t record_len, const uint8_t *window, size_t window_len, uint8_t *page,
+                   size_t page_len);
+
+/* How often each call of each form gave each answer, and how many rows the pages had. */
+enum call { OPEN, OFFER, TAKE, FIND, CLOSE, MOVE, PAGE, CALLS };
 uint64_t tally(const struct layout *form, enum call call, uint64_t reply); /* returns the reply */
 void print_tally(void);
 

@@ -76,6 +76,7 @@ void twin_new(struct twin *t) {
     t->scratch = lent_new(WINDOW_MOST);
     t->to_record = lent_new(2 * RECORD_MOST);
     t->to_window = lent_new(WINDOW_MOST);
+    t->page = lent_new(PAGE_MOST);
 }
 
 void twin_free(struct twin *t) {
@@ -85,6 +86,7 @@ void twin_free(struct twin *t) {
     lent_free(&t->scratch);
     lent_free(&t->to_record);
     lent_free(&t->to_window);
+    lent_free(&t->page);
 }
 
 /* Most buffers end at the forbidden page, some stand at an odd place. */
@@ -210,6 +212,23 @@ uint64_t twin_move(struct twin *t, struct source *s, size_t to_record_length, si
     memcpy(t->record_bytes, to_record, to_record_length);
     memcpy(t->window_bytes, to_window, to_window_length);
     memset(t->window_bytes + to_window_length, 0, WINDOW_MOST - to_window_length);
+    return reply;
+}
+
+/* The model prints the cuts that it knows of; the library has only the bytes. */
+uint64_t twin_page(struct twin *t, struct source *s, size_t page_length) {
+    static uint8_t page[PAGE_MOST];
+    note("page of %zu bytes, window %zu\n", page_length, t->window.length);
+    lend(&t->page, page_length, before_end(s));
+    fill_junk(s, t->page.bytes, page_length);
+    memcpy(page, t->page.bytes, page_length);
+    uint64_t reply = call_page(t->record.bytes, t->record.length, t->window.bytes, t->window.length, t->page.bytes,
+                               page_length);
+    uint64_t expected = model_page(&t->model, t->record.length, t->window_length, page, page_length);
+    compare_replies(tally(t->form, PAGE, reply), expected);
+    compare_watch(t);
+    compare_bytes("page", t->page.bytes, page, page_length);
+    if (!lent_intact(&t->page)) differs("a byte outside the page changed");
     return reply;
 }
 

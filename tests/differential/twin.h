@@ -6,11 +6,12 @@
 #include "forms.h"
 
 enum { RECORD_MOST = 2024, WINDOW_MOST = 56 * (ROOM + 1) }; /* of the wide form, and one frontier more than allowed */
+enum { ROW = 93, PAGE_MOST = ROW * (ROOM + 100) };          /* of a page */
 
 struct twin {
     const struct layout *form;
     struct lent text, record, window, scratch;      /* the library's */
-    struct lent to_record, to_window;               /* and where a move goes */
+    struct lent to_record, to_window, page;         /* and where a move goes, and a page */
     struct model model;
     uint8_t record_bytes[RECORD_MOST], window_bytes[WINDOW_MOST], scratch_bytes[WINDOW_MOST]; /* the model's */
     size_t window_length;
@@ -34,6 +35,9 @@ uint64_t twin_close(struct twin *t, uint64_t process);
 
 /* Into buffers of these lengths. If it is accepted, the twin goes on in the other form. */
 uint64_t twin_move(struct twin *t, struct source *s, size_t to_record_length, size_t to_window_length);
+
+/* Of a watch in the wide form, on a page of this length. */
+uint64_t twin_page(struct twin *t, struct source *s, size_t page_length);
 
 /* The watch just opened stands after so many events of each process. */
 void twin_begin_late(struct twin *t, struct source *s, const unsigned *begin);
@@ -62,6 +66,7 @@ void try_crowd(struct source *s, struct twin *t); /* up to 32 pending */
 void try_damage(struct source *s, struct twin *t);
 void try_orders(struct source *s, struct twin *t, struct twin *other, bool large);
 void try_moves(struct source *s, struct twin *t);
+void try_pages(struct source *s, struct twin *t); /* of the wide form, with counts of every number of digits */
 
 /* Damages a copy of the watch as it stands and tries calls on that. */
 void damage_excursion(struct source *s, const struct twin *t, unsigned calls);
@@ -76,5 +81,11 @@ void damage(struct source *s, const struct laid *d);
 
 /* Moves a copy of the library's bytes as they stand, damaged or not, there and back. */
 void move_excursion(struct source *s, const struct twin *t, bool damaged);
+
+/* A length for a page of so many rows: it is enough, too little by a byte or more, nothing, or far too much. */
+size_t random_page(struct source *s, size_t rows);
+
+/* A page of a copy of the watch, damaged or with junk in it. */
+void page_excursion(struct source *s, const struct twin *t);
 
 #endif

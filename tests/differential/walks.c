@@ -1,6 +1,6 @@
 /* Random calls on one watch: an execution's events in some order, sent again, nearly the same, twisted, with clocks
- * that forget, with numbers that are none; closes anywhere among them, and moves to the other form; windows that are
- * too short and then longer; buffers of wrong lengths. */
+ * that forget, with numbers that are none; closes anywhere among them, moves to the other form, and pages; windows that
+ * are too short and then longer; buffers of wrong lengths. */
 #include <string.h>
 
 #include "twin.h"
@@ -43,6 +43,11 @@ static size_t wrong_window(struct source *s, const struct layout *form, size_t l
     return wrong <= WINDOW_MOST ? wrong : 0;
 }
 
+/* Nothing where there is no page of it. */
+static void print_watch(struct source *s, struct twin *t) {
+    if (can_print(t->form)) twin_page(t, s, random_page(s, get_kept(t->record_bytes)));
+}
+
 /* A call with one buffer of a wrong length, or a window too short for what is kept; then all is lent as before. */
 static void wrong_lengths(struct source *s, struct twin *t) {
     const struct layout *form = t->form;
@@ -61,6 +66,7 @@ static void wrong_lengths(struct source *s, struct twin *t) {
         const struct layout *to = other_form(form);
         size_t to_length = to->frontier * (wrong / form->frontier);
         if (both_forms()) twin_move(t, s, to->record, to_length <= WINDOW_MOST ? to_length : to->frontier);
+        print_watch(s, t);
     }
     if (record_length != form->record) twin_offer(t, random_sent(s, t->model.k, form->most));
     twin_take(t, s, scratch_length);
@@ -166,16 +172,20 @@ static void drain(struct source *s, struct twin *t) {
     }
 }
 
-static void start_watch(struct source *s, struct twin *t, unsigned k, size_t room) {
+static void start_of_form(struct source *s, struct twin *t, const struct layout *form, unsigned k, size_t room) {
     uint8_t text[TEXT_MOST];
     size_t length = random_rule(s, k, chance(s, 80) ? between(s, 1, 24) : between(s, 24, 64), text);
-    t->form = random_form(s);
+    t->form = form;
     size_t window_length = t->form->frontier * room;
     fill_junk(s, t->record_bytes, t->form->record);
     fill_junk(s, t->window_bytes, window_length);
     twin_lend(t, s, t->form->record, window_length);
     twin_open(t, text, length, k, random_labels(s, (1u << k) - 1));
     memset(t->window_bytes + window_length, 0, WINDOW_MOST - window_length);
+}
+
+static void start_watch(struct source *s, struct twin *t, unsigned k, size_t room) {
+    start_of_form(s, t, random_form(s), k, room);
 }
 
 /* One process after the other until none is open, or as far as the pending events let it; then each once more. What
@@ -209,6 +219,7 @@ static void walk(struct source *s, struct twin *t, struct execution *x, unsigned
         else if (action < 88) wrong_lengths(s, t);
         else if (action < 91) damage_excursion(s, t, 3);
         else if (action < 94) move_there_and_back(s, t);
+        else if (action < 96) print_watch(s, t);
         else repeated_offer(s, t, x->event, next);
     }
     drain(s, t);
@@ -217,8 +228,10 @@ static void walk(struct source *s, struct twin *t, struct execution *x, unsigned
     if (chance(s, 35)) close_all(s, t, x);
     random_find(s, t);
     damage_excursion(s, t, 4);
+    print_watch(s, t);
     move_there_and_back(s, t);
     move_excursion(s, t, true);
+    page_excursion(s, t);
 }
 
 /* Where processes are closed, some have nothing more to do after a while: then others go on beside closed ones. */
@@ -322,4 +335,31 @@ void try_moves(struct source *s, struct twin *t) {
         if (chance(s, 10)) move_there_and_back(s, t);
     }
     for (unsigned i = 0; i < 12; i++) move_excursion(s, t, true);
+}
+
+/* Shortly before a count has a digit more. */
+static unsigned before_next_digit(struct source *s) {
+    unsigned next = 10;
+    for (unsigned more = below(s, 9); more > 0; more--) next *= 10;
+    return next - between(s, 1, 4);
+}
+
+/* A page after each step, and of junk at the end. */
+void try_pages(struct source *s, struct twin *t) {
+    struct shape shape = {.k = between(s, 1, 8), .most = 400, .joint = 20};
+    if (!can_print(&wide_form)) return;
+    start_of_form(s, t, &wide_form, shape.k, random_room(s));
+    for (unsigned p = 0; p < shape.k; p++) shape.begin[p] = before_next_digit(s);
+    shape.n = between(s, 1, 12);
+    shape.messages = random_messages(s);
+    if (chance(s, 60)) twin_begin_late(t, s, shape.begin);
+    else memset(shape.begin, 0, sizeof shape.begin);
+    struct execution x = random_execution(s, shape);
+    for (unsigned i = 0; i < x.n; i++) {
+        twin_offer(t, x.event[i]);
+        twin_take(t, s, t->window_length);
+        if (chance(s, 5)) random_close(s, t, &x);
+        print_watch(s, t);
+    }
+    for (unsigned i = 0; i < 12; i++) page_excursion(s, t);
 }
