@@ -74,6 +74,13 @@ static void do_narrow(void) {
                           at_work->record.bytes, at_work->record.length, at_work->window.bytes, at_work->window.length);
 }
 
+static uint8_t page[WATCH32_PAGE_BYTES(WATCH_ROOM)];
+
+static void do_page(void) {
+    answer = watch32_page(wide->record.bytes, wide->record.length, wide->window.bytes, wide->window.length, page,
+                          sizeof page);
+}
+
 /* How deep the call went into the painted stack. */
 static size_t depth(void (*call)(void)) {
     uint8_t *stack = malloc(STACK);
@@ -132,7 +139,11 @@ void test_stack(void) {
     CHECK_REPLY(answer, 0);
     size_t back = used(do_narrow);
     CHECK_REPLY(answer, 0);
-    printf("stack: widen %zu, narrow %zu bytes; the deepest call %zu\n", there, back, deepest_of_all);
+    memcpy(wide->record.bytes + 4, "\0\4\0\0", 4); /* as if all 1,024 places were kept */
+    memset(wide->window.bytes, 255, wide->window.length);
+    size_t rows = used(do_page);
+    CHECK_REPLY(answer, (uint64_t)WATCH_ROOM << 16);
+    printf("stack: widen %zu, narrow %zu, page %zu bytes; the deepest call %zu\n", there, back, rows, deepest_of_all);
     subject_free(&old);
     subject_free(&new);
 }
