@@ -1,6 +1,7 @@
 /* Stands around the calls of the library and writes down each reply and, as the call left them, all bytes that were
  * lent for writing, to the file that RECORDING names. Linked with --wrap for each call: whoever makes the calls knows
- * nothing of it. With OLD_FORM_ALONE the old form's calls only: then the others may be missing. */
+ * nothing of it. With OLD_FORM_ALONE the old form's calls only, with WITHOUT_PAGE all but the page: then the others may
+ * be missing. */
 #include <stdio.h>
 #include <stdlib.h>
 
@@ -127,6 +128,19 @@ uint64_t __wrap_watch_narrow(const uint8_t *record32, size_t record32_len, const
                                          window_len);
     put(record, record_len);
     put(window, window_len);
+    return put_reply(reply);
+}
+
+#endif
+
+#if !defined(OLD_FORM_ALONE) && !defined(WITHOUT_PAGE)
+
+extern __typeof__(watch32_page) __real_watch32_page, __wrap_watch32_page;
+
+uint64_t __wrap_watch32_page(const uint8_t *record, size_t record_len, const uint8_t *window, size_t window_len,
+                             uint8_t *page, size_t page_len) {
+    uint64_t reply = __real_watch32_page(record, record_len, window, window_len, page, page_len);
+    put(page, page_len);
     return put_reply(reply);
 }
 
