@@ -18,7 +18,7 @@
 
 enum { ROUNDS = 301, WINDOW = WATCH32_FRONTIER_BYTES * WATCH_ROOM };
 
-/* One side: its calls, its watch, where a move of it goes, and a digest of its replies. */
+/* One side: its calls, its watch, where a move of it goes, its page, and a digest of its replies. */
 struct side {
     uint64_t (*open)(const uint8_t *, size_t, uint64_t, uint64_t, uint8_t *, size_t, uint8_t *, size_t);
     uint64_t (*offer)(uint64_t, uint64_t, uint64_t, uint64_t, uint8_t *, size_t);
@@ -27,8 +27,10 @@ struct side {
     uint64_t (*find)(uint64_t, const uint8_t *, size_t, const uint8_t *, size_t);
     uint64_t (*close)(uint64_t, uint8_t *, size_t, uint8_t *, size_t);
     uint64_t (*move)(const uint8_t *, size_t, const uint8_t *, size_t, uint8_t *, size_t, uint8_t *, size_t);
+    uint64_t (*page)(const uint8_t *, size_t, const uint8_t *, size_t, uint8_t *, size_t);
     uint8_t record[WATCH32_RECORD_BYTES], window[WINDOW], scratch[WINDOW];
     uint8_t to_record[WATCH32_RECORD_BYTES], to_window[WINDOW];
+    uint8_t rows[WATCH32_PAGE_BYTES(WATCH_ROOM)];
     uint64_t digest;
     double times[ROUNDS];
 };
@@ -57,6 +59,7 @@ static void choose_form(bool wide) {
     proved.find = wide ? watch32_find : watch_find, plain.find = wide ? plain32_find : plain_find;
     proved.close = wide ? watch32_close : watch_close, plain.close = wide ? plain32_close : plain_close;
     proved.move = wide ? watch_narrow : watch_widen, plain.move = wide ? plain32_move : plain_move;
+    proved.page = watch32_page, plain.page = plain32_page;
 }
 
 /* The bytes of so many frontiers. */
@@ -136,7 +139,8 @@ static void compare_sides(const char *name) {
         memcmp(proved.window, plain.window, saved.length) == 0 &&
         memcmp(proved.scratch, plain.scratch, saved.length) == 0 &&
         memcmp(proved.to_record, plain.to_record, sizeof plain.to_record) == 0 &&
-        memcmp(proved.to_window, plain.to_window, sizeof plain.to_window) == 0)
+        memcmp(proved.to_window, plain.to_window, sizeof plain.to_window) == 0 &&
+        memcmp(proved.rows, plain.rows, sizeof plain.rows) == 0)
         return;
     printf("the two sides differ after: %s\n", name);
     exit(1);
@@ -408,6 +412,40 @@ static void moves(void) {
     }
 }
 
+/* ---- pages ---- */
+
+static void one_page(struct side *s) {
+    seen(s, s->page(s->record, saved.record_length, s->window, saved.length, s->rows, sizeof s->rows));
+}
+
+static void lay_count(uint8_t *at, uint32_t number) {
+    for (unsigned i = 0; i < 4; i++) at[i] = (uint8_t)(number >> 8 * i);
+}
+
+/* A full window of eight processes, in ascending order, with counts from these on. They are laid down, since no stream
+ * of events is long enough; a page goes by the bytes alone. */
+static void fill_counts(const uint32_t *least) {
+    saved.k = 8, saved.rule = RULE_8, saved.length = room_for(WATCH_ROOM);
+    start_over(&plain);
+    open_watch(&plain);
+    lay_count(plain.record + 4, WATCH_ROOM);
+    for (unsigned i = 0; i < WATCH_ROOM; i++) {
+        uint8_t *frontier = plain.window + room_for(i);
+        for (unsigned p = 0; p < 8; p++) lay_count(frontier + 4 * p, least[p] + (i >> (7 - p) & 7));
+        frontier[48] = i % 3 == 0 ? 255 : 0;
+    }
+    save(&plain);
+}
+
+static void pages(void) {
+    choose_form(true);
+    fill_counts((const uint32_t[8]){4000000000, 1000000000, 2147483644, 3999999996, 1234567890, 4294967288, 1999999998,
+                                    3141592653});
+    measure("page, 8 processes, counts of ten digits", one_page, 1, ROUNDS);
+    fill_counts((const uint32_t[8]){1, 20, 300, 0, 42, 512, 2, 95});
+    measure("page, 8 processes, counts of one to three digits", one_page, 1, ROUNDS);
+}
+
 /* The dearest lines of each kind. */
 static void wide_form(void) {
     choose_form(true);
@@ -446,5 +484,6 @@ int main(void) {
     closes();
     wide_form();
     moves();
+    pages();
     return 0;
 }

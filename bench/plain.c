@@ -32,6 +32,11 @@ static bool damaged(const uint8_t *record, size_t room) {
     return false;
 }
 
+unsigned PLAIN(refused)(const uint8_t *record, size_t record_len, size_t window_len) {
+    if (record_len != RECORD || wrong_window(window_len)) return 6;
+    return damaged(record, window_len / FRONTIER) ? 34 : 0;
+}
+
 /* ---- pending events ---- */
 
 static bool ready(const uint8_t *event, const struct counts *taken) {
@@ -175,8 +180,8 @@ uint64_t PLAIN(take)(uint8_t *record, size_t record_len, uint8_t *window, size_t
 }
 
 uint64_t PLAIN(find)(uint64_t line, const uint8_t *record, size_t record_len, const uint8_t *window, size_t window_len) {
-    if (record_len != RECORD || wrong_window(window_len)) return 6;
-    if (damaged(record, window_len / FRONTIER)) return 34;
+    unsigned number = PLAIN(refused)(record, record_len, window_len);
+    if (number != 0) return number;
     if (line >= record[1]) return 11;
     uint32_t kept = load_kept(record);
     for (uint32_t i = 0; i < kept; i++)
@@ -199,8 +204,8 @@ static uint32_t drop(const uint8_t *record, uint8_t *window, uint32_t kept) {
 }
 
 uint64_t PLAIN(close)(uint64_t process, uint8_t *record, size_t record_len, uint8_t *window, size_t window_len) {
-    if (record_len != RECORD || wrong_window(window_len)) return 6;
-    if (damaged(record, window_len / FRONTIER)) return 34;
+    unsigned number = PLAIN(refused)(record, record_len, window_len);
+    if (number != 0) return number;
     if (process >= record[0] || record[CLOSED_AT] >> process & 1) return 41;
     for (unsigned i = 0; i < record[2]; i++)
         if (record[PENDING_AT + EVENT * i] >> process & 1) return 42;

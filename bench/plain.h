@@ -31,4 +31,7 @@ uint64_t plain_move(const uint8_t *record, size_t record_len, const uint8_t *win
 uint64_t plain32_move(const uint8_t *record, size_t record_len, const uint8_t *window, size_t window_len,
                       uint8_t *to_record, size_t to_record_len, uint8_t *to_window, size_t to_window_len);
 
+uint64_t plain32_page(const uint8_t *record, size_t record_len, const uint8_t *window, size_t window_len,
+                      uint8_t *page, size_t page_len);
+
 #endif

@@ -1,0 +1,31 @@
+/* The page in plain C. It is of the wide form alone. */
+#define COUNT_BYTES 4
+#include "plain_inner.h"
+
+enum { COLUMN = 11, ROW = PROCESSES * COLUMN + 5 };
+
+/* Digits from the right; what is left of the column stays blank. */
+static inline void put_count(uint8_t *end, uint32_t number) {
+    do {
+        *--end = (uint8_t)('0' + number % 10);
+        number /= 10;
+    } while (number != 0);
+}
+
+uint64_t plain32_page(const uint8_t *record, size_t record_len, const uint8_t *window, size_t window_len,
+                      uint8_t *page, size_t page_len) {
+    unsigned number = plain32_refused(record, record_len, window_len);
+    if (number != 0) return number;
+    unsigned k = record[0], rule = record[1] - 1u;
+    uint32_t kept = load_kept(record);
+    if (page_len < (size_t)ROW * kept) return 44;
+    for (uint32_t i = 0; i < kept; i++) {
+        const uint8_t *frontier = window + FRONTIER * i;
+        uint8_t *row = page + ROW * i;
+        struct counts c = load(frontier);
+        memset(row, ' ', PROCESSES * COLUMN);
+        for (unsigned p = 0; p < k; p++) put_count(row + COLUMN * (p + 1), c.at[p]);
+        memcpy(row + PROCESSES * COLUMN, load_word(frontier + VALUES_AT) >> rule & 1 ? " yes\n" : " no \n", 5);
+    }
+    return (uint64_t)kept << 16;
+}
