@@ -21,7 +21,7 @@ use Rattle.codec.specs.PutLaws.{number-lt}
 use Rattle.frontiers.specs.declared.Frontier.{Frontier}
 use Rattle.frontiers.specs.Bytes.{frontierLength, frontierFrom, frontierAt, frontiers}
 use Rattle.frontiers.specs.WindowLaws.{frontiers-more}
-use Rattle.call_page.specs.PageCode.{TenDigits}
+use Rattle.call_page.specs.PageCode.{TenDigits, ending}
 use Rattle.call_page.specs.Page.{aligned, column, columns, word, row, rows}
 
 -- ---- A column
@@ -59,7 +59,12 @@ length-columns k counts (suc p) ten =
     rw (length-append (columns k counts p) (column k counts p))
     (omega (arith, length-columns k counts p ten, length-column k counts p ten))
 
-pub length-word : (truth : Bool) → length (word truth) ≡ 3
+pub length-ending : (truth : Bool) → length (ending truth) ≡ 5
+unfolding ending word
+length-ending true = refl
+length-ending false = refl
+
+length-word : (truth : Bool) → length (word truth) ≡ 3
 unfolding word
 length-word true = refl
 length-word false = refl
