@@ -25,7 +25,7 @@ use Rattle.call_page.specs.RowLaws.{few-digits, length-rows}
 use Rattle.call_page.specs.ColumnLaws.{column-says, column-blank}
 use Rattle.call_page.specs.PlaceLaws.{column-there, ending-there}
 
-not-both : (m n : ℕ) → refused m ≡ gives n → ⊥
+pub not-both : (m n : ℕ) → refused m ≡ gives n → ⊥
 not-both m n e = let z : _≡_ {A = ℕ} 0 1 = cc in omega arith
 
 -- ---- The ways it goes

@@ -11,7 +11,9 @@ pub mod TakeCases
 pub mod TakeAnswers
 pub mod WindowExact
 pub mod OrderIndependent
+pub mod Looked
 pub mod Find
+pub mod Page
 pub mod WithoutAgains
 pub mod Again
 pub mod Messages

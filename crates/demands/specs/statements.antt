@@ -8,5 +8,6 @@ pub mod Again
 pub mod Messages
 pub mod Earlier
 pub mod Close
+pub mod Page
 pub mod Moves
 pub mod BothForms

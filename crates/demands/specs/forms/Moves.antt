@@ -26,6 +26,7 @@ use Rattle.demands.specs.calls.WatchingLaws.{never-34}
 use Rattle.demands.specs.lists.WindowExact.{window-exact-of}
 use Rattle.demands.specs.lists.TakeAnswers.{take-exact-of}
 use Rattle.demands.specs.lists.Find.{find-exact-of}
+use Rattle.demands.specs.lists.Page.{page-shows-of}
 use Rattle.demands.specs.lists.Close.{close-exact-of}
 use Rattle.demands.specs.lists.Dropped.{stays-dropped-of}
 use Rattle.demands.specs.lists.Again.{again-exact-of}
@@ -177,6 +178,7 @@ exact-of w k f start Z S = record {
   window = window-exact-of w k f start Z S;
   takes = take-exact-of w k f start Z S;
   finds = find-exact-of w k f start Z S;
+  pages = page-shows-of w k f start Z S;
   closes = close-exact-of w k f start Z S;
   dropped = stays-dropped-of w k f start Z S;
   agains = again-exact-of w k f start Z S;

@@ -37,6 +37,7 @@ use Rattle.demands.specs.calls.OfferLaws.{offered-faultless}
 use Rattle.demands.specs.calls.WatchingLaws.{bytes-long, says-processes, says-closed, says-pending, never-34}
 use Rattle.demands.specs.lists.Again.{is-closed}
 use Rattle.demands.specs.lists.SoundRun.{Sound, every-list}
+use Rattle.demands.specs.lists.Looked.{right-record, good-state}
 
 module _ (w k : ℕ) (f : Formula) (start : Cut) (Z : Watch) (S : Sound w k f start Z) where
   abbrev table : List Line
@@ -58,17 +59,6 @@ module _ (w k : ℕ) (f : Formula) (start : Cut) (Z : Watch) (S : Sound w k f st
   named-here : (p : ℕ) → namedBy p (pendingEvents w (Z .bytes)) ≡ namedBy p (L .pending)
   named-here p = rw (says-pending w k table start (S .rule) L (Z .bytes) (Z .window) (S .right))
 
-  long : badRecordLength w (length (Z .bytes)) ≡ false
-  unfolding badRecordLength
-  long =
-      rw (eq-eqb (length (Z .bytes)) (recordLength w)
-      (bytes-long w k table start (S .rule) L (Z .bytes) (Z .window) (S .right)))
-
-  good : badState w (roomOf w (length (Z .window))) (Z .bytes) ≡ false
-  good =
-      never-34 w k table start (S .rule) L (Z .bytes) (Z .window) (S .right) (roomOf w (length (Z .window)))
-      (room-iff w (length (S .right .kept)) (length (Z .window)) .1 (S .right .room))
-
   -- ---- What it comes to
   data Answered (p : ℕ) : Type 0 where
     barred : answer p ≡ turnedBack 41 0 → (k ≤ p) ⊎ (bit (L .closed) p ≡ true) → Answered p
@@ -81,7 +71,7 @@ module _ (w k : ℕ) (f : Formula) (start : Cut) (Z : Watch) (S : Sound w k f st
 
   wrong : badWindowLength w (length (Z .window)) ≡ true → (p : ℕ) → nextClose w Z p ≡ back 6
   unfolding closeCall back
-  wrong h p = rw (long, h)
+  wrong h p = rw (right-record w k f start Z S, h)
 
   six : badWindowLength w (length (Z .window)) ≡ true → (p : ℕ) → answer p ≡ turnedBack 6 0
   unfolding back
@@ -92,7 +82,7 @@ module _ (w k : ℕ) (f : Formula) (start : Cut) (Z : Watch) (S : Sound w k f st
       ≡ cond (notOpen k (L .closed) p) (back 41)
       (cond (namedBy p (L .pending)) (back 42) (closeProcess w p (Z .bytes) (Z .window)))
   unfolding closeCall back
-  judged h p = rw (long, h, good, not-open-here p, named-here p)
+  judged h p = rw (right-record w k f start Z S, h, good-state w k f start Z S, not-open-here p, named-here p)
 
   answered : RightWindow w Z → (p : ℕ) → Answered p
   unfolding back notOpen namedBy

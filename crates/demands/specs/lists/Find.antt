@@ -37,6 +37,7 @@ use Rattle.demands.specs.calls.WatchingLaws.{bytes-long, says-lines, say
 use Rattle.demands.specs.calls.AfterCall.{room-iff}
 use Rattle.call_find.specs.FindLaws.{Finding, finding, first, nowhere}
 use Rattle.demands.specs.lists.SoundRun.{Sound, every-list}
+use Rattle.demands.specs.lists.Looked.{right-record, good-state, lines-read, kept-read, line-read}
 
 -- ---- The first cut is one
 first-unique : (has : Property) (cuts : List Cut) (i j : ℕ) → FirstAt has cuts i → FirstAt has cuts j → i ≡ j
@@ -142,30 +143,6 @@ module _ (w k : ℕ) (f : Formula) (start : Cut) (Z : Watch) (S : Sound w k f st
   abbrev frontier : Cut → Frontier
   frontier = frontierOf (worldOf k 0 table start) ts
 
-  long : badRecordLength w (length (Z .bytes)) ≡ false
-  unfolding badRecordLength
-  long =
-      let n = bytes-long w k table start (S .rule) (Z .ledger) (Z .bytes) (Z .window) (S .right) in
-      rw (eq-eqb (length (Z .bytes)) (recordLength w) n)
-
-  good : badState w (roomOf w (length (Z .window))) (Z .bytes) ≡ false
-  good =
-      let fits = room-iff w (length (S .right .kept)) (length (Z .window)) .1 (S .right .room) in
-      let room = roomOf w (length (Z .window)) in
-      never-34 w k table start (S .rule) (Z .ledger) (Z .bytes) (Z .window) (S .right) room fits
-
-  lines : lineTotal (Z .bytes) ≡ length table
-  lines = says-lines w k table start (S .rule) (Z .ledger) (Z .bytes) (Z .window) (S .right)
-
-  read : frontiers w (Z .window) (keptCount (Z .bytes)) ≡ S .right .kept
-  read =
-      ap (λ (s : List ℕ). frontiers w s (keptCount (Z .bytes))) (S .right .window-is)
-      ∙ says-frontiers w k table start (S .rule) (Z .ledger) (Z .bytes) (Z .window) (S .right) (length (Z .window))
-
-  says : (line : ℕ) → line < length table → (C : Cut) → bit (frontier C .values) line ≡ lineOf k f start Z line C
-  unfolding frontierOf
-  says line l C = bit-wordOf (length table) (λ j. lineTruth (modelOf (worldOf k 0 table start) ts) table j C) line l
-
   abbrev cuts : List Cut
   cuts = S .right .represents .cuts
 
@@ -175,29 +152,30 @@ module _ (w k : ℕ) (f : Formula) (start : Cut) (Z : Watch) (S : Sound w k f st
   -- the three ways it goes
   six : badWindowLength w (length (Z .window)) ≡ true → (line : ℕ) → answer line ≡ turnedBack 6 0
   unfolding findCall
-  six h line = rw (long, h)
+  six h line = rw (right-record w k f start Z S, h)
 
   pub searched : badWindowLength w (length (Z .window)) ≡ false → (line : ℕ)
       → findCall w line (Z .bytes) (Z .window)
       ≡ answered line (Z .bytes) (frontiers w (Z .window) (keptCount (Z .bytes)))
   unfolding findCall
-  searched h line = rw (long, h, good) refl
+  searched h line = rw (right-record w k f start Z S, h, good-state w k f start Z S) refl
 
   eleven : badWindowLength w (length (Z .window)) ≡ false → (line : ℕ) → length table ≤ line
       → answer line ≡ turnedBack 11 0
-  eleven h line l = searched h line ∙ rw (lines, le-leb (length table) line l) refl
+  eleven h line l = searched h line ∙ rw (lines-read w k f start Z S, le-leb (length table) line l) refl
 
   looks : badWindowLength w (length (Z .window)) ≡ false → (line : ℕ) → line < length table
       → answer line ≡ findFrom line 0 (map frontier cuts)
   unfolding frontierOf
   looks h line l =
       searched h line
-      ∙ rw (lines, lt-leb (length table) line l) (ap (findFrom line 0) (read ∙ S .right .represents .are))
+      ∙ rw (lines-read w k f start Z S, lt-leb (length table) line l)
+      (ap (findFrom line 0) (kept-read w k f start Z S))
 
   looks-somewhere : badWindowLength w (length (Z .window)) ≡ false → (line : ℕ) → line < length table → (n : ℕ)
       → answer line ≢ turnedBack n 0
   looks-somewhere h line l n q =
-      no-refusal line frontier (lineOf k f start Z line) (says line l) cuts n (sym (looks h line l) ∙ q)
+      no-refusal line frontier (lineOf k f start Z line) (line-read w k f start Z S line l) cuts n (sym (looks h line l) ∙ q)
 
   other : (line n : ℕ) → badWindowLength w (length (Z .window)) ≡ false → answer line ≡ turnedBack n 0 → n ≡ 11
   other line n h q = go (leb (length table) line) refl
@@ -211,12 +189,12 @@ module _ (w k : ℕ) (f : Formula) (start : Cut) (Z : Watch) (S : Sound w k f st
   find-exact-of = record {
     cuts = cuts;
     cuts-are = represented-cuts k (Z .ledger .closed) ts table start (S .right .kept) (S .right .represents);
-    in-window = read ∙ S .right .represents .are;
+    in-window = kept-read w k f start Z S;
     wrong-length = λ line. ((λ q. is-wrong line q (badWindowLength w (length (Z .window))) refl), λ h. six h line);
     no-line = λ h line. ((λ q. too-far h line q (leb (length table) line) refl), eleven h line);
     first = λ h line l i.
-        rw (looks h line l) (first-exactly line frontier (lineOf k f start Z line) (says line l) cuts i);
-    none = λ h line l. rw (looks h line l) (none-exactly line frontier (lineOf k f start Z line) (says line l) cuts);
+        rw (looks h line l) (first-exactly line frontier (lineOf k f start Z line) (line-read w k f start Z S line l) cuts i);
+    none = λ h line l. rw (looks h line l) (none-exactly line frontier (lineOf k f start Z line) (line-read w k f start Z S line l) cuts);
     never-34 = λ line q. not-34 line q (badWindowLength w (length (Z .window))) refl;
   }
     where

@@ -1,5 +1,5 @@
--- Watches in either form (02 [6]): all that is stated of the end of a list of calls is true of every watch that calls
--- and moves alone wrote, and so is what the next move answers. Proved in forms/Moves.
+-- Watches in either form (02 [6]): all that is stated of the watch at the end of a list of calls is true of every one
+-- that calls and moves alone wrote, and so is what the next move answers. Proved in forms/Moves.
 use Prim.Native.Nat.{ℕ, _^_, _<_}
 use mathlib.Core.Path.{_≡_}
 use mathlib.Core.Bool.{false}
@@ -22,6 +22,7 @@ use Rattle.demands.specs.Written.{Written, movedTo, OfEveryWatch}
 use Rattle.demands.specs.statements.WindowExact.{WindowExact}
 use Rattle.demands.specs.statements.TakeAnswers.{TakeExact}
 use Rattle.demands.specs.statements.Find.{FindExact}
+use Rattle.demands.specs.statements.Page.{PageShows}
 use Rattle.demands.specs.statements.Close.{CloseExact, StaysDropped}
 use Rattle.demands.specs.statements.Again.{AgainExact}
 use Rattle.demands.specs.statements.Messages.{MessagesExact}
@@ -66,6 +67,7 @@ pub record WatchExact (w k : ℕ) (f : Formula) (start : Cut) (Z : Watch) : Type
   pub window : WindowExact w k f start Z
   pub takes : TakeExact w k f start Z
   pub finds : FindExact w k f start Z
+  pub pages : PageShows w k f start Z
   pub closes : CloseExact w k f start Z
   pub dropped : StaysDropped w k f start Z
   pub agains : AgainExact w k f start Z
