@@ -1,15 +1,11 @@
 -- A count's digits, laid over blanks from the right: what one turn of the loop adds.
 use Prim.Native.Nat.{ℕ, zero, suc, _+_, _-_, _/_, _%_, _^_, _≤_, _<_}
 use native.Mathlib.Omega.{arith}
-use native.Mathlib.Nat.{pow-zero, pow-suc}
-use native.Mathlib.Numerals.{add-one}
+use native.Mathlib.Nat.{pow-suc}
 use mathlib.Core.Path.{_≡_, refl, sym, ap, _∙_}
-use mathlib.Core.Bool.{Bool, true, false}
-use mathlib.Core.List.{List, [], _∷_, _++_, append-assoc, append-nil}
-use lib.Dec.{ltb}
-use lib.ListN.{length, getD, take, drop, set, replicate, length-append, length-replicate, take-append-drop, drop-of-length-le, replicate-append-replicate}
+use mathlib.Core.List.{List, [], _∷_, _++_, append-assoc}
+use lib.ListN.{length, getD, take, drop, set, replicate, length-append, length-replicate, take-append-drop, drop-of-length-le}
 use lib.Seq.{sets, take-all, take-suc, take-at, drop-at, drop-cons, length-take-le}
-use borrow.Author.Tests.{ltb-true, ltb-false}
 use Rattle.codec.specs.Decimal.{numeralOf, numeral}
 use Rattle.codec.specs.DecimalLaws.{one-digit, more-digits, shorter, length-numeral}
 use Rattle.codec.specs.SetsLaws.{set-within, sets-sets}
@@ -27,7 +23,8 @@ last-digit j rest l =
     rw (more-digits j rest l, length-append text one, same)
     (sym (append-assoc (replicate (j - length text) 32) text one))
 
-only-digit : (j rest : ℕ) → rest < 10 → aligned (suc j) (numeralOf (suc j) rest) ≡ replicate j 32 ++ ((48 + rest % 10) ∷ [])
+only-digit : (j rest : ℕ) → rest < 10
+    → aligned (suc j) (numeralOf (suc j) rest) ≡ replicate j 32 ++ ((48 + rest % 10) ∷ [])
 unfolding aligned
 only-digit j rest l =
     let digit : rest % 10 ≡ rest = omega arith in

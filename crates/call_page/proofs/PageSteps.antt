@@ -32,7 +32,8 @@ module _ (w : ℕ) (s window : List ℕ) (n : ℕ) where
   abbrev last : ℕ
   last = cond (shortPage (keptCount s) n) 44 0
 
-  pub page-faulted : (fault : ℕ) → fault ≡ watchFault w s (length window) → (fault ≡ 0 → ⊥) → fault ≡ pageFault w s window n
+  pub page-faulted : (fault : ℕ) → fault ≡ watchFault w s (length window) → (fault ≡ 0 → ⊥)
+      → fault ≡ pageFault w s window n
   unfolding pageFault
   page-faulted fault e some = e ∙ fault-first w s (length window) last (λ z. some (e ∙ z))
 
@@ -114,7 +115,8 @@ module _ (w : ℕ) (s window page : List ℕ) where
       )
 
   pub page-written : fault ≡ 0 → Bytes window → w ≤ 4 → (written : List ℕ) → written ≡ sets page 0 text
-      → (65536 * keptCount s ≡ resultWord (pageCall w s window page .answer)) × (written ≡ pageCall w s window page .page)
+      → (65536 * keptCount s ≡ resultWord (pageCall w s window page .answer))
+      × (written ≡ pageCall w s window page .page)
   unfolding whole resultWord
   page-written h b narrow written e =
       let done : pageCall w s window page ≡ whole = page-by ∙ rw (eq-eqb fault 0 h) in

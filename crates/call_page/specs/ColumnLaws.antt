@@ -1,14 +1,13 @@
 -- What a column says, read back.
-use Prim.Native.Nat.{ℕ, zero, suc, _+_, _-_, _*_, _^_, _≤_, _<_}
+use Prim.Native.Nat.{ℕ, zero, suc, _+_, _-_, _^_, _≤_, _<_}
 use native.Mathlib.Omega.{arith}
-use native.Mathlib.Decide.{decLt}
-use mathlib.Core.Path.{_≡_, refl, sym, ap, _∙_}
-use mathlib.Core.Bool.{Bool, true, false, cond, _&&_}
+use mathlib.Core.Path.{_≡_, refl, ap, _∙_}
+use mathlib.Core.Bool.{Bool, true, false, cond}
 use mathlib.Core.List.{List, [], _∷_, _++_}
-use lib.Dec.{ltb, leb, eqb}
-use lib.ListN.{length, getD, replicate, List·getD-append, length-replicate, getD-replicate}
-use borrow.Author.Tests.{lt-ltb, le-ltb, ne-eqb, eq-eqb, leb-true}
-use Rattle.codec.specs.Decimal.{numeralOf, numeral, isDigit, digits, value}
+use lib.Dec.{leb, eqb}
+use lib.ListN.{length, getD, replicate}
+use borrow.Author.Tests.{lt-ltb, le-ltb, ne-eqb, leb-true}
+use Rattle.codec.specs.Decimal.{numeral, isDigit, digits}
 use Rattle.codec.specs.DecimalLaws.{digits-numeral, value-numeral, some-digit, no-leading-zero}
 use Rattle.clocks.specs.Counts.{at}
 use Rattle.clocks.specs.stored.BoundedLaws.{and-true}
@@ -61,7 +60,8 @@ count-says c l =
 
 -- ---- By its process
 
-pub column-says : (k : ℕ) (counts : List ℕ) (p : ℕ) → p < k → at counts p < 10 ^ 10 → Says (column k counts p) (at counts p)
+pub column-says : (k : ℕ) (counts : List ℕ) (p : ℕ) → p < k → at counts p < 10 ^ 10
+    → Says (column k counts p) (at counts p)
 unfolding column
 column-says k counts p l small = rw (lt-ltb p k l) (count-says (at counts p) small)
 

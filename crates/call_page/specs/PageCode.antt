@@ -1,4 +1,5 @@
--- What the code of a page keeps to: counts that have a place in a column, a row's last bytes, and the number that the call is turned back with.
+-- What the code of a page keeps to: counts that have a place in a column, a row's last bytes, and the number that the
+-- call is turned back with.
 use Prim.Native.Nat.{ℕ, _^_, _<_}
 use mathlib.Core.Bool.{Bool, cond, _||_}
 use mathlib.Core.List.{List, [], _∷_, _++_}

@@ -1,17 +1,15 @@
 -- A page, by the tests that decide its answer: what is true of every one.
-use Prim.Native.Nat.{ℕ, _+_, _-_, _*_, _/_, _%_, _≤_, _<_}
+use Prim.Native.Nat.{ℕ, _+_, _-_, _*_, _≤_, _<_}
 use native.Mathlib.Omega.{arith}
-use mathlib.Core.Path.{_≡_, refl, sym, ap, _∙_}
+use mathlib.Core.Path.{_≡_, refl, sym, _∙_}
 use mathlib.Core.Bool.{Bool, true, false, cond, _||_}
 use mathlib.Core.List.{List, [], _∷_, _++_}
-use lib.Dec.{eqb, lit<}
+use lib.Dec.{lit<}
 use lib.ListN.{length, drop, length-append, length-drop}
 use lib.Seq.{drop-at}
 use borrow.Author.Tests.{ltb-false}
 use Rattle.codec.specs.Ascii.{ascii}
 use Rattle.codec.specs.Bit.{bit}
-use Rattle.codec.specs.Little.{Bytes}
-use Rattle.clocks.specs.Counts.{at}
 use Rattle.frontiers.specs.Bytes.{frontierAt, frontiers}
 use Rattle.records.specs.Record.{processCount, lineTotal, keptCount}
 use Rattle.refusals.specs.Refusals.{badRecordLength, badWindowLength, roomOf, badState}
@@ -20,7 +18,7 @@ use Rattle.answers.specs.Result.{Result, refused, gives, resultWord}
 use Rattle.answers.specs.Turns.{by-test}
 use Rattle.call_page.specs.Page.{word, rows, shortPage, Paged, pageCall}
 use Rattle.call_page.specs.PageCode.{ending}
-use Rattle.call_page.specs.PageExact.{RowSays, Printed, PageIsExact, RefusedWritesNothing, Told, PageTells}
+use Rattle.call_page.specs.PageExact.{Printed, PageIsExact, RefusedWritesNothing, Told, PageTells}
 use Rattle.call_page.specs.RowLaws.{few-digits, length-rows}
 use Rattle.call_page.specs.ColumnLaws.{column-says, column-blank}
 use Rattle.call_page.specs.PlaceLaws.{column-there, ending-there}
@@ -70,7 +68,8 @@ page-exact w narrow s window page b n q = go (the-way w s window page)
         count = λ p k.
             rw (
               written,
-              column-there w window b narrow (processCount s) (lineTotal s - 1) (keptCount s) i l rest p (omega (arith, few)),
+              column-there w window b narrow (processCount s) (lineTotal s - 1) (keptCount s) i l rest p
+                  (omega (arith, few)),
             ) (column-says (processCount s) (frontierAt w window i .counts) p k (few-digits w window b narrow i p));
         blank = λ p k m.
             rw written
@@ -81,7 +80,9 @@ page-exact w narrow s window page b n q = go (the-way w s window page)
             (ending-there w window b narrow (processCount s) (lineTotal s - 1) (keptCount s) i l rest
             ∙ ending-is (bit (frontierAt w window i .values) (lineTotal s - 1)));
       };
-      same-length = rw written (length-append (text w s window page) rest ∙ rw (long, length-drop (93 * keptCount s) page) (omega arith));
+      same-length =
+          rw written (length-append (text w s window page) rest
+          ∙ rw (long, length-drop (93 * keptCount s) page) (omega arith));
       rest-stays = rw written (drop-at (text w s window page) rest (93 * keptCount s) long);
     }
       where

@@ -3,7 +3,6 @@ use Prim.Native.Nat.{ℕ, zero, suc, _+_, _-_, _*_, _≤_, _<_}
 use native.Mathlib.Omega.{arith}
 use native.Mathlib.Nat.{add-zero, add-suc}
 use mathlib.Core.Path.{_≡_, refl, sym, ap, _∙_}
-use mathlib.Core.Bool.{Bool, true, false, cond}
 use mathlib.Core.List.{List, [], _∷_, _++_, append-assoc, append-nil}
 use lib.ListN.{length, take, drop, length-append}
 use lib.Seq.{take-at, drop-at}
@@ -27,7 +26,11 @@ pub record Part (text part : List ℕ) (place : ℕ) : Type 0 where
 pub part-taken : (text part : List ℕ) (place n : ℕ) → Part text part place → length part ≡ n
     → take n (drop place text) ≡ part
 part-taken text part place n P long =
-    rw (P .text-is, append-assoc (P .before) part (P .behind), drop-at (P .before) (part ++ P .behind) place (P .place-is))
+    rw (
+      P .text-is,
+      append-assoc (P .before) part (P .behind),
+      drop-at (P .before) (part ++ P .behind) place (P .place-is),
+    )
     (take-at part (P .behind) n long)
 
 -- A part of a part, and of a text with more behind it.

@@ -13,8 +13,7 @@ use Rattle.codec.specs.Ascii.{ascii}
 use Rattle.codec.specs.Bit.{bit}
 use Rattle.codec.specs.Decimal.{numeralOf, numeral}
 use Rattle.codec.specs.DecimalLaws.{length-numeral, enough-digits}
-use Rattle.clocks.specs.Counts.{at}
-use Rattle.clocks.specs.Counts.{listOf}
+use Rattle.clocks.specs.Counts.{at, listOf}
 use Rattle.clocks.specs.stored.CountsLaws.{at-listOf, at-beyond, length-listOf}
 use Rattle.codec.specs.Little.{Bytes, number}
 use Rattle.codec.specs.PutLaws.{number-lt}
@@ -119,7 +118,8 @@ rows-more w s k line n =
 
 module _ (w : ℕ) (s : List ℕ) (b : Bytes s) (narrow : w ≤ 4) (k line : ℕ) where
   pub length-rowAt : (i : ℕ) → length (rowAt w s k line i) ≡ 93
-  length-rowAt i = length-row k (frontierAt w s i .counts) (bit (frontierAt w s i .values) line) (few-digits w s b narrow i)
+  length-rowAt i =
+      length-row k (frontierAt w s i .counts) (bit (frontierAt w s i .values) line) (few-digits w s b narrow i)
 
   pub length-rows : (n : ℕ) → length (rows k line (frontiers w s n)) ≡ 93 * n
   unfolding rows frontiers listOf

@@ -3,7 +3,7 @@ use Prim.Native.Nat.{ℕ, zero, suc, _+_, _-_, _*_, _/_, _%_, _^_, _≤_, _<_}
 use native.Mathlib.Omega.{arith}
 use native.Mathlib.Nat.{pow-suc, pow-zero, suc-add}
 use mathlib.Core.Path.{_≡_, refl, sym, ap, _∙_}
-use mathlib.Core.Bool.{Bool, true, false, cond}
+use mathlib.Core.Bool.{Bool, true, false}
 use mathlib.Core.List.{List, [], _∷_, _++_}
 use mathlib.Core.Logic.{_≢_}
 use lib.Dec.{ltb}
@@ -42,7 +42,8 @@ unfolding numeralOf
 length-numeral zero n = omega arith
 length-numeral (suc most) n =
     by-size (λ s. length s ≤ suc most) most n (λ l. omega arith)
-    (λ l. rw (length-append (numeralOf most (n / 10)) ((48 + n % 10) ∷ [])) (omega (arith, length-numeral most (n / 10))))
+    (λ l. rw (length-append (numeralOf most (n / 10)) ((48 + n % 10) ∷ []))
+    (omega (arith, length-numeral most (n / 10))))
 
 -- Where there is a digit for each that the number has, more make no difference.
 pub enough-digits : (most more n : ℕ) → n < 10 ^ suc most → numeralOf (suc (most + more)) n ≡ numeralOf (suc most) n

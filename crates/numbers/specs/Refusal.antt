@@ -1,4 +1,5 @@
--- The refusals' numbers (01, Turned back; 02 [5]: 41, 42; [6]: 43; [7]: 44). Each one's condition is a definition, named beside it.
+-- The refusals' numbers (01, Turned back; 02 [5]: 41, 42; [6]: 43; [7]: 44). Each one's condition is a definition,
+-- named beside it.
 use Prim.Native.Nat.{ℕ}
 
 -- ---- From the input

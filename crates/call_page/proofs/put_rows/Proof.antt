@@ -1,9 +1,9 @@
+-- Before frontier i the rows below i stand there: the law `next-row`.
+use Rattle.call_page.proofs.put_rows.Tie as tie
 use native.Mathlib.Omega.{arith}
-use mathlib.Core.Path.{_≡_, refl, sym, ap, _∙_}
-use Prim.Native.Nat.{ℕ, _≤_, _<_, _-_, _+_, _*_}
-use mathlib.Core.List.{List, _++_}
-use lib.ListN.{length, getD, take, drop, set, length-set}
-use mathlib.Core.Logic.{⊎-elim}
+use mathlib.Core.Path.{_≡_}
+use Prim.Native.Nat.{_≤_, _-_}
+use lib.ListN.{length}
 use borrow.Author.Needs.{needs}
 use denote.Ref.{now}
 use lib.Seq.{sets}
@@ -14,13 +14,6 @@ use Rattle.call_page.proofs.PageSteps.{no-row, next-row}
 use Rattle.frontiers.specs.BytesLaws.{count-within}
 use Rattle.call_page.specs.Page.{rows}
 use Rattle.call_page.proofs.put_rows.Statement.{statement}
-use Rattle.call_page.proofs.put_rows.Tie as tie
-use Rattle.call_page.proofs.put_rows.Reads as reads
-use Rattle.call_page.proofs.put_rows.Lts as lts
-use Rattle.call_page.proofs.row.put_row.Reads as put-row-reads
-use Rattle.codec.proofs.has_bit.Reads as has-bit-reads
-use Rattle.frontiers.proofs.stored.counts_at.Reads as counts-at-reads
-use Rattle.frontiers.proofs.stored.values_at.Reads as values-at-reads
 
 abbrev Inv-loop : tie.InvT-loop
 Inv-loop page₀ w window kept k line i₀ page i =
@@ -36,13 +29,11 @@ bytes c i = c .shared-slice-known .given i .fits
 narrow : (c : tie.After-shared-slice-known Inv-loop μ-loop) → c .before .before .args .w ≤ 4
 narrow c = omega (arith, c .before .before .pre .0)
 
--- src/lib.rt:38:5
 loop-holds : tie.Need-loop-holds Inv-loop μ-loop
 loop-holds c =
     let a = c .before .before .args in
     (search needs, search needs, no-row (now (a .page)) (a .w) (now (a .window)) (bytes c) (narrow c) (a .k) (a .line))
 
--- src/lib.rt:39:13
 counts-at-requires : tie.Need-counts-at-requires Inv-loop μ-loop
 counts-at-requires c κs =
     let l = c .before .loop in
@@ -50,7 +41,6 @@ counts-at-requires c κs =
     let within = count-within (l .i) (b .args .kept) (frontierLength (b .args .w)) (omega arith) in
     (search needs, (omega arith, omega (arith, within)))
 
--- src/lib.rt:40:36
 values-at-requires : tie.Need-values-at-requires Inv-loop μ-loop
 values-at-requires c κs =
     let l = c .before .before .loop in
@@ -58,15 +48,12 @@ values-at-requires c κs =
     let within = count-within (l .i) (b .args .kept) (frontierLength (b .args .w)) (omega arith) in
     (search needs, (omega arith, omega (arith, within)))
 
--- src/lib.rt:40:13
 has-bit-requires : tie.Need-has-bit-requires Inv-loop μ-loop
 has-bit-requires c κs = search needs
 
--- src/lib.rt:41:23
 mul-put-row : tie.Need-mul-put-row Inv-loop μ-loop
 mul-put-row c = search needs
 
--- src/lib.rt:41:9
 put-row-requires : tie.Need-put-row-requires Inv-loop μ-loop
 put-row-requires c κs =
     let read = c .before .before .before in
@@ -76,15 +63,12 @@ put-row-requires c κs =
     let ten = few-digits (a .w) (now (a .window)) (bytes k) (narrow k) (l .i) in
     (search needs, ((λ p. rw (read .counts-at .ensures) (ten p)), omega arith))
 
--- src/lib.rt:42:13
 add-i : tie.Need-add-i Inv-loop μ-loop
 add-i c = search needs
 
--- src/lib.rt:38:5
 loop-less : tie.Need-loop-less Inv-loop μ-loop
 loop-less c = search needs
 
--- src/lib.rt:38:5
 loop-again : tie.Need-loop-again Inv-loop μ-loop
 loop-again c =
     let done = c .before .before in
@@ -100,11 +84,9 @@ loop-again c =
     (done .put-row .ensures) in
     (search needs, search needs, more)
 
--- src/lib.rt:27:1
 same-length : tie.Need-same-length Inv-loop μ-loop
 same-length c = search needs
 
--- src/lib.rt:27:1
 returns : tie.Need-returns Inv-loop μ-loop
 returns c =
     let l = c .before .loop in

@@ -1,9 +1,9 @@
+-- A number turns the call back; else the rows are written: the laws `page-turned` and `page-written`.
+use Rattle.call_page.proofs.write_page.Tie as tie
 use native.Mathlib.Omega.{arith}
-use mathlib.Core.Path.{_≡_, refl, sym, ap, _∙_}
-use Prim.Native.Nat.{ℕ, _≤_, _<_, _-_, _+_, _*_}
-use mathlib.Core.List.{List, _++_}
-use lib.ListN.{length, getD, take, drop, set, length-set}
-use mathlib.Core.Logic.{⊎-elim}
+use mathlib.Core.Path.{_≡_, sym, ap, _∙_}
+use Prim.Native.Nat.{ℕ, _≤_, _-_, _*_}
+use lib.ListN.{length}
 use borrow.Author.Needs.{needs}
 use denote.Ref.{now}
 use lib.Seq.{sets}
@@ -15,14 +15,6 @@ use Rattle.call_page.specs.Page.{rows}
 use Rattle.call_page.specs.PageCode.{pageFault}
 use Rattle.call_page.proofs.PageSteps.{page-turned, page-good, page-written}
 use Rattle.call_page.proofs.write_page.Statement.{statement}
-use Rattle.call_page.proofs.write_page.Tie as tie
-use Rattle.call_page.proofs.write_page.Reads as reads
-use Rattle.call_page.proofs.write_page.Lts as lts
-use Rattle.call_page.proofs.page_fault.Reads as page-fault-reads
-use Rattle.call_page.proofs.put_rows.Reads as put-rows-reads
-use Rattle.records.proofs.fields.kept_count.Reads as kept-count-reads
-use Rattle.records.proofs.fields.line_total.Reads as line-total-reads
-use Rattle.records.proofs.fields.process_count.Reads as process-count-reads
 
 -- ---- Places in the walk: the start, and where nothing turns the call back
 
@@ -43,44 +35,36 @@ good c =
 
 -- ---- Needs
 
--- src/lib.rt:69:9
 page-fault-requires : tie.Need-page-fault-requires
 page-fault-requires c κs = search needs
 
--- src/lib.rt:71:9
 returns : tie.Need-returns
 returns c =
     let f = c .before in
     let a = start f .args in
     let back =
-    page-turned (a .w) (now (a .«record»)) (now (a .window)) (now (a .page)) _ (f .page-fault .ensures) (c .if1 .taken) in
+    page-turned (a .w) (now (a .«record»)) (now (a .window)) (now (a .page)) _ (f .page-fault .ensures)
+    (c .if1 .taken) in
     (back .0, back .1)
 
--- src/lib.rt:73:9
 kept-count-requires : tie.Need-kept-count-requires
 kept-count-requires c κs = omega (arith, good c .0 .record-long)
 
--- src/lib.rt:74:13
 process-count-requires : tie.Need-process-count-requires
 process-count-requires c κs = omega (arith, good (c .before) .0 .record-long)
 
--- src/lib.rt:74:13
 cast-k : tie.Need-cast-k
 cast-k c = search needs
 
--- src/lib.rt:75:31
 cast-put-rows : tie.Need-cast-put-rows
 cast-put-rows c = search needs
 
--- src/lib.rt:75:49
 line-total-requires : tie.Need-line-total-requires
 line-total-requires c κs = omega (arith, good (c .before .before .before) .0 .record-long)
 
--- src/lib.rt:75:49
 sub-put-rows : tie.Need-sub-put-rows
 sub-put-rows c = omega (arith, good (c .before .before .before .before) .0 .some-line)
 
--- src/lib.rt:75:5
 put-rows-requires : tie.Need-put-rows-requires
 put-rows-requires c κs =
     let e = c .before .before .before .before in
@@ -98,19 +82,15 @@ put-rows-requires c κs =
       ),
     )
 
--- src/lib.rt:76:14
 cast-result : tie.Need-cast-result
 cast-result c = search needs
 
--- src/lib.rt:76:5
 mul-result : tie.Need-mul-result
 mul-result c = search needs
 
--- src/lib.rt:62:1
 same-length : tie.Need-same-length
 same-length c = search needs
 
--- src/lib.rt:62:1
 returns-2 : tie.Need-returns-2
 returns-2 c =
     let done = c .before .before in

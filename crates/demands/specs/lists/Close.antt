@@ -8,7 +8,7 @@ use mathlib.Core.Logic.{_⊎_, inl, inr, _↔_, _≢_}
 use lib.Dec.{T, leb}
 use lib.ListN.{length}
 use lib.Pow.{pow-mono}
-use borrow.Author.Tests.{eq-eqb, leb-true, leb-false}
+use borrow.Author.Tests.{leb-true, leb-false}
 use Rattle.codec.specs.Bit.{bit}
 use Rattle.codec.specs.BitLaws.{bit-or, bit-power}
 use Rattle.pactl.specs.declared.Line.{Line}
@@ -20,8 +20,8 @@ use Rattle.clocks.specs.stored.BoundedLaws.{and-true, or-e, or-false-e, any-e, 
 use Rattle.clocks.specs.stored.RefusalLaws.{mask-fine}
 use Rattle.rules.specs.Formula.{Formula}
 use Rattle.rules.specs.Line.{linesAt}
-use Rattle.records.specs.Record.{recordLength, processCount, closedMask, pendingEvents}
-use Rattle.refusals.specs.Refusals.{badRecordLength, badWindowLength, roomOf, badState, notOpen, namedBy, namesClosed}
+use Rattle.records.specs.Record.{processCount, closedMask, pendingEvents}
+use Rattle.refusals.specs.Refusals.{badWindowLength, notOpen, namedBy, namesClosed}
 use Rattle.answers.specs.Answer.{Answer, turnedBack, processClosed}
 use Rattle.call_close.specs.Close.{Closed, closing, closeProcess, closeCall}
 use Rattle.call_offer.specs.Offer.{offeredEvent, offerCall}
@@ -30,11 +30,10 @@ use Rattle.demands.specs.Ledger.{Ledger}
 use Rattle.demands.specs.Run.{offers, closes, Passed, Watch, closedLedger, after}
 use Rattle.demands.specs.World.{Open, KeptNumber}
 use Rattle.demands.specs.statements.Close.{nextClose, RightWindow, Named, closedWith, NamesClosed, CloseExact, CloseIsExact}
-use Rattle.demands.specs.calls.AfterCall.{room-iff}
 use Rattle.demands.specs.calls.CloseLaws.{gs, closed-are, closed-represents, still-open, other-open}
 use Rattle.demands.specs.calls.KeptCutsLaws.{number-unique, represented-number}
 use Rattle.demands.specs.calls.OfferLaws.{offered-faultless}
-use Rattle.demands.specs.calls.WatchingLaws.{bytes-long, says-processes, says-closed, says-pending, never-34}
+use Rattle.demands.specs.calls.WatchingLaws.{says-processes, says-closed, says-pending, never-34}
 use Rattle.demands.specs.lists.Again.{is-closed}
 use Rattle.demands.specs.lists.SoundRun.{Sound, every-list}
 use Rattle.demands.specs.lists.Looked.{right-record, good-state}

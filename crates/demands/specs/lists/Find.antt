@@ -9,7 +9,7 @@ use mathlib.Core.Logic.{_⊎_, ⊎-elim, _↔_, _≢_}
 use lib.Dec.{leb}
 use lib.ListN.{length, getD, take, drop, length-map}
 use lib.Seq.{split-at, length-take-le}
-use borrow.Author.Tests.{eq-eqb, le-leb, lt-leb, leb-true, leb-false}
+use borrow.Author.Tests.{le-leb, lt-leb, leb-true, leb-false}
 use Rattle.frontiers.specs.declared.Frontier.{Frontier}
 use Rattle.pactl.specs.declared.Line.{Line}
 use Rattle.clocks.specs.declared.Event.{Event}
@@ -17,14 +17,13 @@ use Rattle.codec.specs.Bit.{bit}
 use Rattle.frontiers.specs.Bytes.{frontiers}
 use Rattle.frontiers.specs.ListLaws.{place-member, member-place}
 use Rattle.window.specs.Lists.{getD-mapped}
-use Rattle.window_laws.specs.FrontierLaws.{bit-wordOf}
-use Rattle.window_laws.specs.Represents.{modelOf, frontierOf}
+use Rattle.window_laws.specs.Represents.{frontierOf}
 use Rattle.rules.specs.Line.{linesAt}
 use Rattle.rules.specs.Formula.{Formula}
-use Rattle.pactl.specs.Truth.{Property, lineTruth}
+use Rattle.pactl.specs.Truth.{Property}
 use Rattle.clocks.specs.Event.{Cut}
-use Rattle.records.specs.Record.{keptCount, lineTotal, recordLength}
-use Rattle.refusals.specs.Refusals.{badRecordLength, badWindowLength, badState, roomOf}
+use Rattle.records.specs.Record.{keptCount, lineTotal}
+use Rattle.refusals.specs.Refusals.{badWindowLength}
 use Rattle.answers.specs.Answer.{Answer, turnedBack, found, absent}
 use Rattle.numbers.specs.Refusal.{noLineNumber}
 use Rattle.call_find.specs.Find.{findFrom, findCall}
@@ -33,8 +32,7 @@ use Rattle.demands.specs.World.{worldOf}
 use Rattle.demands.specs.statements.Find.{FirstAt, lineOf, FindExact, FindIsExact}
 use Rattle.demands.specs.calls.ListPlaces.{member-take, which-first}
 use Rattle.demands.specs.calls.KeptCutsLaws.{represented-cuts}
-use Rattle.demands.specs.calls.WatchingLaws.{bytes-long, says-lines, says-frontiers, never-34}
-use Rattle.demands.specs.calls.AfterCall.{room-iff}
+use Rattle.demands.specs.calls.WatchingLaws.{never-34}
 use Rattle.call_find.specs.FindLaws.{Finding, finding, first, nowhere}
 use Rattle.demands.specs.lists.SoundRun.{Sound, every-list}
 use Rattle.demands.specs.lists.Looked.{right-record, good-state, lines-read, kept-read, line-read}
@@ -143,6 +141,9 @@ module _ (w k : ℕ) (f : Formula) (start : Cut) (Z : Watch) (S : Sound w k f st
   abbrev frontier : Cut → Frontier
   frontier = frontierOf (worldOf k 0 table start) ts
 
+  says : (line : ℕ) → line < length table → (C : Cut) → bit (frontier C .values) line ≡ lineOf k f start Z line C
+  says = line-read w k f start Z S
+
   abbrev cuts : List Cut
   cuts = S .right .represents .cuts
 
@@ -175,7 +176,7 @@ module _ (w k : ℕ) (f : Formula) (start : Cut) (Z : Watch) (S : Sound w k f st
   looks-somewhere : badWindowLength w (length (Z .window)) ≡ false → (line : ℕ) → line < length table → (n : ℕ)
       → answer line ≢ turnedBack n 0
   looks-somewhere h line l n q =
-      no-refusal line frontier (lineOf k f start Z line) (line-read w k f start Z S line l) cuts n (sym (looks h line l) ∙ q)
+      no-refusal line frontier (lineOf k f start Z line) (says line l) cuts n (sym (looks h line l) ∙ q)
 
   other : (line n : ℕ) → badWindowLength w (length (Z .window)) ≡ false → answer line ≡ turnedBack n 0 → n ≡ 11
   other line n h q = go (leb (length table) line) refl
@@ -193,8 +194,8 @@ module _ (w k : ℕ) (f : Formula) (start : Cut) (Z : Watch) (S : Sound w k f st
     wrong-length = λ line. ((λ q. is-wrong line q (badWindowLength w (length (Z .window))) refl), λ h. six h line);
     no-line = λ h line. ((λ q. too-far h line q (leb (length table) line) refl), eleven h line);
     first = λ h line l i.
-        rw (looks h line l) (first-exactly line frontier (lineOf k f start Z line) (line-read w k f start Z S line l) cuts i);
-    none = λ h line l. rw (looks h line l) (none-exactly line frontier (lineOf k f start Z line) (line-read w k f start Z S line l) cuts);
+        rw (looks h line l) (first-exactly line frontier (lineOf k f start Z line) (says line l) cuts i);
+    none = λ h line l. rw (looks h line l) (none-exactly line frontier (lineOf k f start Z line) (says line l) cuts);
     never-34 = λ line q. not-34 line q (badWindowLength w (length (Z .window))) refl;
   }
     where

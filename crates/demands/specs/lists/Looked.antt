@@ -7,7 +7,6 @@ use mathlib.Core.List.{List, map}
 use lib.ListN.{length}
 use borrow.Author.Tests.{eq-eqb}
 use Rattle.codec.specs.Bit.{bit}
-use Rattle.frontiers.specs.declared.Frontier.{Frontier}
 use Rattle.frontiers.specs.Bytes.{frontiers}
 use Rattle.window_laws.specs.FrontierLaws.{bit-wordOf}
 use Rattle.window_laws.specs.Represents.{modelOf, frontierOf}

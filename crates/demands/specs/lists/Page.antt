@@ -1,14 +1,13 @@
 -- A page after a list of calls: the window's frontiers are those of the kept cuts, and the bit of the last line is the
 -- rule's truth.
-use Prim.Native.Nat.{ℕ, suc, _-_, _*_, _≤_, _<_}
+use Prim.Native.Nat.{ℕ, _-_, _*_, _≤_, _<_}
 use native.Mathlib.Omega.{arith}
 use mathlib.Core.Path.{_≡_, refl, sym, ap, _∙_}
 use mathlib.Core.Bool.{Bool, true, false, cond, true≢false}
 use mathlib.Core.List.{List, [], _∷_, _++_, map}
-use mathlib.Core.Logic.{_↔_}
 use lib.Dec.{ltb}
 use lib.ListN.{length, getD, drop, length-append, length-map}
-use borrow.Author.Tests.{lt-ltb, le-ltb, ltb-true, ltb-false}
+use borrow.Author.Tests.{ltb-true, ltb-false}
 use Rattle.codec.specs.Bit.{bit}
 use Rattle.codec.specs.Little.{Bytes}
 use Rattle.clocks.specs.Counts.{at}
@@ -196,7 +195,8 @@ module _ (w k : ℕ) (f : Formula) (start : Cut) (Z : Watch) (S : Sound w k f st
       other : (m n : ℕ) → refused m ≡ refused n → m ≡ n
       other m n e = cc
 
-      wrong-there : (page : List ℕ) → Case page → answer page ≡ refused 6 → badWindowLength w (length (Z .window)) ≡ true
+      wrong-there : (page : List ℕ) → Case page → answer page ≡ refused 6
+          → badWindowLength w (length (Z .window)) ≡ true
       wrong-there page (wrong h a) q = h
       wrong-there page (short h l a) q = absurd (omega (arith, other 44 6 (sym a ∙ q)))
       wrong-there page (whole h l a) q = absurd (not-both 6 (length cuts) (sym q ∙ a))

@@ -1,5 +1,5 @@
--- What a page after a list of calls answers and shows (02 [7]): a row for each kept cut, in the window's order, with its
--- counts and PaCTL's truth of the rule there. Proved in lists/Page.
+-- What a page after a list of calls answers and shows (02 [7]): a row for each kept cut, in the window's order, with
+-- its counts and PaCTL's truth of the rule there. Proved in lists/Page.
 use Prim.Native.Nat.{ℕ, _*_, _≤_, _<_}
 use mathlib.Core.Path.{_≡_}
 use mathlib.Core.Bool.{true, false}
@@ -38,8 +38,8 @@ pub record PageShows (w k : ℕ) (f : Formula) (start : Cut) (Z : Watch) : Type 
   pub printed : badWindowLength w (length (Z .window)) ≡ false → (page : List ℕ) (n : ℕ)
       → (nextPage w Z page .answer ≡ gives n) ↔ ((n ≡ length cuts) × (rowLength * length cuts ≤ length page))
   pub never-34 : (page : List ℕ) → nextPage w Z page .answer ≢ refused stateNumber
-  -- the row with i rows before it is that of the cut with i cuts before it, for counts of up to four bytes: it shows the
-  -- cut's counts, and of the rule PaCTL's truth there
+  -- the row with i rows before it is that of the cut with i cuts before it, for counts of up to four bytes: it shows
+  -- the cut's counts, and of the rule PaCTL's truth there
   pub each-row : w ≤ 4 → (page : List ℕ) (n : ℕ) → nextPage w Z page .answer ≡ gives n
       → (before : List Cut) (S : Cut) (behind : List Cut) → cuts ≡ before ++ (S ∷ behind)
       → RowSays k S (holds (modelAfter k f start (Z .ledger .history)) (meaning f) S) (nextPage w Z page .page)

@@ -1,39 +1,26 @@
-use native.Mathlib.Omega.{arith}
-use mathlib.Core.Path.{_≡_, refl, sym, ap, _∙_}
-use Prim.Native.Nat.{ℕ, _≤_, _<_, _-_, _+_, _*_}
-use mathlib.Core.List.{List, _++_}
-use lib.ListN.{length, getD, take, drop, set, length-set}
-use mathlib.Core.Logic.{⊎-elim}
+-- Five bytes, by whether the rule holds.
+use Rattle.call_page.proofs.row.put_ending.Tie as tie
+use Prim.Native.Nat.{_-_}
 use Rattle.call_page.proofs.RowSteps.{ending-yes, ending-no}
 use borrow.Author.Needs.{needs}
 use denote.Ref.{now}
 use Rattle.call_page.proofs.row.put_ending.Statement.{statement}
-use Rattle.call_page.proofs.row.put_ending.Tie as tie
-use Rattle.call_page.proofs.row.put_ending.Reads as reads
-use Rattle.call_page.proofs.row.put_ending.Lts as lts
-use Rattle.frontiers.proofs.moving.copy_in.Reads as copy-in-reads
 
--- src/row.rt:40:27
 slice-aggregate-copy-in : tie.Need-slice-aggregate-copy-in
 slice-aggregate-copy-in c = search needs
 
--- src/row.rt:40:9
 copy-in-requires : tie.Need-copy-in-requires
 copy-in-requires c κs = search needs
 
--- src/row.rt:42:27
 slice-aggregate-copy-in-2 : tie.Need-slice-aggregate-copy-in-2
 slice-aggregate-copy-in-2 c = search needs
 
--- src/row.rt:42:9
 copy-in-requires-2 : tie.Need-copy-in-requires-2
 copy-in-requires-2 c κs = search needs
 
--- src/row.rt:35:1
 same-length : tie.Need-same-length
 same-length c = search needs
 
--- src/row.rt:35:1
 returns : tie.Need-returns
 returns c =
     let done = c .before .before in
@@ -41,11 +28,9 @@ returns c =
     let a = test .before .before .args in
     ending-yes (now (a .page)) _ (a .at) (a .holds) (test .if1 .taken) (done .copy-in .ensures)
 
--- src/row.rt:35:1
 same-length-2 : tie.Need-same-length-2
 same-length-2 c = search needs
 
--- src/row.rt:35:1
 returns-2 : tie.Need-returns-2
 returns-2 c =
     let done = c .before .before in

@@ -1,21 +1,15 @@
+-- Before process p the columns below p stand there: the law `next-column`. The blanks and the ending go behind them.
+use Rattle.call_page.proofs.row.put_row.Tie as tie
 use native.Mathlib.Omega.{arith}
-use mathlib.Core.Path.{_≡_, refl, sym, ap, _∙_}
-use Prim.Native.Nat.{ℕ, _≤_, _<_, _-_, _+_, _*_}
-use mathlib.Core.List.{List, _++_}
-use lib.ListN.{length, getD, take, drop, set, length-set}
-use mathlib.Core.Logic.{⊎-elim}
+use mathlib.Core.Path.{_≡_, ap, _∙_}
+use Prim.Native.Nat.{ℕ, _≤_, _-_}
+use lib.ListN.{length}
 use borrow.Author.Needs.{needs}
 use denote.Ref.{now}
 use lib.Seq.{sets}
 use Rattle.call_page.specs.Page.{columns}
 use Rattle.call_page.proofs.RowSteps.{no-columns, next-column, row-stands}
 use Rattle.call_page.proofs.row.put_row.Statement.{statement}
-use Rattle.call_page.proofs.row.put_row.Tie as tie
-use Rattle.call_page.proofs.row.put_row.Reads as reads
-use Rattle.call_page.proofs.row.put_row.Lts as lts
-use Rattle.call_page.proofs.row.put_count.Reads as put-count-reads
-use Rattle.call_page.proofs.row.put_ending.Reads as put-ending-reads
-use Rattle.frontiers.proofs.moving.fill.Reads as fill-reads
 
 abbrev Inv-loop : tie.InvT-loop
 Inv-loop page₀ at k holds counts p₀ page p =
@@ -24,41 +18,33 @@ Inv-loop page₀ at k holds counts p₀ page p =
 abbrev μ-loop : tie.MeasureT-loop
 μ-loop page₀ at k holds counts p₀ page p = k - p
 
--- src/row.rt:53:5
 loop-holds : tie.Need-loop-holds Inv-loop μ-loop
 loop-holds c =
     let b = c .before in
-    (search needs, search needs, no-columns (now (b .args .page)) (b .args .at) (b .args .k) (b .args .t4) (b .pre .1 .0))
+    let none = no-columns (now (b .args .page)) (b .args .at) (b .args .k) (b .args .t4) (b .pre .1 .0) in
+    (search needs, search needs, none)
 
--- src/row.rt:54:30
 mul-put-count : tie.Need-mul-put-count Inv-loop μ-loop
 mul-put-count c = search needs
 
--- src/row.rt:54:25
 add-put-count : tie.Need-add-put-count Inv-loop μ-loop
 add-put-count c = search needs
 
--- src/row.rt:54:38
 mul-put-count-2 : tie.Need-mul-put-count-2 Inv-loop μ-loop
 mul-put-count-2 c = search needs
 
--- src/row.rt:54:38
 array-read-put-count : tie.Need-array-read-put-count Inv-loop μ-loop
 array-read-put-count c = search needs
 
--- src/row.rt:54:9
 put-count-requires : tie.Need-put-count-requires Inv-loop μ-loop
 put-count-requires c κs = search needs
 
--- src/row.rt:55:13
 add-p : tie.Need-add-p Inv-loop μ-loop
 add-p c = search needs
 
--- src/row.rt:53:5
 loop-less : tie.Need-loop-less Inv-loop μ-loop
 loop-less c = search needs
 
--- src/row.rt:53:5
 loop-again : tie.Need-loop-again Inv-loop μ-loop
 loop-again c =
     let done = c .before .before in
@@ -68,39 +54,30 @@ loop-again c =
     let next = next-column (now (a .page)) (a .at) (a .k) (a .t4) (b .pre .1 .0) (l .p) (omega arith) in
     (search needs, search needs, cc)
 
--- src/row.rt:57:21
 mul-fill : tie.Need-mul-fill Inv-loop μ-loop
 mul-fill c = search needs
 
--- src/row.rt:57:16
 add-fill : tie.Need-add-fill Inv-loop μ-loop
 add-fill c = search needs
 
--- src/row.rt:57:35
 sub-fill : tie.Need-sub-fill Inv-loop μ-loop
 sub-fill c = search needs
 
--- src/row.rt:57:29
 mul-fill-2 : tie.Need-mul-fill-2 Inv-loop μ-loop
 mul-fill-2 c = search needs
 
--- src/row.rt:57:5
 fill-requires : tie.Need-fill-requires Inv-loop μ-loop
 fill-requires c κs = search needs
 
--- src/row.rt:58:22
 add-put-ending : tie.Need-add-put-ending Inv-loop μ-loop
 add-put-ending c = search needs
 
--- src/row.rt:58:5
 put-ending-requires : tie.Need-put-ending-requires Inv-loop μ-loop
 put-ending-requires c κs = search needs
 
--- src/row.rt:47:1
 same-length : tie.Need-same-length Inv-loop μ-loop
 same-length c = search needs
 
--- src/row.rt:47:1
 returns : tie.Need-returns Inv-loop μ-loop
 returns c =
     let done = c .before .before in
