@@ -4,12 +4,16 @@
 
 enum { COLUMN = 11, ROW = PROCESSES * COLUMN + 5 };
 
-/* Digits from the right; what is left of the column stays blank. */
+static const char pairs[] = "00010203040506070809101112131415161718192021222324"
+                            "25262728293031323334353637383940414243444546474849"
+                            "50515253545556575859606162636465666768697071727374"
+                            "75767778798081828384858687888990919293949596979899";
+
+/* Two digits at a time from the right; what is left of the column stays blank. */
 static inline void put_count(uint8_t *end, uint32_t number) {
-    do {
-        *--end = (uint8_t)('0' + number % 10);
-        number /= 10;
-    } while (number != 0);
+    for (; number >= 100; number /= 100) end -= 2, memcpy(end, pairs + 2 * (number % 100), 2);
+    if (number >= 10) memcpy(end - 2, pairs + 2 * number, 2);
+    else end[-1] = (uint8_t)('0' + number);
 }
 
 uint64_t plain32_page(const uint8_t *record, size_t record_len, const uint8_t *window, size_t window_len,

@@ -185,13 +185,14 @@ uint64_t watch_narrow(const uint8_t *record32, size_t record32_len, const uint8_
                       uint8_t *record, size_t record_len, uint8_t *window, size_t window_len);
 
 /* Prints the kept frontiers, a row for each, in the window's order (since 0.8.0). A row is 92 characters of ASCII and a
- * line feed: for each of eight processes a column of 11 characters, with its count in decimal digits to the right and
- * blanks before it, all blanks where the watch has no such process; then a blank, and "yes" or "no " for the rule there.
- * A count has at most ten digits, so a blank stands before each.
+ * line feed: for each of eight processes a column of 11 characters, its count in decimal digits at the right and blanks
+ * before it, all blanks where the watch has no such process; then a blank, and "yes" or "no " for the rule there. 0 is
+ * "0", and no other count begins with a 0; none has more than ten digits, so each column begins with a blank. A closed
+ * process keeps its column. A watch of 16 bits is widened first.
  * Accepted: value is the number of rows, which is watch_kept. Writes the rows at the page's start, 93 bytes for each,
- * and no other byte: what stands behind them stays. No 0 ends the text.
- * Refused, in this order: 6 record or window, 34, 44 a page shorter than WATCH32_PAGE_BYTES(watch_kept(record)). A
- * longer one is fine. Writes nothing then. */
+ * and no other byte: what stands behind them stays, and no 0 ends the text.
+ * Refused, in this order: 6 record or window, 34, 44 a page shorter than WATCH32_PAGE_BYTES(watch_kept(record)). Writes
+ * nothing then. A longer page is fine. */
 uint64_t watch32_page(const uint8_t *record, size_t record_len, const uint8_t *window, size_t window_len,
                       uint8_t *page, size_t page_len);
 
