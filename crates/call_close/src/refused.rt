@@ -1,17 +1,12 @@
 // What a close is turned back for (02 [5]: 41, 42; 01, Turned back: 6, 34).
 
-use numbers::refusal::LENGTH;
 use numbers::refusal::NAMED;
 use numbers::refusal::NOT_OPEN;
-use numbers::refusal::STATE;
 use records::fields::closed_mask;
 use records::fields::pending_count;
 use records::fields::pending_place;
 use records::fields::process_count;
-use refusals::bad_record_length;
-use refusals::bad_state;
-use refusals::bad_window_length;
-use refusals::room_of;
+use refusals::watch_fault;
 ghost use Prim.Native.Nat.{_≤_, _<_};
 ghost use mathlib.Core.Path.{_≡_};
 ghost use lib.ListN.{length};
@@ -56,14 +51,9 @@ pub fn close_fault(w: usize, process: u64, record: &[u8], n: usize) -> u64
     requires { ⌜ Width w ⌝ }
     ensures { λ r. ⌜ r ≡ closeFault w process (now («record» .entry)) n ⌝ }
 {
-    if bad_record_length(w, record.len()) {
-        return LENGTH;
-    }
-    if bad_window_length(w, n) {
-        return LENGTH;
-    }
-    if bad_state(record, w, room_of(w, n)) {
-        return STATE;
+    let fault = watch_fault(w, record, n);
+    if fault != 0 {
+        return fault;
     }
     if not_open(process_count(record), closed_mask(record), process) {
         return NOT_OPEN;

@@ -2,17 +2,47 @@
 use Prim.Native.Nat.{ℕ, _+_, _*_, _≤_, _<_}
 use native.Mathlib.Omega.{arith}
 use mathlib.Core.Path.{_≡_, sym, ap, _∙_}
-use mathlib.Core.Bool.{true, false}
+use mathlib.Core.Bool.{Bool, true, false, cond, _||_}
 use mathlib.Core.List.{List}
 use lib.Bits.{bitOr}
+use lib.Dec.{leb}
+use lib.ListN.{length}
 use Rattle.codec.specs.Bit.{bit}
 use Rattle.codec.specs.BitLaws.{bit-or}
 use Rattle.frontiers.specs.Bytes.{frontierAt, frontiers}
-use Rattle.call_find.specs.Find.{findFrom}
-use Rattle.answers.specs.Answer.{replyWord}
+use Rattle.records.specs.Record.{lineTotal, keptCount}
+use Rattle.refusals.specs.Refusals.{badRecordLength, badWindowLength, roomOf, badState}
+use Rattle.refusals.specs.RefusalCode.{watchFault}
+use Rattle.refusals.specs.FaultLaws.{no-fault}
+use Rattle.call_find.specs.Find.{findFrom, findCall}
+use Rattle.answers.specs.Answer.{turnedBack, replyWord}
 use Rattle.clocks.specs.stored.CountsLaws.{rest-next, rest-end}
 use Rattle.clocks.specs.stored.BoundedLaws.{or-false-e}
 use Rattle.call_find.specs.FindCode.{replyFrom, fourValues}
+
+-- ---- The number
+
+-- What record and window turn back, and what a find comes to where they turn nothing back.
+module _ (w line : ℕ) (s window : List ℕ) where
+  pub find-faulted : (fault : ℕ) → fault ≡ watchFault w s (length window) → (fault ≡ 0 → ⊥)
+      → fault ≡ replyWord (findCall w line s window)
+  unfolding findCall replyWord watchFault
+  find-faulted fault e some =
+      go (badRecordLength w (length s) || badWindowLength w (length window)) (badState w (roomOf w (length window)) s)
+      fault e some
+    where
+      go : (a b : Bool) (n : ℕ) → n ≡ cond a 6 (cond b 34 0) → (n ≡ 0 → ⊥)
+          → n ≡ replyWord (cond a (turnedBack 6 0) (cond b (turnedBack 34 0)
+          (cond (leb (lineTotal s) line) (turnedBack 11 0) (findFrom line 0 (frontiers w window (keptCount s))))))
+      go true b n q h = q
+      go false true n q h = q
+      go false false n q h = absurd (h q)
+
+  pub find-passed : watchFault w s (length window) ≡ 0
+      → findCall w line s window
+      ≡ cond (leb (lineTotal s) line) (turnedBack 11 0) (findFrom line 0 (frontiers w window (keptCount s)))
+  unfolding findCall
+  find-passed none = let good = no-fault w s (length window) none in rw (good .0, good .1)
 
 -- ---- Through the frontiers
 

@@ -1,15 +1,10 @@
 // Find (01, The calls; 02 [4]): the first kept frontier at which a line of the table holds, or none.
 
 use frontiers::stored::values_at;
-use numbers::refusal::LENGTH;
 use numbers::refusal::NO_SUCH_LINE;
-use numbers::refusal::STATE;
 use records::fields::kept_count;
 use records::fields::line_total;
-use refusals::bad_record_length;
-use refusals::bad_state;
-use refusals::bad_window_length;
-use refusals::room_of;
+use refusals::watch_fault;
 ghost use Prim.Native.Nat.{_+_, _≤_, _<_, _*_};
 ghost use mathlib.Core.Path.{_≡_};
 ghost use mathlib.Core.Bool.{true};
@@ -99,14 +94,9 @@ pub fn find(w: usize, line: u64, record: &[u8], window: &[u8]) -> u64
     requires { ⌜ Width w ⌝ }
     ensures { λ r. ⌜ r ≡ replyWord (findCall w line (now («record» .entry)) (now (window .entry))) ⌝ }
 {
-    if bad_record_length(w, record.len()) {
-        return LENGTH;
-    }
-    if bad_window_length(w, window.len()) {
-        return LENGTH;
-    }
-    if bad_state(record, w, room_of(w, window.len())) {
-        return STATE;
+    let fault = watch_fault(w, record, window.len());
+    if fault != 0 {
+        return fault;
     }
     if line_total(record) as u64 <= line {
         return NO_SUCH_LINE;

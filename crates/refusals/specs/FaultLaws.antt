@@ -7,7 +7,7 @@ use mathlib.Core.List.{List}
 use lib.ListN.{length}
 use Rattle.clocks.specs.stored.BoundedLaws.{or-false-e}
 use Rattle.frontiers.specs.Bytes.{frontierLength}
-use Rattle.records.specs.Record.{recordLength, processCount, lineTotal, keptCount}
+use Rattle.records.specs.Record.{recordLength, processCount, lineTotal, pendingCount, keptCount}
 use Rattle.refusals.specs.Refusals.{badRecordLength, badWindowLength, roomOf, badState}
 use Rattle.refusals.specs.RefusalCode.{watchFault}
 use Rattle.refusals.specs.RefusalLaws.{right-length, state-within, room-within}
@@ -54,6 +54,7 @@ module _ (w : ℕ) (s : List ℕ) (n : ℕ) where
   pub record Good : Type 0 where
     pub record-long : length s ≡ recordLength w
     pub processes : processCount s ≤ 8
+    pub pending : pendingCount s ≤ 32
     pub lines : lineTotal s ≤ 64
     pub some-line : 1 ≤ lineTotal s
     pub kept : keptCount s ≤ 1024
@@ -66,6 +67,7 @@ module _ (w : ℕ) (s : List ℕ) (n : ℕ) where
       record {
         record-long = right-length w (length s) (or-false-e (badRecordLength w (length s)) _ (good .0) .0);
         processes = within .0;
+        pending = within .1;
         lines = within .2;
         some-line = within .5;
         kept = within .3;
