@@ -56,6 +56,19 @@ mapped-at F (C ∷ before) S behind d = mapped-at F before S behind d
 
 -- ---- After a list of calls
 
+-- What a page comes to where neither 6 nor 34 does: 44, or the rows of these frontiers.
+abbrev unwritten : List ℕ → ℕ → Paged
+unwritten page n = record { answer = refused n; page = page }
+
+abbrev written : List ℕ → List Frontier → List ℕ → Paged
+written s fs page = record {
+  answer = gives (keptCount s);
+  page = rows (processCount s) (lineTotal s - 1) fs ++ drop (93 * keptCount s) page;
+}
+
+abbrev pub printed : List ℕ → List Frontier → List ℕ → Paged
+printed s fs page = cond (shortPage (keptCount s) (length page)) (unwritten page 44) (written s fs page)
+
 module _ (w k : ℕ) (f : Formula) (start : Cut) (Z : Watch) (S : Sound w k f start Z) where
   abbrev table : List Line
   table = linesAt 0 f
@@ -90,25 +103,15 @@ module _ (w k : ℕ) (f : Formula) (start : Cut) (Z : Watch) (S : Sound w k f st
   unfolding shortPage
   short-is page = ap (λ (n : ℕ). ltb (length page) (93 * n)) kept-cuts
 
-  abbrev done : List ℕ → Paged
-  done page = record {
-    answer = gives (keptCount (Z .bytes));
-    page =
-        rows (processCount (Z .bytes)) (lineTotal (Z .bytes) - 1) (frontiers w (Z .window) (keptCount (Z .bytes)))
-        ++ drop (93 * keptCount (Z .bytes)) page;
-  }
-
-  abbrev back : List ℕ → ℕ → Paged
-  back page n = record { answer = refused n; page = page }
-
-  six : (page : List ℕ) → badWindowLength w (length (Z .window)) ≡ true → nextPage w Z page ≡ back page 6
+  six : (page : List ℕ) → badWindowLength w (length (Z .window)) ≡ true → nextPage w Z page ≡ unwritten page 6
   unfolding pageCall
   six page h = rw (right-record w k f start Z S, h)
 
-  judged : (page : List ℕ) → badWindowLength w (length (Z .window)) ≡ false
-      → nextPage w Z page ≡ cond (shortPage (keptCount (Z .bytes)) (length page)) (back page 44) (done page)
+  pub judged : badWindowLength w (length (Z .window)) ≡ false → (page : List ℕ)
+      → pageCall w (Z .bytes) (Z .window) page
+      ≡ printed (Z .bytes) (frontiers w (Z .window) (keptCount (Z .bytes))) page
   unfolding pageCall
-  judged page h = rw (right-record w k f start Z S, h, good-state w k f start Z S)
+  judged h page = rw (right-record w k f start Z S, h, good-state w k f start Z S)
 
   by : (page : List ℕ) (P : Paged) → nextPage w Z page ≡ P → answer page ≡ P .answer
   by page P e = ap (λ (Q : Paged). Q .answer) e
@@ -118,13 +121,15 @@ module _ (w k : ℕ) (f : Formula) (start : Cut) (Z : Watch) (S : Sound w k f st
     where
       go : (a : Bool) → badWindowLength w (length (Z .window)) ≡ a → (b : Bool)
           → ltb (length page) (93 * length cuts) ≡ b → Case page
-      go true h b i = wrong h (by page (back page 6) (six page h))
+      go true h b i = wrong h (by page (unwritten page 6) (six page h))
       go false h true i =
           short h (ltb-true (length page) (93 * length cuts) i)
-          (by page (back page 44) (judged page h ∙ rw (short-is page ∙ i)))
+          (by page (unwritten page 44) (judged h page ∙ rw (short-is page ∙ i)))
       go false h false i =
           whole h (ltb-false (length page) (93 * length cuts) i)
-          (by page (done page) (judged page h ∙ rw (short-is page ∙ i)) ∙ ap gives kept-cuts)
+          (by page (written (Z .bytes) (frontiers w (Z .window) (keptCount (Z .bytes))) page)
+          (judged h page ∙ rw (short-is page ∙ i))
+          ∙ ap gives kept-cuts)
 
   -- ---- The rows
   processes : processCount (Z .bytes) ≡ k

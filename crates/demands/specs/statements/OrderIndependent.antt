@@ -19,6 +19,7 @@ use Rattle.records.specs.Record.{keptCount}
 use Rattle.refusals.specs.Refusals.{badWindowLength}
 use Rattle.answers.specs.Answer.{state}
 use Rattle.call_find.specs.Find.{findCall}
+use Rattle.call_page.specs.Page.{pageCall}
 use Rattle.demands.specs.Ledger.{Settled}
 use Rattle.demands.specs.Run.{Watch, Call}
 use Rattle.demands.specs.Verdict.{Truthful}
@@ -35,6 +36,9 @@ pub record Alike (w k : ℕ) (f : Formula) (start : Cut) (Y Z : Watch) : Type 0 
   -- so a find answers alike of every line, where both windows have right lengths (02 [4])
   pub same-finds : badWindowLength w (length (Y .window)) ≡ false → badWindowLength w (length (Z .window)) ≡ false
       → (line : ℕ) → findCall w line (Y .bytes) (Y .window) ≡ findCall w line (Z .bytes) (Z .window)
+  -- and a page, in a buffer of the same bytes, is the same (02 [7])
+  pub same-pages : badWindowLength w (length (Y .window)) ≡ false → badWindowLength w (length (Z .window)) ≡ false
+      → (page : List ℕ) → pageCall w (Y .bytes) (Y .window) page ≡ pageCall w (Z .bytes) (Z .window) page
   -- these are what demand 2 states
   pub first-exact : WindowExact w k f start Y
   pub second-exact : WindowExact w k f start Z
