@@ -1,40 +1,11 @@
 /* The calls of one stored form in plain C, and the move out of it, written for speed: see plain.h. */
 #include "plain_inner.h"
+#include "plain_refused.h"
 
 enum { AGAIN = 256 };
 
 static uint64_t accepted(uint64_t flag, uint64_t value) {
     return flag << 8 | value << 16;
-}
-
-/* ---- refusals ---- */
-
-static bool wrong_window(size_t length) {
-    return length < FRONTIER || length > FRONTIER * ROOM || length % FRONTIER != 0;
-}
-
-static bool bad_line(const uint8_t *line, unsigned i, unsigned k) {
-    unsigned a = line[1], b = line[2];
-    switch (line[0]) {
-    case 0: return a >= k || b > 7;
-    case 1: case 3: return a >= i || b != 0;
-    case 2: case 4: case 5: return a >= i || b >= i;
-    default: return true;
-    }
-}
-
-static bool damaged(const uint8_t *record, size_t room) {
-    unsigned k = record[0], lines = record[1];
-    uint32_t kept = load_kept(record);
-    if (k - 1 >= PROCESSES || lines - 1 >= LINES || record[2] > PENDING || kept - 1 >= room) return true;
-    for (unsigned i = 0; i < lines; i++)
-        if (bad_line(record + TABLE_AT + 3 * i, i, k)) return true;
-    return false;
-}
-
-unsigned PLAIN(refused)(const uint8_t *record, size_t record_len, size_t window_len) {
-    if (record_len != RECORD || wrong_window(window_len)) return 6;
-    return damaged(record, window_len / FRONTIER) ? 34 : 0;
 }
 
 /* ---- pending events ---- */
@@ -180,8 +151,8 @@ uint64_t PLAIN(take)(uint8_t *record, size_t record_len, uint8_t *window, size_t
 }
 
 uint64_t PLAIN(find)(uint64_t line, const uint8_t *record, size_t record_len, const uint8_t *window, size_t window_len) {
-    unsigned number = PLAIN(refused)(record, record_len, window_len);
-    if (number != 0) return number;
+    if (record_len != RECORD || wrong_window(window_len)) return 6;
+    if (damaged(record, window_len / FRONTIER)) return 34;
     if (line >= record[1]) return 11;
     uint32_t kept = load_kept(record);
     for (uint32_t i = 0; i < kept; i++)
@@ -204,8 +175,8 @@ static uint32_t drop(const uint8_t *record, uint8_t *window, uint32_t kept) {
 }
 
 uint64_t PLAIN(close)(uint64_t process, uint8_t *record, size_t record_len, uint8_t *window, size_t window_len) {
-    unsigned number = PLAIN(refused)(record, record_len, window_len);
-    if (number != 0) return number;
+    if (record_len != RECORD || wrong_window(window_len)) return 6;
+    if (damaged(record, window_len / FRONTIER)) return 34;
     if (process >= record[0] || record[CLOSED_AT] >> process & 1) return 41;
     for (unsigned i = 0; i < record[2]; i++)
         if (record[PENDING_AT + EVENT * i] >> process & 1) return 42;

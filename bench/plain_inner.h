@@ -77,9 +77,6 @@ static inline bool some_complete(const struct counts *c, const struct counts *ta
     return some != 0;
 }
 
-/* 6 or 34 of a call that is lent record and window, or 0. */
-unsigned PLAIN(refused)(const uint8_t *record, size_t record_len, size_t window_len);
-
 /* Reads a rule into 192 bytes of table, which is written only if the answer is 0. */
 struct plain_rule {
     uint32_t fault, place, lines;

@@ -1,6 +1,7 @@
 /* The page in plain C. It is of the wide form alone. */
 #define COUNT_BYTES 4
 #include "plain_inner.h"
+#include "plain_refused.h"
 
 enum { COLUMN = 11, ROW = PROCESSES * COLUMN + 5 };
 
@@ -18,8 +19,8 @@ static inline void put_count(uint8_t *end, uint32_t number) {
 
 uint64_t plain32_page(const uint8_t *record, size_t record_len, const uint8_t *window, size_t window_len,
                       uint8_t *page, size_t page_len) {
-    unsigned number = plain32_refused(record, record_len, window_len);
-    if (number != 0) return number;
+    if (record_len != RECORD || wrong_window(window_len)) return 6;
+    if (damaged(record, window_len / FRONTIER)) return 34;
     unsigned k = record[0], rule = record[1] - 1u;
     uint32_t kept = load_kept(record);
     if (page_len < (size_t)ROW * kept) return 44;
