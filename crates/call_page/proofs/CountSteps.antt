@@ -5,7 +5,7 @@ use native.Mathlib.Nat.{pow-suc}
 use mathlib.Core.Path.{_≡_, refl, sym, ap, _∙_}
 use mathlib.Core.List.{List, [], _∷_, _++_, append-assoc}
 use lib.ListN.{length, getD, take, drop, set, replicate, length-append, length-replicate, take-append-drop, drop-of-length-le}
-use lib.Seq.{sets, take-all, take-suc, take-at, drop-at, drop-cons, length-take-le}
+use lib.Seq.{set-comm, sets, take-all, take-suc, take-at, drop-at, drop-cons, length-take-le}
 use Rattle.codec.specs.Decimal.{numeralOf, numeral}
 use Rattle.codec.specs.DecimalLaws.{one-digit, more-digits, shorter, length-numeral}
 use Rattle.codec.specs.SetsLaws.{set-within, sets-sets}
@@ -120,6 +120,43 @@ module _ (page₀ : List ℕ) (at count : ℕ) (l : count < 10 ^ 10) where
       (L .left ∙ only-digit j rest small) in
       rw less (over-blank page j rest (L .stands) (parts .1)
       ∙ rw (← parts .0) (ap (sets page₀ at) (take-append-drop j col)))
+
+  -- ---- Two digits at a time
+
+  -- Both at once, or the last one first.
+  two : (page : List ℕ) (i d e : ℕ) → 2 ≤ i
+      → sets page (at + (i - 2)) (d ∷ e ∷ []) ≡ set (set page (at + (i - 1)) e) (at + (i - 1 - 1)) d
+  two page i d e h =
+      let next : suc (at + (i - 2)) ≡ at + (i - 1) = omega arith in
+      let here : at + (i - 1 - 1) ≡ at + (i - 2) = omega arith in
+      rw (next, here) (set-comm page (at + (i - 2)) (at + (i - 1)) d e (omega arith))
+
+  pub pair-laid : (page : List ℕ) (i rest : ℕ) → Laid page₀ at count page rest i → 100 ≤ rest
+      → (3 ≤ i) × Laid page₀ at count
+      (sets page (at + (i - 2)) ((48 + rest % 100 / 10) ∷ (48 + rest % 100 % 10) ∷ [])) (rest / 100) (i - 2)
+  pair-laid page i rest L h =
+      let one = digit-laid page i rest L (λ z. omega arith) in
+      let both = digit-laid _ (i - 1) (rest / 10) one (λ z. omega arith) in
+      let some = both .some in
+      let tens : rest % 100 / 10 ≡ rest / 10 % 10 = omega arith in
+      let ones : rest % 100 % 10 ≡ rest % 10 = omega arith in
+      let left : rest / 100 ≡ rest / 10 / 10 = omega arith in
+      let less : i - 2 ≡ i - 1 - 1 = omega arith in (
+        omega arith,
+        rw (tens, ones, left, two page i (48 + rest / 10 % 10) (48 + rest % 10) (omega arith), less) both,
+      )
+
+  pub last-pair : (page : List ℕ) (i rest : ℕ) → Laid page₀ at count page rest i → 10 ≤ rest → rest < 100
+      → (2 ≤ i) × (sets page (at + (i - 2)) ((48 + rest / 10) ∷ (48 + rest % 10) ∷ []) ≡ sets page₀ at col)
+  last-pair page i rest L h k =
+      let one = digit-laid page i rest L (λ z. omega arith) in
+      let some = one .some in
+      let tens : rest / 10 ≡ rest / 10 % 10 = omega arith in (
+        omega arith,
+        two page i (48 + rest / 10) (48 + rest % 10) (omega arith)
+            ∙ ap (λ (d : ℕ). set (set page (at + (i - 1)) (48 + rest % 10)) (at + (i - 1 - 1)) (48 + d)) tens
+            ∙ last-laid _ (i - 1) (rest / 10) one (omega arith),
+      )
 
   -- The blanks are gone where the column is.
   pub column-stands : (entry page : List ℕ) → page₀ ≡ sets entry at (replicate 11 32) → page ≡ sets page₀ at col

@@ -1,4 +1,5 @@
 -- What the proofs of the functions cite: one test or one turn of a loop at a time.
+mod PairSteps
 mod CountSteps
 mod RowSteps
 mod PageSteps

@@ -1,7 +1,9 @@
 // A page (02 [7]): the kept frontiers as text, a row for each.
 
+pub mod digits;
 pub mod row;
 
+use crate::digits::lay_pairs;
 use crate::row::put_row;
 use frontiers::stored::counts_at;
 use frontiers::stored::values_at;
@@ -18,19 +20,28 @@ ghost use Rattle.frontiers.specs.Width.{Width};
 ghost use Rattle.frontiers.specs.Bytes.{frontierLength, frontiers};
 ghost use Rattle.answers.specs.Result.{resultWord};
 ghost use Rattle.call_page.specs.Page.{rows, pageCall};
-ghost use Rattle.call_page.specs.PageCode.{pageFault};
+ghost use Rattle.call_page.specs.PageCode.{Pairs, pageFault};
 
 // The bytes of a row.
 const ROW: usize = 93;
 
 // Writes the rows of so many frontiers at the page's start; k processes, and the rule's line.
-fn put_rows(page: &mut [u8], w: usize, window: &[u8], kept: usize, k: usize, line: u32)
+fn put_rows(
+    page: &mut [u8],
+    w: usize,
+    window: &[u8],
+    kept: usize,
+    k: usize,
+    line: u32,
+    pairs: &[u8],
+)
     requires { ⌜ Width w ⌝ }
     requires { ⌜ k ≤ 8 ⌝ }
     requires { ⌜ line < 64 ⌝ }
     requires { ⌜ kept ≤ 1024 ⌝ }
     requires { ⌜ kept * frontierLength w ≤ length (now window) ⌝ }
     requires { ⌜ 93 * kept ≤ length (now page) ⌝ }
+    requires { ⌜ Pairs (now pairs) ⌝ }
     ensures { λ r. ⌜ now (page .exit)
         ≡ sets (now (page .entry)) 0 (rows k line (frontiers w (now (window .entry)) kept)) ⌝ }
 {
@@ -38,7 +49,7 @@ fn put_rows(page: &mut [u8], w: usize, window: &[u8], kept: usize, k: usize, lin
     while i < kept {
         let counts = counts_at(window, w, i);
         let holds = codec::has_bit(values_at(window, w, i), line);
-        put_row(page, ROW * i, k, counts, holds);
+        put_row(page, ROW * i, k, counts, holds, pairs);
         i = i + 1;
     }
 }
@@ -72,6 +83,9 @@ pub fn write_page(w: usize, record: &[u8], window: &[u8], page: &mut [u8]) -> u6
     }
     let kept = kept_count(record);
     let k = process_count(record) as usize;
-    put_rows(page, w, window, kept as usize, k, line_total(record) - 1);
+    let line = line_total(record) - 1;
+    let mut pairs = [0u8; 200];
+    lay_pairs(&mut pairs);
+    put_rows(page, w, window, kept as usize, k, line, &pairs);
     65536 * (kept as u64)
 }

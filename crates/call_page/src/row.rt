@@ -1,35 +1,15 @@
 // A row of a page: eight columns, and what is said of the rule.
 
+use crate::digits::BLANK;
+use crate::digits::put_count;
 use frontiers::moving::copy_in;
 use frontiers::moving::fill;
 ghost use Prim.Native.Nat.{_+_, _≤_};
 ghost use mathlib.Core.Path.{_≡_};
 ghost use lib.ListN.{length};
 ghost use lib.Seq.{sets};
-ghost use Rattle.codec.specs.Decimal.{numeral};
-ghost use Rattle.call_page.specs.Page.{aligned, row};
-ghost use Rattle.call_page.specs.PageCode.{TenDigits, ending};
-
-// A blank.
-const BLANK: u8 = 32;
-
-// Writes a count's column: blanks, and over them the digits, the last one first.
-fn put_count(page: &mut [u8], at: usize, count: u32)
-    requires { ⌜ at + 11 ≤ length (now page) ⌝ }
-    ensures { λ r. ⌜ now (page .exit) ≡ sets (now (page .entry)) at (aligned 11 (numeral count)) ⌝ }
-{
-    fill(page, at, 11, BLANK);
-    let mut rest = count;
-    let mut i: usize = 11;
-    loop {
-        i = i - 1;
-        page[at + i] = 48 + (rest % 10) as u8;
-        rest = rest / 10;
-        if rest == 0 {
-            break;
-        }
-    }
-}
+ghost use Rattle.call_page.specs.Page.{row};
+ghost use Rattle.call_page.specs.PageCode.{Pairs, TenDigits, ending};
 
 // Writes what stands behind the columns.
 fn put_ending(page: &mut [u8], at: usize, holds: bool)
@@ -44,15 +24,16 @@ fn put_ending(page: &mut [u8], at: usize, holds: bool)
 }
 
 // Writes a row, where there are k processes.
-pub fn put_row(page: &mut [u8], at: usize, k: usize, counts: [u32; 8], holds: bool)
+pub fn put_row(page: &mut [u8], at: usize, k: usize, counts: [u32; 8], holds: bool, pairs: &[u8])
     requires { ⌜ k ≤ 8 ⌝ }
     requires { ⌜ TenDigits counts ⌝ }
+    requires { ⌜ Pairs (now pairs) ⌝ }
     requires { ⌜ at + 93 ≤ length (now page) ⌝ }
     ensures { λ r. ⌜ now (page .exit) ≡ sets (now (page .entry)) at (row k counts holds) ⌝ }
 {
     let mut p = 0;
     while p < k {
-        put_count(page, at + 11 * p, counts[p]);
+        put_count(page, at + 11 * p, counts[p], pairs);
         p = p + 1;
     }
     fill(page, at + 11 * k, 11 * (8 - k), BLANK);

@@ -16,11 +16,11 @@ use Rattle.call_page.specs.Page.{rows}
 use Rattle.call_page.proofs.put_rows.Statement.{statement}
 
 abbrev Inv-loop : tie.InvT-loop
-Inv-loop page₀ w window kept k line i₀ page i =
+Inv-loop page₀ w window kept k line pairs i₀ page i =
     (i ≤ kept) × (length page ≡ length page₀) × (page ≡ sets page₀ 0 (rows k line (frontiers w window i)))
 
 abbrev μ-loop : tie.MeasureT-loop
-μ-loop page₀ w window kept k line i₀ page i = kept - i
+μ-loop page₀ w window kept k line pairs i₀ page i = kept - i
 
 -- The window's bytes, and the width.
 bytes : (c : tie.After-shared-slice-known Inv-loop μ-loop) → Bytes (now (c .before .before .args .window))
@@ -31,20 +31,21 @@ narrow c = omega (arith, c .before .before .pre .0)
 
 loop-holds : tie.Need-loop-holds Inv-loop μ-loop
 loop-holds c =
-    let a = c .before .before .args in
-    (search needs, search needs, no-row (now (a .page)) (a .w) (now (a .window)) (bytes c) (narrow c) (a .k) (a .line))
+    let k = c .before in
+    let a = k .before .before .args in
+    (search needs, search needs, no-row (now (a .page)) (a .w) (now (a .window)) (bytes k) (narrow k) (a .k) (a .line))
 
 counts-at-requires : tie.Need-counts-at-requires Inv-loop μ-loop
 counts-at-requires c κs =
     let l = c .before .loop in
-    let b = c .before .before .before .before in
+    let b = c .before .before .before .before .before in
     let within = count-within (l .i) (b .args .kept) (frontierLength (b .args .w)) (omega arith) in
     (search needs, (omega arith, omega (arith, within)))
 
 values-at-requires : tie.Need-values-at-requires Inv-loop μ-loop
 values-at-requires c κs =
     let l = c .before .before .loop in
-    let b = c .before .before .before .before .before in
+    let b = c .before .before .before .before .before .before in
     let within = count-within (l .i) (b .args .kept) (frontierLength (b .args .w)) (omega arith) in
     (search needs, (omega arith, omega (arith, within)))
 
@@ -58,10 +59,10 @@ put-row-requires : tie.Need-put-row-requires Inv-loop μ-loop
 put-row-requires c κs =
     let read = c .before .before .before in
     let l = read .before .before .loop in
-    let k = read .before .before .before in
+    let k = read .before .before .before .before in
     let a = k .before .before .args in
     let ten = few-digits (a .w) (now (a .window)) (bytes k) (narrow k) (l .i) in
-    (search needs, ((λ p. rw (read .counts-at .ensures) (ten p)), omega arith))
+    (search needs, ((λ p. rw (read .counts-at .ensures) (ten p)), (k .before .before .pre .1 .1 .1 .1 .1 .1, omega arith)))
 
 add-i : tie.Need-add-i Inv-loop μ-loop
 add-i c = search needs
@@ -74,7 +75,7 @@ loop-again c =
     let done = c .before .before in
     let read = done .before .before .before .before in
     let l = read .before .before .loop in
-    let k = read .before .before .before in
+    let k = read .before .before .before .before in
     let a = k .before .before .args in
     let values = done .before .before .before in
     let more =
@@ -90,7 +91,7 @@ same-length c = search needs
 returns : tie.Need-returns Inv-loop μ-loop
 returns c =
     let l = c .before .loop in
-    let a = c .before .before .before .before .args in
+    let a = c .before .before .before .before .before .args in
     let all : l .i ≡ a .kept = omega arith in
     cc
 

@@ -5,6 +5,7 @@ use mathlib.Core.Path.{_≡_, sym, ap, _∙_}
 use Prim.Native.Nat.{ℕ, _≤_, _-_, _*_}
 use lib.ListN.{length}
 use borrow.Author.Needs.{needs}
+use mathlib.Core.List.{List}
 use denote.Ref.{now}
 use lib.Seq.{sets}
 use Rattle.codec.specs.Little.{Bytes}
@@ -56,28 +57,39 @@ process-count-requires c κs = omega (arith, good (c .before) .0 .record-long)
 cast-k : tie.Need-cast-k
 cast-k c = search needs
 
+line-total-requires : tie.Need-line-total-requires
+line-total-requires c κs = omega (arith, good (c .before .before) .0 .record-long)
+
+sub-line : tie.Need-sub-line
+sub-line c = omega (arith, good (c .before .before .before) .0 .some-line)
+
+slice-aggregate-lay-pairs : tie.Need-slice-aggregate-lay-pairs
+slice-aggregate-lay-pairs c = search needs
+
+lay-pairs-requires : tie.Need-lay-pairs-requires
+lay-pairs-requires c κs = search needs
+
 cast-put-rows : tie.Need-cast-put-rows
 cast-put-rows c = search needs
 
-line-total-requires : tie.Need-line-total-requires
-line-total-requires c κs = omega (arith, good (c .before .before .before) .0 .record-long)
-
-sub-put-rows : tie.Need-sub-put-rows
-sub-put-rows c = omega (arith, good (c .before .before .before .before) .0 .some-line)
+slice-aggregate-put-rows : tie.Need-slice-aggregate-put-rows
+slice-aggregate-put-rows c = search needs
 
 put-rows-requires : tie.Need-put-rows-requires
 put-rows-requires c κs =
-    let e = c .before .before .before .before in
+    let read = c .before .before .before .before .before .before .before in
+    let e = read .before in
     let fine = good e .0 in
-    let kept : c .before .before .before .kept-count .result ≡ keptCount (now (start (e .before) .args .«record»)) =
-    c .before .before .before .kept-count .ensures in
     let within = fine .kept-within in (
       search needs,
       (
         omega (arith, fine .processes),
         (
           omega (arith, fine .lines, fine .some-line),
-          (omega (arith, fine .kept), (rw kept within, omega (arith, good e .1))),
+          (
+            omega (arith, fine .kept),
+            (rw (read .kept-count .ensures) within, (omega (arith, good e .1), search needs)),
+          ),
         ),
       ),
     )
@@ -94,16 +106,22 @@ same-length c = search needs
 returns-2 : tie.Need-returns-2
 returns-2 c =
     let done = c .before .before in
-    let lines = done .before in
-    let processes = lines .before .before in
+    let lines = done .before .before .before .before .before .before in
+    let processes = lines .before in
     let read = processes .before in
     let e = read .before in
     let f = e .before in
     let a = start f .args in
     let bytes : Bytes (now (a .window)) = λ i. f .before .before .shared-slice-known2 .given i .fits in
     let narrow : a .w ≤ 4 = omega (arith, start f .pre .most) in
-    let laid : done .put-rows .last .0 ≡ sets (now (a .page)) 0 (rows (processCount (now (a .«record»)))
-    (lineTotal (now (a .«record»)) - 1) (frontiers (a .w) (now (a .window)) (keptCount (now (a .«record»))))) = cc in
+    let s = now (a .«record») in
+    let text : ℕ → ℕ → ℕ → List ℕ = λ k m n.
+    sets (now (a .page)) 0 (rows k (m - 1) (frontiers (a .w) (now (a .window)) n)) in
+    let laid : done .put-rows .last .0 ≡ text (processCount s) (lineTotal s) (keptCount s) =
+    done .put-rows .ensures
+    ∙ ap (λ (k : ℕ). text k (lines .line-total .result) (read .kept-count .result)) (processes .process-count .ensures .0)
+    ∙ ap (λ (m : ℕ). text (processCount s) m (read .kept-count .result)) (lines .line-total .ensures .0)
+    ∙ ap (λ (n : ℕ). text (processCount s) (lineTotal s) n) (read .kept-count .ensures) in
     let whole =
     page-written (a .w) (now (a .«record»)) (now (a .window)) (now (a .page)) (none e) bytes narrow _ laid in
     (ap (λ (n : ℕ). 65536 * n) (read .kept-count .ensures) ∙ whole .0, whole .1)
@@ -117,9 +135,12 @@ write-page-spec =
     kept-count-requires
     process-count-requires
     cast-k
-    cast-put-rows
     line-total-requires
-    sub-put-rows
+    sub-line
+    slice-aggregate-lay-pairs
+    lay-pairs-requires
+    cast-put-rows
+    slice-aggregate-put-rows
     put-rows-requires
     cast-result
     mul-result

@@ -12,15 +12,15 @@ use Rattle.call_page.proofs.RowSteps.{no-columns, next-column, row-stan
 use Rattle.call_page.proofs.row.put_row.Statement.{statement}
 
 abbrev Inv-loop : tie.InvT-loop
-Inv-loop page₀ at k holds counts p₀ page p =
+Inv-loop page₀ at k holds pairs counts p₀ page p =
     (p ≤ k) × (length page ≡ length page₀) × (page ≡ sets page₀ at (columns k counts p))
 
 abbrev μ-loop : tie.MeasureT-loop
-μ-loop page₀ at k holds counts p₀ page p = k - p
+μ-loop page₀ at k holds pairs counts p₀ page p = k - p
 
 loop-holds : tie.Need-loop-holds Inv-loop μ-loop
 loop-holds c =
-    let b = c .before in
+    let b = c .before .before in
     let none = no-columns (now (b .args .page)) (b .args .at) (b .args .k) (b .args .t4) (b .pre .1 .0) in
     (search needs, search needs, none)
 
@@ -49,7 +49,7 @@ loop-again : tie.Need-loop-again Inv-loop μ-loop
 loop-again c =
     let done = c .before .before in
     let l = done .before .before .before .loop in
-    let b = done .before .before .before .before .before in
+    let b = done .before .before .before .before .before .before in
     let a = b .args in
     let next = next-column (now (a .page)) (a .at) (a .k) (a .t4) (b .pre .1 .0) (l .p) (omega arith) in
     (search needs, search needs, cc)
@@ -83,7 +83,7 @@ returns c =
     let done = c .before .before in
     let blanks = done .before .before .before .before in
     let l = blanks .before .before .before .loop in
-    let b = blanks .before .before .before .before .before in
+    let b = blanks .before .before .before .before .before .before in
     let a = b .args in
     let all : l .p ≡ a .k = omega arith in
     let stands =
