@@ -1,8 +1,8 @@
 -- The table of digits, one number more with each turn.
-use Prim.Native.Nat.{ℕ, suc, _+_, _*_, _/_, _%_, _≤_, _<_}
+use Prim.Native.Nat.{ℕ, _+_, _*_, _/_, _%_, _≤_, _<_}
 use native.Mathlib.Omega.{arith}
 use native.Mathlib.Decide.{decLt}
-use mathlib.Core.Path.{_≡_, sym, ap, _∙_}
+use mathlib.Core.Path.{_≡_, _∙_}
 use mathlib.Core.List.{List}
 use lib.ListN.{length, getD, set, length-set}
 use lib.Seq.{getD-set-same, getD-set-other}
@@ -18,7 +18,11 @@ pub none : (pairs : List ℕ) → length pairs ≡ 200 → LaidBelow 0 pairs
 none pairs e = record { long = e; tens = λ m l. absurd (omega arith); ones = λ m l. absurd (omega arith) }
 
 pub all : (n : ℕ) (pairs : List ℕ) → 100 ≤ n → LaidBelow n pairs → Pairs pairs
-all n pairs h L = record { long = L .long; tens = λ m l. L .tens m (omega arith); ones = λ m l. L .ones m (omega arith) }
+all n pairs h L = record {
+  long = L .long;
+  tens = λ m l. L .tens m (omega arith);
+  ones = λ m l. L .ones m (omega arith);
+}
 
 pub pairs-more : (n : ℕ) (pairs : List ℕ) → n < 100 → LaidBelow n pairs
     → LaidBelow (n + 1) (set (set pairs (2 * n) (48 + n / 10)) (2 * n + 1) (48 + n % 10))

@@ -62,7 +62,8 @@ put-row-requires c κs =
     let k = read .before .before .before .before in
     let a = k .before .before .args in
     let ten = few-digits (a .w) (now (a .window)) (bytes k) (narrow k) (l .i) in
-    (search needs, ((λ p. rw (read .counts-at .ensures) (ten p)), (k .before .before .pre .1 .1 .1 .1 .1 .1, omega arith)))
+    let pairs = k .before .before .pre .1 .1 .1 .1 .1 .1 in
+    (search needs, ((λ p. rw (read .counts-at .ensures) (ten p)), (pairs, omega arith)))
 
 add-i : tie.Need-add-i Inv-loop μ-loop
 add-i c = search needs

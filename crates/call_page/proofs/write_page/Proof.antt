@@ -119,7 +119,8 @@ returns-2 c =
     sets (now (a .page)) 0 (rows k (m - 1) (frontiers (a .w) (now (a .window)) n)) in
     let laid : done .put-rows .last .0 ≡ text (processCount s) (lineTotal s) (keptCount s) =
     done .put-rows .ensures
-    ∙ ap (λ (k : ℕ). text k (lines .line-total .result) (read .kept-count .result)) (processes .process-count .ensures .0)
+    ∙ ap (λ (k : ℕ). text k (lines .line-total .result) (read .kept-count .result))
+    (processes .process-count .ensures .0)
     ∙ ap (λ (m : ℕ). text (processCount s) m (read .kept-count .result)) (lines .line-total .ensures .0)
     ∙ ap (λ (n : ℕ). text (processCount s) (lineTotal s) n) (read .kept-count .ensures) in
     let whole =

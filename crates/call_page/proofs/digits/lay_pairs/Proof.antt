@@ -1,11 +1,9 @@
 -- Below n the table is laid: the law `pairs-more`.
 use Rattle.call_page.proofs.digits.lay_pairs.Tie as tie
 use native.Mathlib.Omega.{arith}
-use mathlib.Core.Path.{_≡_, refl, sym, ap, _∙_}
-use Prim.Native.Nat.{ℕ, _≤_, _<_, _-_, _+_, _*_}
-use mathlib.Core.List.{List, _++_}
-use lib.ListN.{length, getD, take, drop, set, length-set}
-use mathlib.Core.Logic.{⊎-elim}
+use mathlib.Core.Path.{sym, _∙_}
+use Prim.Native.Nat.{_≤_, _-_}
+use lib.ListN.{length-set}
 use borrow.Author.Needs.{needs}
 use denote.Ref.{now}
 use Rattle.call_page.proofs.PairSteps.{LaidBelow, none, pairs-more, all}
@@ -54,7 +52,9 @@ loop-less : tie.Need-loop-less Inv-loop μ-loop
 loop-less c = search needs
 
 loop-again : tie.Need-loop-again Inv-loop μ-loop
-loop-again c = (omega arith, pairs-more (c .before .loop .n) (c .before .loop .pairs) (omega arith) (c .before .loop .inv .1))
+loop-again c =
+    let l = c .before .loop in
+    (omega arith, pairs-more (l .n) (l .pairs) (omega arith) (l .inv .1))
 
 same-length : tie.Need-same-length Inv-loop μ-loop
 same-length c = c .before .loop .inv .1 .long ∙ sym (c .before .before .pre)
