@@ -25,7 +25,7 @@ rowLength = 93
 unfoldable pub aligned : ℕ → List ℕ → List ℕ
 aligned width text = replicate (width - length text) 32 ++ text
 
--- The column of process p: its count, or blanks where there are not so many as k processes.
+-- The column of process p: its count; blanks alone where p is none of the k processes that there are.
 unfoldable pub column : ℕ → List ℕ → ℕ → List ℕ
 column k counts p = aligned 11 (cond (ltb p k) (numeral (at counts p)) [])
 
