@@ -1,5 +1,6 @@
 /* The vault watcher's calls: open a watch, offer it events, take them, find a frontier, close a process; write a watch
- * of one form as one of the other; and print what it keeps, a row for each frontier.
+ * of one form as one of the other; print what it keeps, a row for each frontier; and generate the busiest day of n
+ * events, to choose a window's length by.
  *
  * A watch is two buffers of the caller's, a record and a window. Take borrows a third, the scratch, as long as the
  * window. The library has no heap, no global state and no files: what it knows of a watch stands in these bytes, so a
@@ -7,7 +8,7 @@
  *
  * There are two forms of a watch, which differ in the width of a count and so in lengths (since 0.7.0). Each has its
  * own calls, and a call of one form cannot tell a watch of the other but by a length. All that is said of a call below
- * is true of both forms, each with its own lengths. The page is of the wide form alone.
+ * is true of both forms, each with its own lengths. Page and busiest day are of the wide form alone.
  *
  *                      watch_open, _offer, ..          watch32_open, _offer, ..
  *   a count            16 bits, to 65,535              32 bits, to 4,294,967,295
@@ -48,8 +49,8 @@
 extern "C" {
 #endif
 
-#define WATCH_VERSION "0.8.0"    /* of this header and of the library that it was installed with */
-#define WATCH_VERSION_NUMBER 800 /* the same as a number: 10000 major + 100 minor + patch */
+#define WATCH_VERSION "0.9.0"    /* of this header and of the library that it was installed with */
+#define WATCH_VERSION_NUMBER 900 /* the same as a number: 10000 major + 100 minor + patch */
 
 #define WATCH_PROCESSES 8        /* at most so many processes */
 #define WATCH_LINES 64           /* a rule has at most so many lines */
@@ -63,6 +64,9 @@ extern "C" {
 #define WATCH32_RECORD_BYTES 2024
 #define WATCH32_ROW_BYTES 93     /* a row of a page: 92 columns and a line feed */
 #define WATCH32_PAGE_BYTES(kept) ((size_t)(kept) * WATCH32_ROW_BYTES)
+#define WATCH32_EVENT_BYTES 48   /* an event of a list: mask, seven zeros, eight counts, eight label bytes */
+#define WATCH32_EVENTS_BYTES(n) ((size_t)(n) * WATCH32_EVENT_BYTES)
+#define WATCH32_DAY_EVENTS 65535 /* a busiest day has at most so many events */
 #define WATCH_STACK_BYTES 16384  /* no call uses more stack */
 
 /* Why a call was refused. But for WATCH_CLOCK_FALSE nothing in record or window has changed then, not a byte. */
@@ -86,7 +90,9 @@ enum {
     WATCH_NOT_OPEN = 41,    /* close: the watch has no such process, or it is closed already */
     WATCH_NAMED = 42,       /* close: a pending event names the process; offer: the event names a closed one */
     WATCH_TOO_LARGE = 43,   /* narrow: some count, in an unused place too, is above 65,535 */
-    WATCH_SHORT = 44        /* page: it is too short for all rows */
+    WATCH_SHORT = 44,       /* page: it is too short for all rows */
+    WATCH_DAY = 45,         /* busiest: the number of processes is not 1 to 8, or there are over 65,535 events */
+    WATCH_BUSY = 46         /* busiest: such a day keeps over 1,024 frontiers */
 };
 
 /* A reply is one word: number, flag, value and place. A number above 0 is the refusal; a refusal has flag 0, value 0
@@ -196,6 +202,19 @@ uint64_t watch_narrow(const uint8_t *record32, size_t record32_len, const uint8_
 uint64_t watch32_page(const uint8_t *record, size_t record_len, const uint8_t *window, size_t window_len,
                       uint8_t *page, size_t page_len);
 
+/* Generates the busiest day of n events among k processes (since 0.9.0): events of single processes that know of no
+ * other process, shared evenly, the first n mod k processes having one more. No watch is read or written.
+ * Accepted: value is the number of frontiers that a watch of k processes keeps when it has taken these events, in
+ * whatever order they came, and no process is closed: with n(p) events of process p, the product of all n(p) + 1 less
+ * the product of all n(p). No other sharing of n such events among the k processes keeps more. Writes every byte of the
+ * list: process 0's events, their counts rising from 1, then process 1's, and so on. An event is 48 bytes, as a pending
+ * one in a record: its mask (the one process), seven zeros, eight counts of four bytes, low byte first (its number at
+ * its process, 0 elsewhere), eight label bytes, all 0. They may be taken in this order.
+ * Refused, in this order: 45 k or n, 46, 6 a list of other than WATCH32_EVENTS_BYTES(n) bytes. The whole words k and n
+ * are judged. Writes nothing then. With n = 0 the list is empty and the value 1.
+ * Linear in n. Nothing is said of events of several processes, of messages or of closed processes. */
+uint64_t watch32_busiest(uint64_t k, uint64_t n, uint8_t *events, size_t events_len);
+
 static inline unsigned watch_bytes2(const uint8_t *at) { return at[0] | (unsigned)at[1] << 8; }
 static inline uint32_t watch_bytes4(const uint8_t *at) {
     return watch_bytes2(at) | (uint32_t)watch_bytes2(at + 2) << 16;
@@ -218,6 +237,14 @@ static inline unsigned watch_cut(const uint8_t *window, size_t place, unsigned p
 }
 static inline uint32_t watch32_cut(const uint8_t *window, size_t place, unsigned p) {
     return watch_bytes4(window + WATCH32_FRONTIER_BYTES * place + 4 * p);
+}
+
+/* Of the event at a place in a list: its mask, and its count of process p's events. */
+static inline unsigned watch32_event_mask(const uint8_t *events, size_t place) {
+    return events[WATCH32_EVENT_BYTES * place];
+}
+static inline uint32_t watch32_event_count(const uint8_t *events, size_t place, unsigned p) {
+    return watch_bytes4(events + WATCH32_EVENT_BYTES * place + 8 + 4 * p);
 }
 
 /* Four counts as one word of a clock, or two of 32 bits. */
