@@ -3,5 +3,7 @@
 -- What a reader has to believe
 pub mod Answer
 pub mod Result
--- What is proved of refusals in their order
+pub mod Told
+-- What is proved of refusals in their order, and of words
 pub mod Turns
+pub mod ToldLaws

@@ -1,10 +1,10 @@
 -- What is true of every page on all bytes (02 [7]): what a refused one leaves, where everything stands in an accepted
 -- one, that its columns say the counts, and how a caller tells the answers apart. Proved in PageTheorem.
-use Prim.Native.Nat.{ℕ, _+_, _-_, _*_, _/_, _%_, _≤_, _<_}
+use Prim.Native.Nat.{ℕ, _+_, _-_, _*_, _≤_, _<_}
 use mathlib.Core.Path.{_≡_}
 use mathlib.Core.Bool.{Bool, cond}
 use mathlib.Core.List.{List, [], _∷_, _++_}
-use mathlib.Core.Logic.{_↔_, _≢_}
+use mathlib.Core.Logic.{_≢_}
 use lib.Dec.{eqb}
 use lib.ListN.{length, getD, take, drop, replicate}
 use Rattle.codec.specs.Ascii.{ascii}
@@ -14,7 +14,8 @@ use Rattle.codec.specs.Little.{Bytes}
 use Rattle.clocks.specs.Counts.{at}
 use Rattle.frontiers.specs.Bytes.{frontierAt}
 use Rattle.records.specs.Record.{processCount, lineTotal, keptCount}
-use Rattle.answers.specs.Result.{Result, refused, gives, resultWord}
+use Rattle.answers.specs.Result.{refused, gives}
+use Rattle.answers.specs.Told.{Told}
 use Rattle.call_page.specs.Page.{rowLength, Paged, pageCall}
 
 -- ---- What a reader of a page sees
@@ -72,12 +73,6 @@ RefusedWritesNothing =
 
 -- ---- The word
 
-pub record Told (a : Result) : Type 0 where
-  -- refused exactly if the word's number is not 0: it is that number
-  pub refused-exactly : (n : ℕ) → (a ≡ refused n) ↔ ((0 < n) × (resultWord a % 256 ≡ n))
-  -- else its value is the number of rows
-  pub printed-exactly : (n : ℕ)
-      → (a ≡ gives n) ↔ ((resultWord a % 256 ≡ 0) × (resultWord a / 65536 % 65536 ≡ n))
-
+-- The value is the number of rows.
 abbrev pub PageTells : Type 0
 PageTells = (w : ℕ) (s window page : List ℕ) → Told (pageCall w s window page .answer)

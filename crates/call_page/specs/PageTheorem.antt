@@ -14,17 +14,16 @@ use Rattle.frontiers.specs.Bytes.{frontierAt, frontiers}
 use Rattle.records.specs.Record.{processCount, lineTotal, keptCount}
 use Rattle.refusals.specs.Refusals.{badRecordLength, badWindowLength, roomOf, badState}
 use Rattle.refusals.specs.RefusalLaws.{state-within}
-use Rattle.answers.specs.Result.{Result, refused, gives, resultWord}
+use Rattle.answers.specs.Result.{Result, refused, gives}
+use Rattle.answers.specs.Told.{Told}
+use Rattle.answers.specs.ToldLaws.{not-both, refused-told, gives-told}
 use Rattle.answers.specs.Turns.{by-test}
 use Rattle.call_page.specs.Page.{word, rows, shortPage, Paged, pageCall}
 use Rattle.call_page.specs.PageCode.{ending}
-use Rattle.call_page.specs.PageExact.{Printed, PageIsExact, RefusedWritesNothing, Told, PageTells}
+use Rattle.call_page.specs.PageExact.{Printed, PageIsExact, RefusedWritesNothing, PageTells}
 use Rattle.call_page.specs.RowLaws.{few-digits, length-rows}
 use Rattle.call_page.specs.ColumnLaws.{column-says, column-blank}
 use Rattle.call_page.specs.PlaceLaws.{column-there, ending-there}
-
-pub not-both : (m n : ℕ) → refused m ≡ gives n → ⊥
-not-both m n e = let z : _≡_ {A = ℕ} 0 1 = cc in omega arith
 
 -- ---- The ways it goes
 
@@ -106,22 +105,6 @@ refused-writes-nothing w s window page n q = go (the-way w s window page)
 
 -- ---- The word
 
-refused-told : (m : ℕ) → 0 < m → m < 256 → Told (refused m)
-unfolding resultWord
-refused-told m some small = record {
-  refused-exactly = λ n.
-      (λ x. let z : m ≡ n = cc in (omega arith, omega arith), λ x. let z : m ≡ n = omega (arith, x .1) in rw z);
-  printed-exactly = λ n. (λ x. absurd (not-both m n x), λ x. absurd (omega (arith, x .0)));
-}
-
-printed-told : (m : ℕ) → m < 65536 → Told (gives m)
-unfolding resultWord
-printed-told m small = record {
-  refused-exactly = λ n. (λ x. absurd (not-both n m (sym x)), λ x. absurd (omega (arith, x .0, x .1)));
-  printed-exactly = λ n.
-      (λ x. let z : m ≡ n = cc in (omega arith, omega arith), λ x. let z : m ≡ n = omega (arith, x .1) in rw z);
-}
-
 pub page-tells : PageTells
 page-tells w s window page = go (the-way w s window page)
   where
@@ -129,4 +112,4 @@ page-tells w s window page = go (the-way w s window page)
     go (turned m some small a kept) = rw a (refused-told m some small)
     go (whole good enough a written) =
         let few = state-within w (roomOf w (length window)) s good in
-        rw a (printed-told (keptCount s) (omega (arith, few .3)))
+        rw a (gives-told (keptCount s) (omega (arith, few .3)))

@@ -9,7 +9,7 @@ use Rattle.frontiers.specs.Bytes.{countBytes}
 use Rattle.pactl.specs.Table.{tableBytes}
 use Rattle.clocks.specs.Event.{Cut}
 use Rattle.clocks.specs.Counts.{listOf}
-use Rattle.records.specs.Record.{eventLength, eventBytes}
+use Rattle.records.specs.Record.{eventLength, eventsBytes}
 
 -- What a record says: the number of processes, the table, the closed processes, the frontiers kept, the taken counts,
 -- each process's last clock, the pending events in their order.
@@ -27,11 +27,6 @@ unfoldable pub clockBytes : ℕ → List (List ℕ) → List ℕ
 clockBytes w [] = []
 clockBytes w (c ∷ cs) = countBytes w c ++ clockBytes w cs
 
--- The bytes of pending events, one behind the other.
-unfoldable pub pendingBytes : ℕ → List Event → List ℕ
-pendingBytes w [] = []
-pendingBytes w (e ∷ es) = eventBytes w e ++ pendingBytes w es
-
 -- The record's bytes; unused bytes are 0 (01, The window: the record).
 unfoldable pub recordBytes : ℕ → Status → List ℕ
 recordBytes w t =
@@ -39,7 +34,7 @@ recordBytes w t =
     ++ countBytes w (listOf 8 (t .counts))
     ++ clockBytes w (listOf 8 (λ p. listOf 8 (t .clocks p)))
     ++ (tableBytes (t .table) ++ replicate (192 - 3 * length (t .table)) 0)
-    ++ (pendingBytes w (t .pending) ++ replicate ((32 - length (t .pending)) * eventLength w) 0)
+    ++ (eventsBytes w (t .pending) ++ replicate ((32 - length (t .pending)) * eventLength w) 0)
 
 -- ---- What the calls change
 

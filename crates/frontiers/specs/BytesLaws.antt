@@ -6,7 +6,7 @@ use native.Mathlib.Omega.{arith}
 use native.Mathlib.Decide.{decLt}
 use mathlib.Core.List.{append-assoc, List, [], _∷_, _++_, append-nil}
 use mathlib.Core.Path.{_≡_, refl, sym, ap, _∙_}
-use lib.ListN.{length, take, drop, length-append, length-drop}
+use lib.ListN.{length, take, drop, replicate, length-append, length-drop, replicate-append-replicate}
 use lib.Seq.{take-at, drop-at, take-take, drop-drop, take-add, length-take-le, drop-append-seam}
 use Rattle.codec.specs.Little.{bytesOf, number, Bytes, valueOf}
 use Rattle.codec.specs.LittleLaws.{length-bytesOf, valueOf-bytesOf, Bytes-drop, Bytes-take, pow-256-pos}
@@ -45,6 +45,19 @@ countBytes-append w (c ∷ cs) ds = rw (countBytes-append w cs ds, append-assoc)
 pub countBytes-one : (w c : ℕ) → countBytes w (c ∷ []) ≡ bytesOf w c
 unfolding countBytes
 countBytes-one w c = append-nil (bytesOf w c)
+
+-- The bytes of zeros are zeros.
+pub bytesOf-zero : (w : ℕ) → bytesOf w 0 ≡ replicate w 0
+unfolding bytesOf
+bytesOf-zero zero = refl
+bytesOf-zero (suc w) = ap (λ (l : List ℕ). 0 ∷ l) (bytesOf-zero w)
+
+pub countBytes-zeros : (w n : ℕ) → countBytes w (listOf n (λ p. 0)) ≡ replicate (n * w) 0
+unfolding countBytes listOf
+countBytes-zeros w zero = rw zero-mul
+countBytes-zeros w (suc n) =
+    let far : suc n * w ≡ w + n * w = omega (arith, suc-mul n w) in
+    rw (far, bytesOf-zero w, countBytes-zeros w n) (replicate-append-replicate w (n * w) 0)
 
 -- A count is read from its place among the bytes of counts.
 pub number-countBytes : (w : ℕ) (cs rest : List ℕ) → ((p : ℕ) → at cs p < 256 ^ w) → (p : ℕ) → p < length cs

@@ -1,4 +1,4 @@
--- Limits (01, Clocks and cuts; The rule; The window).
+-- Limits (01, Clocks and cuts; The rule; The window; 02 [8]).
 use Prim.Native.Nat.{ℕ}
 
 -- Frontiers of a window.
@@ -16,3 +16,7 @@ mostPending = 32
 -- Processes of a watch.
 abbrev pub mostProcesses : ℕ
 mostProcesses = 8
+
+-- Events of a busiest day.
+abbrev pub mostDayEvents : ℕ
+mostDayEvents = 65535

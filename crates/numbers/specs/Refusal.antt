@@ -1,5 +1,5 @@
--- The refusals' numbers (01, Turned back; 02 [5]: 41, 42; [6]: 43; [7]: 44). Each one's condition is a definition,
--- named beside it.
+-- The refusals' numbers (01, Turned back; 02 [5]: 41, 42; [6]: 43; [7]: 44; [8]: 45, 46). Each one's condition is a
+-- definition, named beside it.
 use Prim.Native.Nat.{ℕ}
 
 -- ---- From the input
@@ -89,3 +89,11 @@ tooLargeNumber = 43
 -- call_page Page: shortPage.
 abbrev pub shortPageNumber : ℕ
 shortPageNumber = 44
+
+-- call_busiest Busiest: badDay.
+abbrev pub dayNumber : ℕ
+dayNumber = 45
+
+-- call_busiest Busiest: tooBusy.
+abbrev pub busyNumber : ℕ
+busyNumber = 46

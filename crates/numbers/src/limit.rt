@@ -1,5 +1,5 @@
-// Limits (01, Clocks and cuts; The rule; The window). Lengths in bytes go by the width of a count: see frontiers Bytes,
-// records Record.
+// Limits (01, Clocks and cuts; The rule; The window; 02 [8]). Lengths in bytes go by the width of a count: see
+// frontiers Bytes, records Record.
 
 // Processes of a watch.
 pub const PROCESSES: u64 = 8;
@@ -9,3 +9,5 @@ pub const FRONTIERS: usize = 1024;
 pub const LINES: u32 = 64;
 // Pending events of a record.
 pub const PENDING: usize = 32;
+// Events of a busiest day.
+pub const DAY_EVENTS: u64 = 65535;

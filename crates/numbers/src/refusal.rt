@@ -1,5 +1,5 @@
-// The refusals' numbers (01, Turned back; 02 [5]: 41, 42; [6]: 43; [7]: 44). Each one's condition is a definition,
-// named beside it.
+// The refusals' numbers (01, Turned back; 02 [5]: 41, 42; [6]: 43; [7]: 44; [8]: 45, 46). Each one's condition is a
+// definition, named beside it.
 
 // From the input.
 
@@ -48,3 +48,7 @@ pub const NAMED: u64 = 42;
 pub const TOO_LARGE: u64 = 43;
 // call_page Page: shortPage.
 pub const SHORT_PAGE: u64 = 44;
+// call_busiest Busiest: badDay.
+pub const DAY: u64 = 45;
+// call_busiest Busiest: tooBusy.
+pub const BUSY: u64 = 46;

@@ -2,7 +2,7 @@
 -- how it is set.
 use Prim.Native.Nat.{ℕ, zero, suc, _+_, _-_, _*_}
 use mathlib.Core.Bool.{Bool, cond}
-use mathlib.Core.List.{List, _∷_, _++_}
+use mathlib.Core.List.{List, [], _∷_, _++_}
 use lib.ListN.{getD, take, drop, set, replicate}
 use lib.Seq.{sets}
 use Rattle.pactl.specs.declared.Line.{Line}
@@ -67,11 +67,17 @@ lastClocks w s = listOf 8 (λ p. listOf 8 (λ q. number s (clocksPlace w + p * (
 unfoldable pub tableLines : ℕ → List ℕ → List Line
 tableLines w s = linesOf (drop (tablePlace w) s) (lineTotal s)
 
+-- The event whose bytes begin at a place.
+abbrev pub eventFrom : ℕ → List ℕ → ℕ → Event
+eventFrom w s at = record {
+  mask = getD s at 0;
+  clock = listOf 8 (λ p. number s (at + 8 + p * w) w);
+  labels = take 8 (drop (at + 8 + 8 * w) s);
+}
+
 -- Pending event number i.
 unfoldable pub pendingAt : ℕ → List ℕ → ℕ → Event
-pendingAt w s i =
-    let at = pendingPlace w i in
-    record { mask = getD s at 0; clock = listOf 8 (λ p. number s (at + 8 + p * w) w); labels = take 8 (drop (at + 8 + 8 * w) s) }
+pendingAt w s i = eventFrom w s (pendingPlace w i)
 
 unfoldable pub pendingEvents : ℕ → List ℕ → List Event
 pendingEvents w s = listOf (pendingCount s) (pendingAt w s)
@@ -87,6 +93,11 @@ readyIn w s e = ready 8 e (at (takenCounts w s))
 -- The bytes of a pending event.
 unfoldable pub eventBytes : ℕ → Event → List ℕ
 eventBytes w e = e .mask ∷ replicate 7 0 ++ countBytes w (e .clock) ++ e .labels
+
+-- The bytes of events, one behind the other.
+unfoldable pub eventsBytes : ℕ → List Event → List ℕ
+eventsBytes w [] = []
+eventsBytes w (e ∷ es) = eventBytes w e ++ eventsBytes w es
 
 -- Event e laid down as number i of the pending events, those from i on moved up by one.
 unfoldable pub inserted : ℕ → List ℕ → ℕ → Event → List ℕ

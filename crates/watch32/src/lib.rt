@@ -11,6 +11,7 @@ ghost use Rattle.call_find.specs.Find.{findCall};
 ghost use Rattle.call_close.specs.Close.{closeCall};
 ghost use Rattle.call_move.specs.Move.{moveCall};
 ghost use Rattle.call_page.specs.Page.{pageCall};
+ghost use Rattle.call_busiest.specs.Busiest.{busiestCall};
 ghost use Rattle.answers.specs.Answer.{replyWord};
 ghost use Rattle.answers.specs.Result.{resultWord};
 
@@ -118,4 +119,13 @@ pub extern "C" fn watch32_page(record: &[u8], window: &[u8], page: &mut [u8]) ->
         ≡ pageCall 4 (now («record» .entry)) (now (window .entry)) (now (page .entry)) .page ⌝ }
 {
     call_page::write_page(4, record, window, page)
+}
+
+// Writes the events of a busiest day into a list (02 [8]).
+#[no_mangle]
+pub extern "C" fn watch32_busiest(k: u64, n: u64, events: &mut [u8]) -> u64
+    ensures reply { λ r. ⌜ r ≡ resultWord (busiestCall 4 k n (now (events .entry)) .answer) ⌝ }
+    ensures events { λ r. ⌜ now (events .exit) ≡ busiestCall 4 k n (now (events .entry)) .events ⌝ }
+{
+    call_busiest::busiest(4, k, n, events)
 }

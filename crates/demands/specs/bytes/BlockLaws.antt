@@ -13,8 +13,8 @@ use Rattle.frontiers.specs.ListLaws.{place-member}
 use Rattle.frontiers.specs.Bytes.{countBytes}
 use Rattle.demands.specs.bytes.InsertLaws.{member-take}
 use Rattle.demands.specs.bytes.PlaceLaws.{sets-over, Bytes-append}
-use Rattle.records.specs.Record.{eventBytes}
-use Rattle.demands.specs.Status.{clockBytes, pendingBytes}
+use Rattle.records.specs.Record.{eventBytes, eventsBytes}
+use Rattle.demands.specs.Status.{clockBytes}
 
 -- The bytes of some things, one behind the other.
 unfoldable pub blocks : {A : Type 0} → (A → List ℕ) → List A → List ℕ
@@ -30,10 +30,10 @@ unfolding clockBytes blocks
 clockBytes-blocks w [] = refl
 clockBytes-blocks w (c ∷ cs) = rw (clockBytes-blocks w cs)
 
-pub pendingBytes-blocks : (w : ℕ) (es : List Event) → pendingBytes w es ≡ blocks (eventBytes w) es
-unfolding pendingBytes blocks
-pendingBytes-blocks w [] = refl
-pendingBytes-blocks w (e ∷ es) = rw (pendingBytes-blocks w es)
+pub eventsBytes-blocks : (w : ℕ) (es : List Event) → eventsBytes w es ≡ blocks (eventBytes w) es
+unfolding eventsBytes blocks
+eventsBytes-blocks w [] = refl
+eventsBytes-blocks w (e ∷ es) = rw (eventsBytes-blocks w es)
 
 module _ {A : Type 0} (f : A → List ℕ) where
   pub blocks-append : (xs ys : List A) → blocks f (xs ++ ys) ≡ blocks f xs ++ blocks f ys

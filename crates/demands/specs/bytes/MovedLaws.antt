@@ -14,14 +14,14 @@ use Rattle.frontiers.specs.declared.Frontier.{Frontier}
 use Rattle.frontiers.specs.Bytes.{countBytes, frontierLength, frontierBytes, framed, windowBytes}
 use Rattle.frontiers.specs.Shaped.{Shaped, AllShaped}
 use Rattle.codec.specs.Little.{bytesOf, Bytes}
-use Rattle.frontiers.specs.BytesLaws.{length-countBytes, countBytes-append}
-use Rattle.records.specs.Record.{eventLength, eventBytes}
+use Rattle.frontiers.specs.BytesLaws.{length-countBytes, countBytes-append, countBytes-zeros}
+use Rattle.records.specs.Record.{eventLength, eventBytes, eventsBytes}
 use Rattle.call_move.specs.Parts.{Part, plain, counts, lengthOf, partLength, repeated, eventParts, recordParts, frontierParts, windowParts}
 use Rattle.call_move.specs.PartLaws.{lengthOf-repeated, length-eventParts, length-windowParts}
 use Rattle.call_move.specs.CountLaws.{counts-read}
 use Rattle.call_move.specs.Move.{moved}
-use Rattle.demands.specs.Status.{Status, clockBytes, pendingBytes, recordBytes}
-use Rattle.demands.specs.bytes.PlaceLaws.{zeros, zeros-add, countBytes-zeros, Bytes-append, Bytes-zeros, Bytes-countBytes}
+use Rattle.demands.specs.Status.{Status, clockBytes, recordBytes}
+use Rattle.demands.specs.bytes.PlaceLaws.{zeros, zeros-add, Bytes-append, Bytes-zeros, Bytes-countBytes}
 use Rattle.demands.specs.bytes.RecordBlocks.{fit-listOf, AllStorable, clockRows, member-listOf, headOf, afterHead, afterCounts, afterClocks, tableBlock, pendingBlock, counts-split, length-headOf, length-tableBlock}
 use Rattle.codec.specs.LittleLaws.{pow-256-pos, length-bytesOf, Bytes-bytesOf}
 use Rattle.clocks.specs.stored.CountsLaws.{length-listOf}
@@ -75,9 +75,9 @@ module _ (v w : ℕ) where
       apart a b c d = simp append-assoc
 
   pending-moved : (es : List Event) → AllStorable v es → (m : ℕ)
-      → moved v w (repeated (length es + m) eventParts) (pendingBytes v es ++ zeros (m * eventLength v))
-      ≡ pendingBytes w es ++ zeros (m * eventLength w)
-  unfolding pendingBytes repeated
+      → moved v w (repeated (length es + m) eventParts) (eventsBytes v es ++ zeros (m * eventLength v))
+      ≡ eventsBytes w es ++ zeros (m * eventLength w)
+  unfolding eventsBytes repeated
   pending-moved [] h m =
       rw (zero-add, ← length-events v, ← length-events w) (zeros-moved v w (repeated m eventParts))
     where
@@ -87,7 +87,7 @@ module _ (v w : ℕ) where
   pending-moved (e ∷ es) h m =
       rw (suc-add, append-assoc, append-assoc)
       (event-moved e (h e (List·Memᴰ·head refl)) (repeated (length es + m) eventParts)
-      (pendingBytes v es ++ zeros (m * eventLength v))
+      (eventsBytes v es ++ zeros (m * eventLength v))
       ∙ ap (λ (l : List ℕ). eventBytes w e ++ l) (pending-moved es (λ d i. h d (List·Memᴰ·tail i)) m))
 
 -- ---- Last clocks

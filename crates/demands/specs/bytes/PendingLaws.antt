@@ -10,7 +10,7 @@ use Rattle.clocks.specs.declared.Event.{Event}
 use Rattle.frontiers.specs.ListLaws.{place-member}
 use Rattle.clocks.specs.stored.CountsLaws.{filled}
 use Rattle.demands.specs.bytes.PlaceLaws.{zeros, drop-behind, sets-behind}
-use Rattle.demands.specs.bytes.BlockLaws.{blocks, pendingBytes-blocks, block-apart, length-before, Even}
+use Rattle.demands.specs.bytes.BlockLaws.{blocks, eventsBytes-blocks, block-apart, length-before, Even}
 use Rattle.records.specs.Record.{eventLength, pendingPlace, pendingAt, pendingEvents, eventBytes, inserted, removed}
 use Rattle.demands.specs.bytes.RecordBlocks.{frontBytes, recordBytes-blocks, even-pending, length-frontBytes, pendingBlock}
 use Rattle.demands.specs.Status.{Status, recordBytes, insertAt, removeAt}
@@ -29,7 +29,7 @@ module _ (w : ℕ) (t : Status) (z : Sized w t) where
       → pendingAt w (recordBytes w t) i ≡ getD (t .pending) i d
   unfolding pendingAt
   pendingAt-recordBytes i d l =
-      rw (recordBytes-blocks w t, pendingBytes-blocks w es, block-apart (eventBytes w) es i d l front rest)
+      rw (recordBytes-blocks w t, eventsBytes-blocks w es, block-apart (eventBytes w) es i d l front rest)
       (eventFrom-bytes w (getD es i d) (z .storable (getD es i d) (place-member es i d l))
       (front ++ blocks (eventBytes w) (take i es)) (blocks (eventBytes w) (drop (suc i) es) ++ rest) (pendingPlace w i)
       (length-before (eventBytes w) (eventLength w) es (even-pending w es (z .storable)) i (omega arith) front
@@ -55,7 +55,7 @@ module _ (w : ℕ) (t : Status) (z : Sized w t) where
 
 -- The pending events' block, as blocks in a room of 32 places.
 block-inRoom : (w : ℕ) (es : List Event) → pendingBlock w es ≡ inRoom (eventBytes w) (eventLength w) 32 es
-block-inRoom w es = rw (pendingBytes-blocks w es)
+block-inRoom w es = rw (eventsBytes-blocks w es)
 
 -- Other pending events behind the front, and their number, are another record.
 withPending-front : (w : ℕ) (t : Status) (n : ℕ) (es : List Event)

@@ -1,7 +1,6 @@
 -- Lists side by side: what stands behind a list of known length is read and stored there alone.
 use Prim.Native.Nat.{ℕ, zero, suc, _+_, _*_, _^_, _≤_, _<_}
 use native.Mathlib.Omega.{arith}
-use native.Mathlib.Nat.{zero-mul, suc-mul}
 use mathlib.Core.Path.{_≡_, refl, sym, ap, _∙_}
 use mathlib.Core.List.{List, [], _∷_, _++_, append-assoc}
 use lib.Dec.{lit<}
@@ -89,18 +88,6 @@ Bytes-countBytes w (c ∷ cs) i =
 
 pub zeros-add : (m n : ℕ) → zeros m ++ zeros n ≡ zeros (m + n)
 zeros-add m n = replicate-append-replicate m n 0
-
-pub bytesOf-zero : (w : ℕ) → bytesOf w 0 ≡ zeros w
-unfolding bytesOf
-bytesOf-zero zero = refl
-bytesOf-zero (suc w) = ap (λ (l : List ℕ). 0 ∷ l) (bytesOf-zero w)
-
-pub countBytes-zeros : (w n : ℕ) → countBytes w (listOf n (λ p. 0)) ≡ zeros (n * w)
-unfolding countBytes listOf
-countBytes-zeros w zero = rw zero-mul
-countBytes-zeros w (suc n) =
-    let far : suc n * w ≡ w + n * w = omega (arith, suc-mul n w) in
-    rw (far, bytesOf-zero w, countBytes-zeros w n) (zeros-add w (n * w))
 
 pub drop-zeros : (m n : ℕ) → drop m (zeros (m + n)) ≡ zeros n
 drop-zeros m n = rw (← zeros-add m n) (drop-at (zeros m) (zeros n) m (length-replicate m 0))

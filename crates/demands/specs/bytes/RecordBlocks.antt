@@ -18,9 +18,9 @@ use Rattle.clocks.specs.Event.{Cut}
 use Rattle.clocks.specs.Counts.{at, listOf}
 use Rattle.clocks.specs.stored.CountsLaws.{length-listOf, getD-listOf, at-listOf, at-beyond}
 use Rattle.demands.specs.bytes.PlaceLaws.{zeros}
-use Rattle.demands.specs.bytes.BlockLaws.{Even, clockBytes-blocks, pendingBytes-blocks, length-blocks}
-use Rattle.records.specs.Record.{eventLength, eventBytes}
-use Rattle.demands.specs.Status.{Status, clockBytes, pendingBytes, recordBytes}
+use Rattle.demands.specs.bytes.BlockLaws.{Even, clockBytes-blocks, eventsBytes-blocks, length-blocks}
+use Rattle.records.specs.Record.{eventLength, eventBytes, eventsBytes}
+use Rattle.demands.specs.Status.{Status, clockBytes, recordBytes}
 use Rattle.demands.specs.bytes.StoredLaws.{length-counts, length-eventBytes}
 use Rattle.demands.specs.bytes.Sized.{Storable}
 
@@ -36,7 +36,7 @@ abbrev pub tableBlock : List Line → List ℕ
 tableBlock ls = tableBytes ls ++ zeros (192 - 3 * length ls)
 
 abbrev pub pendingBlock : ℕ → List Event → List ℕ
-pendingBlock w es = pendingBytes w es ++ zeros ((32 - length es) * eventLength w)
+pendingBlock w es = eventsBytes w es ++ zeros ((32 - length es) * eventLength w)
 
 -- What stands before the pending events, where there are so many of them.
 abbrev pub frontBytes : ℕ → Status → ℕ → List ℕ
@@ -151,10 +151,10 @@ AllStorable w es = (e : Event) → List·Memᴰ e es → Storable w e
 pub even-pending : (w : ℕ) (es : List Event) → AllStorable w es → Even (eventBytes w) (eventLength w) es
 even-pending w es h e m = length-eventBytes w e (h e m)
 
-pub length-pendingBytes : (w : ℕ) (es : List Event) → AllStorable w es
-    → length (pendingBytes w es) ≡ length es * eventLength w
-length-pendingBytes w es h =
-    rw (pendingBytes-blocks w es) (length-blocks (eventBytes w) (eventLength w) es (even-pending w es h))
+pub length-eventsBytes : (w : ℕ) (es : List Event) → AllStorable w es
+    → length (eventsBytes w es) ≡ length es * eventLength w
+length-eventsBytes w es h =
+    rw (eventsBytes-blocks w es) (length-blocks (eventBytes w) (eventLength w) es (even-pending w es h))
 
 pub length-pendingBlock : (w : ℕ) (es : List Event) → length es ≤ 32 → AllStorable w es
     → length (pendingBlock w es) ≡ 32 * eventLength w
@@ -162,7 +162,7 @@ length-pendingBlock w es few h =
     let whole : length es + (32 - length es) ≡ 32 = omega arith in
     rw (
       length-append,
-      length-pendingBytes w es h,
+      length-eventsBytes w es h,
       length-replicate,
       ← add-mul (length es) (32 - length es) (eventLength w),
       whole,

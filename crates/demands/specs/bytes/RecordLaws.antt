@@ -13,10 +13,10 @@ use Rattle.clocks.specs.Counts.{listOf}
 use Rattle.clocks.specs.stored.CountsLaws.{length-listOf, listOf-same, getD-listOf}
 use Rattle.frontiers.specs.Bytes.{countBytes}
 use Rattle.demands.specs.bytes.PlaceLaws.{numbers-countBytes, zeros, Bytes-append, Bytes-zeros, Bytes-countBytes, Bytes-cons}
-use Rattle.records.specs.Record.{clocksPlace, tablePlace, recordLength, processCount, lineTotal, pendingCount, closedMask, keptCount, takenCounts, lastClocks, tableLines, eventLength, eventBytes}
+use Rattle.records.specs.Record.{clocksPlace, tablePlace, recordLength, processCount, lineTotal, pendingCount, closedMask, keptCount, takenCounts, lastClocks, tableLines, eventLength, eventBytes, eventsBytes}
 use Rattle.demands.specs.bytes.RecordBlocks.{clockRows, pendingBlock, recordBytes-blocks, headOf, beforeTable, afterCounts, afterHead, kept-split, counts-split, table-split, fit-listOf, length-pendingBlock, length-frontBytes, length-beforeTable, beforeClocks, afterClocks, tableBlock, frontBytes, clocks-split, length-headOf, even-clocks, length-beforeClocks}
-use Rattle.demands.specs.Status.{Status, recordBytes, clockBytes, pendingBytes}
-use Rattle.demands.specs.bytes.BlockLaws.{blocks, clockBytes-blocks, pendingBytes-blocks, Bytes-blocks, block-apart, length-before}
+use Rattle.demands.specs.Status.{Status, recordBytes, clockBytes}
+use Rattle.demands.specs.bytes.BlockLaws.{blocks, clockBytes-blocks, eventsBytes-blocks, Bytes-blocks, block-apart, length-before}
 use Rattle.demands.specs.bytes.StoredLaws.{Bytes-eventBytes}
 use Rattle.demands.specs.bytes.Sized.{Sized}
 
@@ -119,8 +119,8 @@ module _ (w : ℕ) (t : Status) (z : Sized w t) where
       (Bytes-blocks (countBytes w) (clockRows (t .clocks)) (λ c m. Bytes-countBytes w c))))
       (Bytes-append (tableBytes (t .table)) (zeros (192 - 3 * length (t .table))) (z .line-bytes)
       (Bytes-zeros (192 - 3 * length (t .table)))))
-      (Bytes-append (pendingBytes w (t .pending)) (zeros ((32 - length (t .pending)) * eventLength w))
-      (rw (pendingBytes-blocks w (t .pending))
+      (Bytes-append (eventsBytes w (t .pending)) (zeros ((32 - length (t .pending)) * eventLength w))
+      (rw (eventsBytes-blocks w (t .pending))
       (Bytes-blocks (eventBytes w) (t .pending) (λ e m. Bytes-eventBytes w e (z .storable e m))))
       (Bytes-zeros ((32 - length (t .pending)) * eventLength w)))
     where

@@ -14,7 +14,7 @@ use lib.Dec.{ltb, lit≤}
 use borrow.Author.Tests.{lt-ltb, le-ltb}
 use Rattle.codec.specs.Little.{bytesOf, put}
 use Rattle.codec.specs.LittleLaws.{length-bytesOf}
-use Rattle.frontiers.specs.BytesLaws.{count-within}
+use Rattle.frontiers.specs.BytesLaws.{count-within, countBytes-zeros}
 use Rattle.frontiers.specs.Bytes.{countBytes}
 use Rattle.clocks.specs.Event.{Cut, count, involved, apply}
 use Rattle.clocks.specs.Counts.{listOf, at}
@@ -23,11 +23,11 @@ use Rattle.pactl.specs.declared.Line.{Line}
 use Rattle.clocks.specs.declared.Event.{Event}
 use Rattle.pactl.specs.TableLaws.{length-tableBytes}
 use Rattle.pactl.specs.Table.{tableBytes}
-use Rattle.demands.specs.bytes.PlaceLaws.{sets-over, sets-inside, zeros, zeros-add, countBytes-zeros}
+use Rattle.demands.specs.bytes.PlaceLaws.{sets-over, sets-inside, zeros, zeros-add}
 use Rattle.demands.specs.bytes.BlockLaws.{clockBytes-blocks, blocks-set}
-use Rattle.records.specs.Record.{takenPlace, clocksPlace, closedSet, clocksSet, counted, eventLength}
+use Rattle.records.specs.Record.{takenPlace, clocksPlace, closedSet, clocksSet, counted, eventLength, eventsBytes}
 use Rattle.demands.specs.bytes.RecordBlocks.{clockRows, headOf, beforeClocks, afterClocks, afterCounts, afterHead, kept-split, counts-split, clocks-split, length-headOf, length-eight, even-clocks, length-clocks, length-beforeClocks, headBytes}
-use Rattle.demands.specs.Status.{Status, clockBytes, recordBytes, pendingBytes}
+use Rattle.demands.specs.Status.{Status, clockBytes, recordBytes}
 use Rattle.demands.specs.bytes.StoredLaws.{length-counts}
 use Rattle.call_open.specs.Open.{firstRecord}
 use Rattle.demands.specs.bytes.RecordLaws.{takenCounts-recordBytes}
@@ -220,7 +220,7 @@ clocks-zeros w (suc n) =
     rw (far, ← zeros-add (8 * w) (n * (8 * w)), clocks-zeros w n, ← countBytes-zeros w 8)
 
 pub firstRecord-recordBytes : (w k : ℕ) (ls : List Line) → firstRecord w k ls ≡ recordBytes w (firstStatus k ls)
-unfolding firstRecord recordBytes pendingBytes
+unfolding firstRecord recordBytes eventsBytes
 firstRecord-recordBytes w k ls =
     let sum : 72 * w ≡ 8 * w + 8 * (8 * w) = omega arith in
     let many : zeros (72 * w) ≡ zeros (8 * w) ++ zeros (8 * (8 * w)) = rw sum (sym (zeros-add (8 * w) (8 * (8 * w)))) in

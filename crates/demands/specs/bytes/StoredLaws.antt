@@ -11,16 +11,8 @@ use Rattle.frontiers.specs.BytesLaws.{length-countBytes}
 use Rattle.frontiers.specs.Bytes.{countBytes}
 use Rattle.clocks.specs.Counts.{listOf}
 use Rattle.demands.specs.bytes.PlaceLaws.{numbers-countBytes, zeros, Bytes-append, Bytes-cons, Bytes-zeros, Bytes-countBytes}
-use Rattle.records.specs.Record.{eventLength, eventBytes}
+use Rattle.records.specs.Record.{eventLength, eventFrom, eventBytes}
 use Rattle.demands.specs.bytes.Sized.{Storable}
-
--- The event whose bytes begin at a place.
-abbrev pub eventFrom : ℕ → List ℕ → ℕ → Event
-eventFrom w s n = record {
-  mask = getD s n 0;
-  clock = listOf 8 (λ p. number s (n + 8 + p * w) w);
-  labels = take 8 (drop (n + 8 + 8 * w) s);
-}
 
 -- Events with the same parts are the same.
 pub event-same : (e f : Event) → e .mask ≡ f .mask → e .clock ≡ f .clock → e .labels ≡ f .labels → e ≡ f

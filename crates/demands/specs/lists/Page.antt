@@ -28,7 +28,8 @@ use Rattle.refusals.specs.Refusals.{badWindowLength}
 use Rattle.answers.specs.Result.{Result, refused, gives}
 use Rattle.call_page.specs.Page.{rows, shortPage, Paged, pageCall}
 use Rattle.call_page.specs.PageExact.{RowSays, Printed}
-use Rattle.call_page.specs.PageTheorem.{not-both, page-exact}
+use Rattle.answers.specs.ToldLaws.{not-both}
+use Rattle.call_page.specs.PageTheorem.{page-exact}
 use Rattle.demands.specs.Run.{Watch}
 use Rattle.demands.specs.World.{modelAfter, frontierAfter}
 use Rattle.demands.specs.statements.Page.{nextPage, PageShows, PageShowsKept}

@@ -1,0 +1,121 @@
+-- The events of a process, and those of the day, one more with each turn.
+use Prim.Native.Nat.{ℕ, zero, suc, _+_, _-_, _*_, _≤_, _<_}
+use native.Mathlib.Nat.{zero-mul, suc-mul, add-mul, zero-add, mul-le-mul-right}
+use native.Mathlib.Numerals.{add-one}
+use native.Mathlib.Omega.{arith}
+use mathlib.Core.Path.{_≡_, refl, sym, ap, _∙_}
+use mathlib.Core.List.{List, [], _∷_, _++_, append-assoc, append-nil}
+use lib.ListN.{length, getD, replicate, length-append}
+use lib.Seq.{sets}
+use Rattle.codec.specs.SetsLaws.{sets-append, getD-sets-after}
+use Rattle.clocks.specs.declared.Event.{Event}
+use Rattle.clocks.specs.Counts.{listOf}
+use Rattle.frontiers.specs.ListLaws.{listOf-more}
+use Rattle.records.specs.Record.{eventLength, eventBytes, eventsBytes}
+use Rattle.call_busiest.specs.Sharing.{total}
+use Rattle.call_busiest.specs.SharingLaws.{total-next, total-grows}
+use Rattle.call_busiest.specs.Busiest.{single, singles, day}
+use Rattle.call_busiest.specs.BusiestCode.{Blank}
+use Rattle.call_busiest.proofs.EventSteps.{length-single}
+
+-- ---- Events one behind the other
+
+events-append : (w : ℕ) (es fs : List Event) → eventsBytes w (es ++ fs) ≡ eventsBytes w es ++ eventsBytes w fs
+unfolding eventsBytes
+events-append w [] fs = refl
+events-append w (e ∷ es) fs = rw (events-append w es fs) (sym (append-assoc (eventBytes w e) (eventsBytes w es) (eventsBytes w fs)))
+
+length-events : (w n : ℕ) (g : ℕ → Event) → ((i : ℕ) → length (eventBytes w (g i)) ≡ eventLength w)
+    → length (eventsBytes w (listOf n g)) ≡ n * eventLength w
+unfolding eventsBytes listOf
+length-events w zero g h = sym (zero-mul (eventLength w))
+length-events w (suc n) g h =
+    rw (length-append, h 0, length-events w n (λ i. g (suc i)) (λ i. h (suc i)), suc-mul n (eventLength w)) (omega arith)
+
+-- Behind what was stored all is as it was.
+blank-behind : (s : List ℕ) (place : ℕ) (bs : List ℕ) (n : ℕ) → length bs ≡ n → Blank s place
+    → Blank (sets s place bs) (place + n)
+blank-behind s place bs n long b i l =
+    getD-sets-after s place bs i 0 (omega arith) ∙ b i (omega arith)
+
+-- ---- Of one process
+
+module _ (w p : ℕ) where
+  pub length-singles : (n : ℕ) → length (eventsBytes w (singles p n)) ≡ n * eventLength w
+  unfolding singles
+  length-singles n = length-events w n (λ i. single p (suc i)) (λ i. length-single w p (suc i))
+
+  singles-next : (s : List ℕ) (place n : ℕ)
+      → sets (sets s place (eventsBytes w (singles p n))) (place + n * eventLength w) (eventBytes w (single p (suc n)))
+      ≡ sets s place (eventsBytes w (singles p (suc n)))
+  unfolding singles eventsBytes
+  singles-next s place n =
+      rw (← length-singles n, sets-append s place (eventsBytes w (singles p n)) (eventBytes w (single p (suc n))))
+      (ap (sets s place)
+      (sym (ap (eventsBytes w) (listOf-more n (λ i. single p (suc i)))
+      ∙ events-append w (singles p n) (single p (suc n) ∷ [])
+      ∙ ap (λ (l : List ℕ). eventsBytes w (singles p n) ++ l) (append-nil (eventBytes w (single p (suc n)))))))
+
+  pub singles-step : (s : List ℕ) (place n : ℕ) (t : List ℕ) (at : ℕ) (u : List ℕ)
+      → t ≡ sets s place (eventsBytes w (singles p n)) → at ≡ place + n * eventLength w
+      → u ≡ sets t at (eventBytes w (single p (n + 1)))
+      → u ≡ sets s place (eventsBytes w (singles p (n + 1)))
+  singles-step s place n t at u a b e = e ∙ rw (a, b, add-one n) (singles-next s place n)
+
+  pub singles-blank : (s : List ℕ) (place n : ℕ) → Blank s place
+      → Blank (sets s place (eventsBytes w (singles p n))) (place + n * eventLength w)
+  singles-blank s place n b = blank-behind s place (eventsBytes w (singles p n)) (n * eventLength w) (length-singles n) b
+
+-- ---- Of all processes
+
+module _ (w : ℕ) (f : ℕ → ℕ) where
+  pub length-day : (p : ℕ) → length (eventsBytes w (day f p)) ≡ total (listOf p f) * eventLength w
+  unfolding day eventsBytes total listOf
+  length-day zero = sym (zero-mul (eventLength w))
+  length-day (suc p) =
+      rw (events-append w (day f p) (singles p (f p)), length-append, length-day p, length-singles w p (f p))
+      (sym (ap (λ (n : ℕ). n * eventLength w) (total-next f p) ∙ add-mul (total (listOf p f)) (f p) (eventLength w)))
+
+  day-next : (s : List ℕ) (p : ℕ)
+      → sets (sets s 0 (eventsBytes w (day f p))) (total (listOf p f) * eventLength w) (eventsBytes w (singles p (f p)))
+      ≡ sets s 0 (eventsBytes w (day f (suc p)))
+  unfolding day
+  day-next s p =
+      rw (← length-day p, events-append w (day f p) (singles p (f p)))
+      (ap (λ (a : ℕ). sets (sets s 0 (eventsBytes w (day f p))) a (eventsBytes w (singles p (f p))))
+      (sym (zero-add (length (eventsBytes w (day f p)))))
+      ∙ sets-append s 0 (eventsBytes w (day f p)) (eventsBytes w (singles p (f p))))
+
+  pub day-step : (s : List ℕ) (p : ℕ) (t : List ℕ) (at c : ℕ) (u : List ℕ)
+      → t ≡ sets s 0 (eventsBytes w (day f p)) → at ≡ total (listOf p f) * eventLength w → c ≡ f p
+      → u ≡ sets t at (eventsBytes w (singles p c))
+      → u ≡ sets s 0 (eventsBytes w (day f (p + 1)))
+  day-step s p t at c u a b d e = e ∙ rw (a, b, d, add-one p) (day-next s p)
+
+  pub day-blank : (s : List ℕ) (p : ℕ) → Blank s 0
+      → Blank (sets s 0 (eventsBytes w (day f p))) (total (listOf p f) * eventLength w)
+  day-blank s p b =
+      let from : 0 + total (listOf p f) * eventLength w ≡ total (listOf p f) * eventLength w = zero-add _ in
+      rw from at (blank-behind s 0 (eventsBytes w (day f p)) (total (listOf p f) * eventLength w) (length-day p) b)
+
+  -- The events of the next process are within the list.
+  pub share-within : (p k c : ℕ) → p < k → c ≡ f p → total (listOf p f) + c ≤ total (listOf k f)
+  share-within p k c l e =
+      let all : k - suc p + suc p ≡ k = omega arith in
+      let more : total (listOf (suc p) f) ≤ total (listOf k f) = rw all at (total-grows f (suc p) (k - suc p)) in
+      omega (arith, total-next f p)
+
+  pub place-within : (p k c : ℕ) → p < k → c ≡ f p
+      → total (listOf p f) * eventLength w + c * eventLength w ≤ total (listOf k f) * eventLength w
+  place-within p k c l e =
+      rw (← add-mul (total (listOf p f)) c (eventLength w)) (mul-le-mul-right (eventLength w) (share-within p k c l e))
+
+  pub place-next : (p c : ℕ) → c ≡ f p
+      → total (listOf p f) * eventLength w + c * eventLength w ≡ total (listOf (p + 1) f) * eventLength w
+  place-next p c e =
+      sym (rw (add-one p, total-next f p, e) (add-mul (total (listOf p f)) (f p) (eventLength w)))
+
+pub blank-zeros : (n i : ℕ) → getD {A = ℕ} (replicate n 0) i 0 ≡ 0
+blank-zeros zero i = refl
+blank-zeros (suc n) zero = refl
+blank-zeros (suc n) (suc i) = blank-zeros n i

@@ -1,0 +1,35 @@
+-- Events shared among processes, and how many frontiers they keep (02 [8]). A sharing is how many events each process
+-- has, process 0 first.
+use Prim.Native.Nat.{ℕ, suc, _+_, _-_, _*_, _/_, _%_}
+use mathlib.Core.List.{List, [], _∷_, map}
+use lib.Dec.{ltb}
+use Rattle.clocks.specs.Event.{one}
+use Rattle.clocks.specs.Counts.{listOf}
+
+-- ---- Shared evenly
+
+-- What process p has where each has so many, and the first ones, so many of them, one more.
+unfoldable pub evenly : ℕ → ℕ → ℕ → ℕ
+evenly each more p = each + one (ltb p more)
+
+-- What process p has of n events that k processes share evenly: the first n mod k have one more.
+abbrev pub share : ℕ → ℕ → ℕ → ℕ
+share k n p = evenly (n / k) (n % k) p
+
+abbrev pub shares : ℕ → ℕ → List ℕ
+shares k n = listOf k (share k n)
+
+-- ---- Frontiers kept
+
+-- All of them.
+unfoldable pub total : List ℕ → ℕ
+total [] = 0
+total (c ∷ cs) = c + total cs
+
+unfoldable pub product : List ℕ → ℕ
+product [] = 1
+product (c ∷ cs) = c * product cs
+
+-- The product of all n(p) + 1 less the product of all n(p). (It is never the larger one: SharingLaws.)
+unfoldable pub keptBy : List ℕ → ℕ
+keptBy cs = product (map suc cs) - product cs
