@@ -2,3 +2,4 @@
 mod KeptSteps
 mod EventSteps
 mod DaySteps
+mod BusiestSteps

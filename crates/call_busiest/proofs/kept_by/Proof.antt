@@ -92,8 +92,7 @@ loop-again c =
     let d = c .before in
     let l = d .before .before .loop in
     let a = d .before .before .before .args in
-    let few : l .product ≤ 1024 = omega (arith, c .if1 .left) in
-    (
+    let few : l .product ≤ 1024 = omega (arith, c .if1 .left) in (
       search needs,
       now-kept d,
       product-step (evenly (a .each) (a .more)) (l .p) (l .product) (d .share .result) (l .inv .2) (d .share .ensures .0),

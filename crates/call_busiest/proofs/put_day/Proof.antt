@@ -71,8 +71,7 @@ put-singles-requires c κs =
     let long : length (z .clear-all .last .0) ≡ length (now (a .events)) =
     ap length (z .clear-all .ensures) ∙ length-replicate {A = ℕ} (length (now (a .events))) 0 in
     let clear : Blank (z .clear-all .last .0) 0 =
-    λ i m. rw (z .clear-all .ensures) (blank-zeros (length (now (a .events))) i) in
-    (
+    λ i m. rw (z .clear-all .ensures) (blank-zeros (length (now (a .events))) i) in (
       search needs,
       (
         omega arith,
@@ -142,8 +141,7 @@ loop-again c =
     let e = h .before .before .before in
     let z = e .before .before .before in
     let a = z .before .before .before .args in
-    let f = evenly (a .each) (a .more) in
-    (
+    let f = evenly (a .each) (a .more) in (
       search needs,
       rw (e .event-length .ensures .0, l .inv .1) (place-next (a .w) f (l .p) (h .share .result) (h .share .ensures .0)),
       search needs,

@@ -37,8 +37,7 @@ add-write-count-2 c =
 -- src/lib.rt:65:5
 write-count-requires : tie.Need-write-count-requires
 write-count-requires c κs =
-    let a = c .before .before .args in
-    (
+    let a = c .before .before .args in (
       search needs,
       (
         omega (arith, count-there (a .w) (a .p) (search needs), length-set (now (a .events)) (a .place) (a .mask)),

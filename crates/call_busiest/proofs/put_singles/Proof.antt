@@ -59,8 +59,7 @@ put-single-requires : tie.Need-put-single-requires Inv-loop μ-loop
 put-single-requires c κs =
     let l = c .before .before .loop in
     let a = c .before .before .before .before .before .args in
-    let blank = singles-blank (a .w) (a .p) (now (a .events)) (a .place) (l .i) (search needs) in
-    (
+    let blank = singles-blank (a .w) (a .p) (now (a .events)) (a .place) (l .i) (search needs) in (
       search needs,
       (
         search needs,
@@ -101,8 +100,7 @@ loop-again : tie.Need-loop-again Inv-loop μ-loop
 loop-again c =
     let l = c .before .before .before .before .before .loop in
     let e = c .before .before .before .before .before .before in
-    let a = e .before .before .args in
-    (
+    let a = e .before .before .args in (
       search needs,
       omega (arith, l .inv .1, e .event-length .ensures .0, add-mul (l .i) 1 (eventLength (a .w))),
       search needs,
