@@ -173,6 +173,19 @@ uint64_t model_move(struct model *m, size_t record_len, size_t window_len, uint8
  * number. */
 uint64_t model_page(const struct model *m, size_t record_len, size_t window_len, uint8_t *page, size_t page_len);
 
+/* ---- the busiest day ---- */
+
+/* The frontiers kept after so many events of each of k processes, none of which names or knows another process: by the
+ * request's formula, in which nothing wraps (from 2^32 up it answers UINT64_MAX), and counted cut by cut. */
+uint64_t day_keeps(unsigned k, const unsigned *counts);
+uint64_t count_day(unsigned k, const unsigned *counts);
+
+/* Into the counts: the first n mod k processes have one more. */
+void share_evenly(unsigned k, unsigned n, unsigned *counts);
+
+/* Writes the list, and only if it is not refused. */
+uint64_t model_busiest(uint64_t k, uint64_t n, uint8_t *events, size_t events_len);
+
 /* ---- any bytes ---- */
 
 /* The refusal of offer, or AGAIN, or 0: then the event was accepted and is laid down in the record. */
