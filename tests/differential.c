@@ -31,6 +31,9 @@ static void try_case(uint64_t seed, uint64_t number) {
     } else if (number % 40 == 36) {
         case_begins(seed, number, "pages");
         try_pages(&s, &one);
+    } else if (number % 40 == 16) {
+        case_begins(seed, number, "busiest days");
+        try_days(&s, &one);
     } else if (number % 40 == 31) {
         case_begins(seed, number, "a crowd");
         try_crowd(&s, &one);

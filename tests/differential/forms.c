@@ -33,6 +33,15 @@ struct sent pending_sent(const struct layout *form, const uint8_t *record, unsig
     return e;
 }
 
+struct sent listed_sent(const uint8_t *list, size_t place) {
+    struct sent e = {.mask = watch32_event_mask(list, place)};
+    for (unsigned p = 0; p < PROCESSES; p++) {
+        e.count[p] = watch32_event_count(list, place, p);
+        e.labels |= (uint64_t)list[wide_form.event * place + wide_form.event_labels_at + p] << 8 * p;
+    }
+    return e;
+}
+
 #ifdef OLD_FORM_ALONE
 
 bool both_forms(void) {
@@ -101,6 +110,29 @@ uint64_t call_page(const uint8_t *record, size_t record_len, const uint8_t *wind
 
 #endif
 
+#if defined(OLD_FORM_ALONE) || defined(WITHOUT_BUSIEST)
+
+bool can_generate(void) {
+    return false;
+}
+
+uint64_t call_busiest(uint64_t k, uint64_t n, uint8_t *events, size_t events_len) {
+    (void)k, (void)n, (void)events, (void)events_len;
+    abort();
+}
+
+#else
+
+bool can_generate(void) {
+    return true;
+}
+
+uint64_t call_busiest(uint64_t k, uint64_t n, uint8_t *events, size_t events_len) {
+    return watch32_busiest(k, n, events, events_len);
+}
+
+#endif
+
 uint64_t call_open(const struct layout *form, const uint8_t *rule, size_t rule_len, uint64_t k, uint64_t labels,
                    uint8_t *record, size_t record_len, uint8_t *window, size_t window_len) {
     return CALL(form, open, (rule, rule_len, k, labels, record, record_len, window, window_len));
@@ -130,9 +162,10 @@ uint64_t call_close(const struct layout *form, uint64_t process, uint8_t *record
 /* ---- what was answered ---- */
 
 static struct {
-    unsigned long number[CALLS][256], nothing_ready, again, rows;
+    unsigned long number[CALLS][256], nothing_ready, again, rows, kept;
 } answers[2];
 static unsigned most_kept;
+static unsigned long days_taken, others_taken;
 
 uint64_t tally(const struct layout *form, enum call call, uint64_t reply) {
     unsigned wide = form == &wide_form;
@@ -141,7 +174,13 @@ uint64_t tally(const struct layout *form, enum call call, uint64_t reply) {
     else answers[wide].number[call][watch_number(reply)]++;
     if (call == TAKE && watch_value(reply) > most_kept) most_kept = watch_value(reply);
     if (call == PAGE) answers[wide].rows += watch_value(reply);
+    if (call == DAY) answers[wide].kept += watch_value(reply);
     return reply;
+}
+
+void tally_taken_day(bool busiest) {
+    if (busiest) days_taken++;
+    else others_taken++;
 }
 
 static void print_answers(const char *name, unsigned wide, enum call call) {
@@ -150,18 +189,22 @@ static void print_answers(const char *name, unsigned wide, enum call call) {
     if (call == TAKE) printf(", nothing ready %lu", answers[wide].nothing_ready);
     if (call == OFFER) printf(", again %lu", answers[wide].again);
     if (call == PAGE) printf(", rows %lu", answers[wide].rows);
+    if (call == DAY) printf(", kept %lu", answers[wide].kept);
     for (unsigned i = 1; i < 256; i++)
         if (number[i] != 0) printf(", %u: %lu", i, number[i]);
+    if (call == DAY) printf("; a watch took %lu days, shared otherwise %lu", days_taken, others_taken);
     printf("\n");
 }
 
 void print_tally(void) {
-    static const char *const names[2][CALLS] = {{"open", "offer", "take", "find", "close", "widen", ""},
-                                                {"wide open", "offer", "take", "find", "close", "narrow", "page"}};
+    static const char *const names[2][CALLS] = {
+        {"open", "offer", "take", "find", "close", "widen", "", ""},
+        {"wide open", "offer", "take", "find", "close", "narrow", "page", "busiest"}};
     for (unsigned wide = 0; wide <= both_forms(); wide++) {
         for (unsigned call = 0; call < PAGE; call++)
             if (call != MOVE || both_forms()) print_answers(names[wide][call], wide, call);
         if (can_print(wide ? &wide_form : &narrow_form)) print_answers(names[wide][PAGE], wide, PAGE);
     }
+    if (can_generate()) print_answers(names[1][DAY], 1, DAY);
     printf("  at most %u frontiers kept\n", most_kept);
 }

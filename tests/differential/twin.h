@@ -67,6 +67,10 @@ void try_damage(struct source *s, struct twin *t);
 void try_orders(struct source *s, struct twin *t, struct twin *other, bool large);
 void try_moves(struct source *s, struct twin *t);
 void try_pages(struct source *s, struct twin *t); /* of the wide form, with counts of every number of digits */
+void try_days(struct source *s, struct twin *t);  /* busiest ones, and watches that take them */
+
+/* Opens a watch of k processes in this form, with room for so many frontiers: any rule, any labels. */
+void start_of_form(struct source *s, struct twin *t, const struct layout *form, unsigned k, size_t room);
 
 /* Damages a copy of the watch as it stands and tries calls on that. */
 void damage_excursion(struct source *s, const struct twin *t, unsigned calls);

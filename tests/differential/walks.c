@@ -172,7 +172,7 @@ static void drain(struct source *s, struct twin *t) {
     }
 }
 
-static void start_of_form(struct source *s, struct twin *t, const struct layout *form, unsigned k, size_t room) {
+void start_of_form(struct source *s, struct twin *t, const struct layout *form, unsigned k, size_t room) {
     uint8_t text[TEXT_MOST];
     size_t length = random_rule(s, k, chance(s, 80) ? between(s, 1, 24) : between(s, 24, 64), text);
     t->form = form;
