@@ -27,6 +27,7 @@ int main(void) {
     run("tests/c/wide.c", test_wide);
     run("tests/c/moves.c", test_moves);
     run("tests/c/page.c", test_page);
+    run("tests/c/busiest.c", test_busiest);
     run("tests/c/stack.c", test_stack);
     if (failures != 0) {
         printf("calls: %lu of %lu checks do not hold\n", failures, checks);

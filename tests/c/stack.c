@@ -81,6 +81,12 @@ static void do_page(void) {
                           sizeof page);
 }
 
+static uint8_t day[WATCH32_EVENTS_BYTES(1023)];
+
+static void do_busiest(void) {
+    answer = watch32_busiest(2, 1023, day, sizeof day);
+}
+
 /* How deep the call went into the painted stack. */
 static size_t depth(void (*call)(void)) {
     uint8_t *stack = malloc(STACK);
@@ -143,7 +149,10 @@ void test_stack(void) {
     memset(wide->window.bytes, 255, wide->window.length);
     size_t rows = used(do_page);
     CHECK_REPLY(answer, (uint64_t)WATCH_ROOM << 16);
-    printf("stack: widen %zu, narrow %zu, page %zu bytes; the deepest call %zu\n", there, back, rows, deepest_of_all);
+    size_t events = used(do_busiest);
+    CHECK_REPLY(answer, (uint64_t)1024 << 16);
+    printf("stack: widen %zu, narrow %zu, page %zu, busiest day %zu bytes; the deepest call %zu\n", there, back, rows,
+           events, deepest_of_all);
     subject_free(&old);
     subject_free(&new);
 }
