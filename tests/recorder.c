@@ -1,7 +1,7 @@
 /* Stands around the calls of the library and writes down each reply and, as the call left them, all bytes that were
  * lent for writing, to the file that RECORDING names. Linked with --wrap for each call: whoever makes the calls knows
- * nothing of it. With OLD_FORM_ALONE the old form's calls only, with WITHOUT_PAGE all but the page: then the others may
- * be missing. */
+ * nothing of it. With OLD_FORM_ALONE the old form's calls only, with WITHOUT_PAGE all but the page, with
+ * WITHOUT_BUSIEST all but the busiest day: then the others may be missing. */
 #include <stdio.h>
 #include <stdlib.h>
 
@@ -141,6 +141,18 @@ uint64_t __wrap_watch32_page(const uint8_t *record, size_t record_len, const uin
                              uint8_t *page, size_t page_len) {
     uint64_t reply = __real_watch32_page(record, record_len, window, window_len, page, page_len);
     put(page, page_len);
+    return put_reply(reply);
+}
+
+#endif
+
+#if !defined(OLD_FORM_ALONE) && !defined(WITHOUT_BUSIEST)
+
+extern __typeof__(watch32_busiest) __real_watch32_busiest, __wrap_watch32_busiest;
+
+uint64_t __wrap_watch32_busiest(uint64_t k, uint64_t n, uint8_t *events, size_t events_len) {
+    uint64_t reply = __real_watch32_busiest(k, n, events, events_len);
+    put(events, events_len);
     return put_reply(reply);
 }
 
