@@ -18,7 +18,7 @@
 
 enum { ROUNDS = 301, WINDOW = WATCH32_FRONTIER_BYTES * WATCH_ROOM };
 
-/* One side: its calls, its watch, where a move of it goes, its page, and a digest of its replies. */
+/* One side: its calls, its watch, where a move of it goes, its page, its list of events, a digest of its replies. */
 struct side {
     uint64_t (*open)(const uint8_t *, size_t, uint64_t, uint64_t, uint8_t *, size_t, uint8_t *, size_t);
     uint64_t (*offer)(uint64_t, uint64_t, uint64_t, uint64_t, uint8_t *, size_t);
@@ -28,9 +28,11 @@ struct side {
     uint64_t (*close)(uint64_t, uint8_t *, size_t, uint8_t *, size_t);
     uint64_t (*move)(const uint8_t *, size_t, const uint8_t *, size_t, uint8_t *, size_t, uint8_t *, size_t);
     uint64_t (*page)(const uint8_t *, size_t, const uint8_t *, size_t, uint8_t *, size_t);
+    uint64_t (*busiest)(uint64_t, uint64_t, uint8_t *, size_t);
     uint8_t record[WATCH32_RECORD_BYTES], window[WINDOW], scratch[WINDOW];
     uint8_t to_record[WATCH32_RECORD_BYTES], to_window[WINDOW];
     uint8_t rows[WATCH32_PAGE_BYTES(WATCH_ROOM)];
+    uint8_t events[WATCH32_EVENTS_BYTES(WATCH32_DAY_EVENTS)];
     uint64_t digest;
     double times[ROUNDS];
 };
@@ -60,6 +62,7 @@ static void choose_form(bool wide) {
     proved.close = wide ? watch32_close : watch_close, plain.close = wide ? plain32_close : plain_close;
     proved.move = wide ? watch_narrow : watch_widen, plain.move = wide ? plain32_move : plain_move;
     proved.page = watch32_page, plain.page = plain32_page;
+    proved.busiest = watch32_busiest, plain.busiest = plain32_busiest;
 }
 
 /* The bytes of so many frontiers. */
@@ -140,7 +143,8 @@ static void compare_sides(const char *name) {
         memcmp(proved.scratch, plain.scratch, saved.length) == 0 &&
         memcmp(proved.to_record, plain.to_record, sizeof plain.to_record) == 0 &&
         memcmp(proved.to_window, plain.to_window, sizeof plain.to_window) == 0 &&
-        memcmp(proved.rows, plain.rows, sizeof plain.rows) == 0)
+        memcmp(proved.rows, plain.rows, sizeof plain.rows) == 0 &&
+        memcmp(proved.events, plain.events, sizeof plain.events) == 0)
         return;
     printf("the two sides differ after: %s\n", name);
     exit(1);
@@ -446,6 +450,32 @@ static void pages(void) {
     measure("page, 8 processes, counts of one to three digits", one_page, 1, ROUNDS);
 }
 
+/* ---- busiest days ---- */
+
+static unsigned day_processes, day_events, day_calls;
+
+static void some_days(struct side *s) {
+    for (unsigned i = 0; i < day_calls; i++)
+        seen(s, s->busiest(day_processes, day_events, s->events, WATCH32_EVENTS_BYTES(day_events)));
+}
+
+/* No watch is at work here: what the day keeps is laid into the record for the table alone. */
+static void measure_day(const char *name, unsigned k, unsigned n, unsigned calls) {
+    day_processes = k, day_events = n, day_calls = calls;
+    lay_count(saved.record + 4, watch_value(plain.busiest(k, n, plain.events, WATCH32_EVENTS_BYTES(n))));
+    measure(name, some_days, 1, ROUNDS);
+}
+
+/* Short ones by the hundred, since one is over in a few hundredths of a microsecond. */
+static void days(void) {
+    choose_form(true);
+    measure_day("busiest day, 1 process, 65,535 events", 1, 65535, 1);
+    measure_day("busiest day, 2 processes, 1,023 events", 2, 1023, 1);
+    measure_day("a hundred busiest days, 4 processes, 23 events", 4, 23, 100);
+    measure_day("a hundred busiest days, 8 processes, 11 events", 8, 11, 100);
+    measure_day("a hundred busiest days refused: 46, 8 processes, 65,535 events", 8, 65535, 100);
+}
+
 /* The dearest lines of each kind. */
 static void wide_form(void) {
     choose_form(true);
@@ -485,5 +515,6 @@ int main(void) {
     wide_form();
     moves();
     pages();
+    days();
     return 0;
 }

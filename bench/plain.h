@@ -34,4 +34,6 @@ uint64_t plain32_move(const uint8_t *record, size_t record_len, const uint8_t *w
 uint64_t plain32_page(const uint8_t *record, size_t record_len, const uint8_t *window, size_t window_len,
                       uint8_t *page, size_t page_len);
 
+uint64_t plain32_busiest(uint64_t k, uint64_t n, uint8_t *events, size_t events_len);
+
 #endif
