@@ -245,7 +245,8 @@ static uint64_t without_list(unsigned k, unsigned n) {
     return n > 0 ? refused(6) : keeps(1);
 }
 
-/* Every n, without a list, up to the first with a wrong answer: nothing that wraps makes a busy day a small one. */
+/* Every n, without a list, up to the first with a wrong answer: nothing that wraps makes a busy day a small one. In
+ * products of 64 bits 65,532 events of eight processes would keep none. */
 static void check_no_list(void) {
     for (unsigned k = 1; k <= 8; k++) {
         unsigned n = 0;
@@ -267,8 +268,8 @@ static uint64_t take_at(struct subject *s, size_t place) {
 static void check_taken(struct subject *s, unsigned k, unsigned n) {
     uint64_t reply = try_right(k, n);
     unsigned kept = watch_value(reply);
-    CHECK(watch_number(reply) == 0);
-    for (unsigned less = 0; less < 2 && less < kept; less++) {
+    CHECK(watch_number(reply) == 0 && kept >= 1 && kept <= WATCH_ROOM);
+    for (unsigned less = 0; less < 2 && less < kept && kept <= WATCH_ROOM; less++) {
         start(s, kept - less, k, RULE);
         for (unsigned i = 0; i < n; i++) reply = take_at(s, i);
         if (n > 0) CHECK_REPLY(reply, less == 0 || kept == 1 ? state(0, kept) : refused(36));

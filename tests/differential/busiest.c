@@ -96,8 +96,12 @@ static size_t random_length(struct source *s, uint64_t n, size_t most) {
     return length <= most ? length : below(s, EVENT * 8);
 }
 
+static uint64_t random_processes(struct source *s) {
+    return chance(s, 5) ? 0 : random_process(s, PROCESSES) + 1;
+}
+
 static void try_any(struct source *s, struct twin *t, struct list *l) {
-    uint64_t k = random_process(s, PROCESSES) + 1;
+    uint64_t k = random_processes(s);
     uint64_t n = random_events(s, k >= 1 && k <= PROCESSES ? (unsigned)k : between(s, 1, PROCESSES));
     generate_and_compare(s, t, l, k, n, random_length(s, n, l->most));
 }
@@ -106,13 +110,14 @@ static void try_any(struct source *s, struct twin *t, struct list *l) {
 static void try_long(struct source *s, struct twin *t) {
     struct list *l = long_list();
     uint64_t n = chance(s, 60) ? DAY_MOST - below(s, 2) : between(s, SHORT, DAY_MOST);
-    uint64_t k = chance(s, 75) ? 1 : random_process(s, PROCESSES) + 1;
+    uint64_t k = chance(s, 75) ? 1 : random_processes(s);
     generate_and_compare(s, t, l, k, n, chance(s, 70) ? EVENT * (size_t)n : random_length(s, n, l->most));
 }
 
-/* Each n of a stretch, since products may wrap anywhere, without a list: 46, 6 or a day of nothing. */
+/* Each n of a stretch, without a list: 46, 6 or a day of nothing. Products of 32 bits wrap to a small number here and
+ * there, and those of 64 bits once, for eight processes shortly before the largest n. */
 static void try_stretch(struct source *s, struct twin *t) {
-    unsigned k = between(s, 1, PROCESSES), first = below(s, DAY_MOST + 1);
+    unsigned k = between(s, 1, PROCESSES), first = chance(s, 20) ? DAY_MOST - SWEEP / 2 : below(s, DAY_MOST + 1);
     note("busiest days k %u n %u and on, no list\n", k, first);
     for (unsigned n = first; n < first + SWEEP; n++) {
         uint64_t reply = tally(&wide_form, DAY, call_busiest(k, n, NULL, 0));
