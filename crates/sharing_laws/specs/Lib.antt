@@ -1,0 +1,8 @@
+-- Sharings of events, and the frontiers that they keep: laws without code.
+
+-- What a reader has to believe
+pub mod Alone
+pub mod SharingExact
+-- What is proved: the even sharing keeps the most
+pub mod Picked
+pub mod Best
