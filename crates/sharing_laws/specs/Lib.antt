@@ -6,3 +6,5 @@ pub mod SharingExact
 -- What is proved: the even sharing keeps the most
 pub mod Picked
 pub mod Best
+-- How many cuts there are
+pub mod CutLists
