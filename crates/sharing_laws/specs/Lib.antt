@@ -8,3 +8,6 @@ pub mod Picked
 pub mod Best
 -- How many cuts there are
 pub mod CutLists
+pub mod AloneLaws
+-- The events of a day
+pub mod DayLaws
