@@ -16,21 +16,7 @@ use Rattle.call_busiest.specs.Sharing.{total}
 use Rattle.call_busiest.specs.SharingLaws.{total-next, total-grows}
 use Rattle.call_busiest.specs.Busiest.{single, singles, day}
 use Rattle.call_busiest.specs.BusiestCode.{Blank}
-use Rattle.call_busiest.proofs.EventSteps.{length-single}
-
--- ---- Events one behind the other
-
-events-append : (w : ℕ) (es fs : List Event) → eventsBytes w (es ++ fs) ≡ eventsBytes w es ++ eventsBytes w fs
-unfolding eventsBytes
-events-append w [] fs = refl
-events-append w (e ∷ es) fs = rw (events-append w es fs) (sym (append-assoc (eventBytes w e) (eventsBytes w es) (eventsBytes w fs)))
-
-length-events : (w n : ℕ) (g : ℕ → Event) → ((i : ℕ) → length (eventBytes w (g i)) ≡ eventLength w)
-    → length (eventsBytes w (listOf n g)) ≡ n * eventLength w
-unfolding eventsBytes listOf
-length-events w zero g h = sym (zero-mul (eventLength w))
-length-events w (suc n) g h =
-    rw (length-append, h 0, length-events w n (λ i. g (suc i)) (λ i. h (suc i)), suc-mul n (eventLength w)) (omega arith)
+use Rattle.call_busiest.specs.DayBytes.{events-append, length-singles, length-day}
 
 -- Behind what was stored all is as it was.
 blank-behind : (s : List ℕ) (place : ℕ) (bs : List ℕ) (n : ℕ) → length bs ≡ n → Blank s place
@@ -41,16 +27,12 @@ blank-behind s place bs n long b i l =
 -- ---- Of one process
 
 module _ (w p : ℕ) where
-  pub length-singles : (n : ℕ) → length (eventsBytes w (singles p n)) ≡ n * eventLength w
-  unfolding singles
-  length-singles n = length-events w n (λ i. single p (suc i)) (λ i. length-single w p (suc i))
-
   singles-next : (s : List ℕ) (place n : ℕ)
       → sets (sets s place (eventsBytes w (singles p n))) (place + n * eventLength w) (eventBytes w (single p (suc n)))
       ≡ sets s place (eventsBytes w (singles p (suc n)))
   unfolding singles eventsBytes
   singles-next s place n =
-      rw (← length-singles n, sets-append s place (eventsBytes w (singles p n)) (eventBytes w (single p (suc n))))
+      rw (← length-singles w p n, sets-append s place (eventsBytes w (singles p n)) (eventBytes w (single p (suc n))))
       (ap (sets s place)
       (sym (ap (eventsBytes w) (listOf-more n (λ i. single p (suc i)))
       ∙ events-append w (singles p n) (single p (suc n) ∷ [])
@@ -64,24 +46,17 @@ module _ (w p : ℕ) where
 
   pub singles-blank : (s : List ℕ) (place n : ℕ) → Blank s place
       → Blank (sets s place (eventsBytes w (singles p n))) (place + n * eventLength w)
-  singles-blank s place n b = blank-behind s place (eventsBytes w (singles p n)) (n * eventLength w) (length-singles n) b
+  singles-blank s place n b = blank-behind s place (eventsBytes w (singles p n)) (n * eventLength w) (length-singles w p n) b
 
 -- ---- Of all processes
 
 module _ (w : ℕ) (f : ℕ → ℕ) where
-  pub length-day : (p : ℕ) → length (eventsBytes w (day f p)) ≡ total (listOf p f) * eventLength w
-  unfolding day eventsBytes total listOf
-  length-day zero = sym (zero-mul (eventLength w))
-  length-day (suc p) =
-      rw (events-append w (day f p) (singles p (f p)), length-append, length-day p, length-singles w p (f p))
-      (sym (ap (λ (n : ℕ). n * eventLength w) (total-next f p) ∙ add-mul (total (listOf p f)) (f p) (eventLength w)))
-
   day-next : (s : List ℕ) (p : ℕ)
       → sets (sets s 0 (eventsBytes w (day f p))) (total (listOf p f) * eventLength w) (eventsBytes w (singles p (f p)))
       ≡ sets s 0 (eventsBytes w (day f (suc p)))
   unfolding day
   day-next s p =
-      rw (← length-day p, events-append w (day f p) (singles p (f p)))
+      rw (← length-day w f p, events-append w (day f p) (singles p (f p)))
       (ap (λ (a : ℕ). sets (sets s 0 (eventsBytes w (day f p))) a (eventsBytes w (singles p (f p))))
       (sym (zero-add (length (eventsBytes w (day f p)))))
       ∙ sets-append s 0 (eventsBytes w (day f p)) (eventsBytes w (singles p (f p))))
@@ -96,7 +71,7 @@ module _ (w : ℕ) (f : ℕ → ℕ) where
       → Blank (sets s 0 (eventsBytes w (day f p))) (total (listOf p f) * eventLength w)
   day-blank s p b =
       let from : 0 + total (listOf p f) * eventLength w ≡ total (listOf p f) * eventLength w = zero-add _ in
-      rw from at (blank-behind s 0 (eventsBytes w (day f p)) (total (listOf p f) * eventLength w) (length-day p) b)
+      rw from at (blank-behind s 0 (eventsBytes w (day f p)) (total (listOf p f) * eventLength w) (length-day w f p) b)
 
   -- The events of the next process are within the list.
   pub share-within : (p k c : ℕ) → p < k → c ≡ f p → total (listOf p f) + c ≤ total (listOf k f)

@@ -12,9 +12,9 @@ use Rattle.codec.specs.Little.{bytesOf, put}
 use Rattle.codec.specs.LittleLaws.{length-bytesOf}
 use Rattle.codec.specs.SetsLaws.{sets-append, getD-sets-after}
 use Rattle.clocks.specs.Counts.{listOf}
-use Rattle.clocks.specs.stored.CountsLaws.{listOf-same, length-listOf}
+use Rattle.clocks.specs.stored.CountsLaws.{listOf-same}
 use Rattle.frontiers.specs.Bytes.{countBytes}
-use Rattle.frontiers.specs.BytesLaws.{count-within, length-countBytes, bytesOf-zero, countBytes-zeros}
+use Rattle.frontiers.specs.BytesLaws.{count-within, bytesOf-zero, countBytes-zeros}
 use Rattle.records.specs.Record.{eventLength, eventBytes}
 use Rattle.call_busiest.specs.Busiest.{single}
 use Rattle.call_busiest.specs.BusiestCode.{Blank}
@@ -66,11 +66,6 @@ single-bytes w p n l =
       ← replicate-append-replicate 7 (p * w) nought,
       ← replicate-append-replicate ((8 - suc p) * w) 8 nought,
     ) (simp append-assoc)
-
-pub length-single : (w p n : ℕ) → length (eventBytes w (single p n)) ≡ eventLength w
-unfolding eventBytes single
-length-single w p n =
-    simp (length-append, length-countBytes, length-listOf) (omega arith)
 
 -- ---- Two stores
 

@@ -15,7 +15,8 @@ use Rattle.call_busiest.specs.Sharing.{evenly, total}
 use Rattle.call_busiest.specs.SharingLaws.{total-next, total-grows}
 use Rattle.call_busiest.specs.Busiest.{day}
 use Rattle.call_busiest.specs.BusiestCode.{sharing, Blank}
-use Rattle.call_busiest.proofs.DaySteps.{length-day, day-step, day-blank, share-within, place-within, place-next, blank-zeros}
+use Rattle.call_busiest.specs.DayBytes.{length-day}
+use Rattle.call_busiest.proofs.DaySteps.{day-step, day-blank, share-within, place-within, place-next, blank-zeros}
 use Rattle.call_busiest.proofs.put_day.Statement.{statement}
 use Rattle.call_busiest.proofs.put_day.Tie as tie
 use Rattle.call_busiest.proofs.put_day.Reads as reads
