@@ -5,10 +5,10 @@ use native.Mathlib.Decide.{decLt, ℕ-discrete}
 use native.Mathlib.Omega.{arith}
 use mathlib.Core.Path.{_≡_, refl, sym, ap, _∙_, subst}
 use mathlib.Core.Bool.{true, false, cond, true≢false}
-use mathlib.Core.List.{List, [], _∷_, _++_, reverse, reverse-append, List·Memᴰ·head, List·Memᴰ·tail, List·Memᴰ·cases-cons, List·Memᴰ·not-nil, List·Memᴰ·append-cases}
+use mathlib.Core.List.{List, [], _∷_, _++_, reverse, reverse-append, List·Memᴰ, List·Memᴰ·cases-cons, List·Memᴰ·not-nil, List·Memᴰ·append-cases}
 use mathlib.Core.Logic.{_≢_, ⊎-elim}
 use lib.Dec.{eqb}
-use lib.ListN.{length}
+use lib.ListN.{length, length-append}
 use borrow.Author.Tests.{eq-eqb, ne-eqb}
 use Rattle.codec.specs.BitLaws.{bit-power, bit-power-other}
 use Rattle.clocks.specs.declared.Event.{Event}
@@ -18,10 +18,12 @@ use Rattle.clocks.specs.Valid.{Known, Takeable, History}
 use Rattle.clocks.specs.Counts.{at, listOf}
 use Rattle.clocks.specs.cuts.EventLaws.{true-T, ready-i, lowered-ready}
 use Rattle.clocks.specs.cuts.HistoryLaws.{taken-next, taken-other}
-use Rattle.clocks.specs.stored.CountsLaws.{at-listOf, at-beyond, length-listOf}
+use Rattle.clocks.specs.stored.CountsLaws.{at-listOf, at-beyond, length-listOf, getD-listOf}
 use Rattle.clocks.specs.validity.ClockRule.{history-causal}
 use Rattle.clocks.specs.validity.KnownClock.{known-rule}
-use Rattle.frontiers.specs.ListLaws.{listOf-more}
+use Rattle.frontiers.specs.ListLaws.{listOf-more, member-place}
+use Rattle.call_busiest.specs.Sharing.{total}
+use Rattle.call_busiest.specs.SharingLaws.{total-next}
 use Rattle.call_busiest.specs.Busiest.{single, singles, day}
 use Rattle.sharing_laws.specs.Alone.{Alone, AllAlone}
 use Rattle.sharing_laws.specs.AloneLaws.{alone-consistent}
@@ -177,3 +179,28 @@ module _ (k : ℕ) (few : k ≤ 8) (f : ℕ → ℕ) where
 
   pub day-taken : (p : ℕ) → p < k → taken (reverse (day f k)) p ≡ f p
   day-taken p l = rw (← back-is f k) (back-taken f k p l)
+
+-- ---- Its members
+
+length-singles : (p n : ℕ) → length (singles p n) ≡ n
+unfolding singles
+length-singles p n = length-listOf n (λ i. single p (suc i))
+
+pub length-day : (f : ℕ → ℕ) (k : ℕ) → length (day f k) ≡ total (listOf k f)
+unfolding day total listOf
+length-day f zero = refl
+length-day f (suc k) =
+    length-append (day f k) (singles k (f k)) ∙ omega (arith, length-day f k, length-singles k (f k), total-next f k)
+
+-- Each is one of its process's.
+pub day-member : (f : ℕ → ℕ) (k : ℕ) (e : Event) → List·Memᴰ e (day f k)
+    → (p : ℕ) × (i : ℕ) × (p < k) × (i < f p) × (e ≡ single p (suc i))
+unfolding day singles
+day-member f zero e m = absurd (List·Memᴰ·not-nil m)
+day-member f (suc k) e m =
+    ⊎-elim (λ a. let r = day-member f k e a in (r .0, r .1, omega (arith, r .2), r .3, r .4))
+    (λ b.
+        let r = member-place (singles k (f k)) e e b in
+        let l : r .0 < f k = omega (arith, r .1, length-singles k (f k)) in
+        (k, r .0, omega arith, l, sym (r .2) ∙ getD-listOf (f k) (λ i. single k (suc i)) (r .0) e l))
+    (List·Memᴰ·append-cases (day f k) m)
