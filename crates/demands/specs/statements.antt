@@ -9,5 +9,6 @@ pub mod Messages
 pub mod Earlier
 pub mod Close
 pub mod Page
+pub mod Busiest
 pub mod Moves
 pub mod BothForms

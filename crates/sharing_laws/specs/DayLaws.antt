@@ -54,6 +54,14 @@ module _ (p n : ℕ) where
             let beyond : length (listOf 8 (λ r. cond (eqb r p) n 0)) ≤ q = omega (arith, length-listOf 8 (λ r. cond (eqb r p) n 0)) in
             at-beyond (listOf 8 (λ r. cond (eqb r p) n 0)) q beyond
 
+    -- No count is above its number.
+    pub single-most : (q : ℕ) → count (single p n) q ≤ n
+    single-most q = go (ℕ-discrete q p)
+      where
+        go : Dec (q ≡ p) → count (single p n) q ≤ n
+        go (yes e) = rw e (omega (arith, single-count))
+        go (no e) = omega (arith, single-silent q e)
+
     pub single-alone : Alone (single p n)
     single-alone = record { process = p; takes-part = single-takes; no-other = single-other; knows-none = single-silent }
 
