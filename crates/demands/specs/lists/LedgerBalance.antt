@@ -29,7 +29,7 @@ use Rattle.demands.specs.calls.TakeLedger.{ledgerAfter}
 use Rattle.demands.specs.statements.Balance.{Balanced}
 
 -- ---- occurrences in a list with one element more or less
-occurs-append : (e : Event) (xs ys : List Event) → occurrences e (xs ++ ys) ≡ occurrences e xs + occurrences e ys
+pub occurs-append : (e : Event) (xs ys : List Event) → occurrences e (xs ++ ys) ≡ occurrences e xs + occurrences e ys
 unfolding occurrences
 occurs-append e [] ys = omega arith
 occurs-append e (x ∷ xs) ys = omega (arith, occurs-append e xs ys)

@@ -23,6 +23,7 @@ use Rattle.demands.specs.statements.WindowExact.{WindowExact}
 use Rattle.demands.specs.statements.TakeAnswers.{TakeExact}
 use Rattle.demands.specs.statements.Find.{FindExact}
 use Rattle.demands.specs.statements.Page.{PageShows}
+use Rattle.demands.specs.statements.Busiest.{BusiestKept}
 use Rattle.demands.specs.statements.Close.{CloseExact, StaysDropped}
 use Rattle.demands.specs.statements.Again.{AgainExact}
 use Rattle.demands.specs.statements.Messages.{MessagesExact}
@@ -68,6 +69,7 @@ pub record WatchExact (w k : ℕ) (f : Formula) (start : Cut) (Z : Watch) : Type
   pub takes : TakeExact w k f start Z
   pub finds : FindExact w k f start Z
   pub pages : PageShows w k f start Z
+  pub busiest : BusiestKept w k f start Z
   pub closes : CloseExact w k f start Z
   pub dropped : StaysDropped w k f start Z
   pub agains : AgainExact w k f start Z
