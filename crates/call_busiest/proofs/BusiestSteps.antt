@@ -37,9 +37,19 @@ module _ (w k n : ℕ) (events : List ℕ) where
         pub length-turned : length events ≢ n * eventLength w → busiestCall w k n events ≡ turned 6
         unfolding busiestCall badDay tooBusy badListLength
         length-turned other =
-            rw (good, le-ltb 65535 n few, le-ltb 1024 (keptBy (shares k n)) room, ne-eqb (length events) (n * eventLength w) other)
+            rw (
+              good,
+              le-ltb 65535 n few,
+              le-ltb 1024 (keptBy (shares k n)) room,
+              ne-eqb (length events) (n * eventLength w) other,
+            )
 
         pub all-written : length events ≡ n * eventLength w → busiestCall w k n events ≡ whole
         unfolding busiestCall badDay tooBusy badListLength
         all-written same =
-            rw (good, le-ltb 65535 n few, le-ltb 1024 (keptBy (shares k n)) room, eq-eqb (length events) (n * eventLength w) same)
+            rw (
+              good,
+              le-ltb 65535 n few,
+              le-ltb 1024 (keptBy (shares k n)) room,
+              eq-eqb (length events) (n * eventLength w) same,
+            )

@@ -46,7 +46,8 @@ module _ (w p : ℕ) where
 
   pub singles-blank : (s : List ℕ) (place n : ℕ) → Blank s place
       → Blank (sets s place (eventsBytes w (singles p n))) (place + n * eventLength w)
-  singles-blank s place n b = blank-behind s place (eventsBytes w (singles p n)) (n * eventLength w) (length-singles w p n) b
+  singles-blank s place n b =
+      blank-behind s place (eventsBytes w (singles p n)) (n * eventLength w) (length-singles w p n) b
 
 -- ---- Of all processes
 

@@ -32,6 +32,12 @@ zeros-stay s at (suc n) b =
     ap (λ (t : List ℕ). sets t (suc at) (replicate n 0)) (set-zero s at (b at (omega arith)))
     ∙ zeros-stay s (suc at) n (λ i l. b i (omega arith))
 
+zeros-join : (a b : ℕ) (xs : List ℕ) → replicate a 0 ++ (replicate b 0 ++ xs) ≡ replicate (a + b) 0 ++ xs
+zeros-join a b xs =
+    let nought : ℕ = 0 in
+    sym (append-assoc (replicate a nought) (replicate b nought) xs)
+    ∙ ap (λ (l : List ℕ). l ++ xs) (replicate-append-replicate a b nought)
+
 -- ---- The bytes of an event of process p alone
 
 one-count : (w m p n : ℕ) → p < m
@@ -49,11 +55,8 @@ one-count w (suc m) (suc p) n l =
     listOf-same m _ _ (λ q k. rw (eqb·suc-suc q p)) in
     let less : suc m - suc (suc p) ≡ m - suc p = omega arith in
     let far : suc p * w ≡ w + p * w = omega (arith, suc-mul p w) in
-    let nil : List ℕ = replicate (p * w) 0 in
-    let behind : List ℕ = bytesOf w n ++ replicate ((m - suc p) * w) 0 in
     rw (eqb·zero-suc p, rest, less, far, bytesOf-zero w, one-count w m p n (le-of-suc-le-suc l))
-    (sym (append-assoc (replicate w 0) nil behind)
-    ∙ ap (λ (l : List ℕ). l ++ behind) (replicate-append-replicate w (p * w) 0))
+    (zeros-join w (p * w) (bytesOf w n ++ replicate ((m - suc p) * w) 0))
 
 single-bytes : (w p n : ℕ) → p < 8
     → eventBytes w (single p n)

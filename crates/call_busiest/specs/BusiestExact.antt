@@ -1,5 +1,5 @@
--- What is true of every call for a busiest day, on all arguments (02 [8]): when it answers what, what it leaves, and how
--- a caller tells the answers apart. Proved in BusiestTheorem.
+-- What is true of every call for a busiest day, on all arguments (02 [8]): when it answers what, what it leaves, and
+-- how a caller tells the answers apart. Proved in BusiestTheorem.
 use Prim.Native.Nat.{ℕ, _*_, _≤_, _<_}
 use mathlib.Core.Path.{_≡_}
 use mathlib.Core.List.{List}
@@ -29,7 +29,8 @@ pub record Exact (w k n : ℕ) (events : List ℕ) (L : Listed) : Type 0 where
   -- else the frontiers kept
   pub given : (m : ℕ)
       → (L .answer ≡ gives m)
-      ↔ (Day k n × (keptBy (shares k n) ≤ mostFrontiers) × (length events ≡ n * eventLength w) × (m ≡ keptBy (shares k n)))
+      ↔ (Day k n × (keptBy (shares k n) ≤ mostFrontiers) × (length events ≡ n * eventLength w)
+      × (m ≡ keptBy (shares k n)))
   -- refused, it writes nothing; accepted, every byte
   pub refused-leaves : (m : ℕ) → L .answer ≡ refused m → L .events ≡ events
   pub given-writes : (m : ℕ) → L .answer ≡ gives m → L .events ≡ eventsBytes w (busiestDay k n)

@@ -77,11 +77,11 @@ module _ (w k n : ℕ) (events : List ℕ) where
       by-test Way (tooBusy k n) _ _ (λ h. busy (good d) (ltb-true 1024 (keptBy (shares k n)) h) refl refl) λ room.
       by-test Way (badListLength w n (length events)) _ _
       (λ h.
-          length-wrong (good d) (ltb-false 1024 (keptBy (shares k n)) room)
-          (eqb-false (length events) (n * eventLength w) (not-true (eqb (length events) (n * eventLength w)) h)) refl refl)
+      length-wrong (good d) (ltb-false 1024 (keptBy (shares k n)) room)
+      (eqb-false (length events) (n * eventLength w) (not-true (eqb (length events) (n * eventLength w)) h)) refl refl)
       λ same.
       whole (good d) (ltb-false 1024 (keptBy (shares k n)) room)
-      (eqb-true (length events) (n * eventLength w) (not-false (eqb (length events) (n * eventLength w)) same)) refl refl
+      (eqb-true (length events) (n * eventLength w) (not-false _ same)) refl refl
     where
       not-true : (b : Bool) → not b ≡ true → b ≡ false
       not-true true h = absurd (true≢false (sym h))

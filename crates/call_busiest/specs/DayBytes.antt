@@ -22,14 +22,16 @@ length-single w p n =
 pub events-append : (w : ℕ) (es fs : List Event) → eventsBytes w (es ++ fs) ≡ eventsBytes w es ++ eventsBytes w fs
 unfolding eventsBytes
 events-append w [] fs = refl
-events-append w (e ∷ es) fs = rw (events-append w es fs) (sym (append-assoc (eventBytes w e) (eventsBytes w es) (eventsBytes w fs)))
+events-append w (e ∷ es) fs =
+    rw (events-append w es fs) (sym (append-assoc (eventBytes w e) (eventsBytes w es) (eventsBytes w fs)))
 
 length-events : (w n : ℕ) (g : ℕ → Event) → ((i : ℕ) → length (eventBytes w (g i)) ≡ eventLength w)
     → length (eventsBytes w (listOf n g)) ≡ n * eventLength w
 unfolding eventsBytes listOf
 length-events w zero g h = sym (zero-mul (eventLength w))
 length-events w (suc n) g h =
-    rw (length-append, h 0, length-events w n (λ i. g (suc i)) (λ i. h (suc i)), suc-mul n (eventLength w)) (omega arith)
+    rw (length-append, h 0, length-events w n (λ i. g (suc i)) (λ i. h (suc i)), suc-mul n (eventLength w))
+    (omega arith)
 
 pub length-singles : (w p n : ℕ) → length (eventsBytes w (singles p n)) ≡ n * eventLength w
 unfolding singles

@@ -3,6 +3,7 @@
 use frontiers::counts::write_count;
 use frontiers::moving::clear_all;
 use numbers::limit::DAY_EVENTS;
+use numbers::limit::FRONTIERS;
 use numbers::refusal::BUSY;
 use numbers::refusal::DAY;
 use numbers::refusal::LENGTH;
@@ -19,31 +20,28 @@ ghost use Rattle.call_busiest.specs.Sharing.{evenly, total, keptBy};
 ghost use Rattle.call_busiest.specs.Busiest.{single, singles, day, busiestCall};
 ghost use Rattle.call_busiest.specs.BusiestCode.{sharing, Blank};
 
-// Frontiers of a window.
-const ROOM: u32 = 1024;
-
 // What process p has where each has so many, and the first ones, so many of them, one more.
-fn share(each: u32, more: u32, p: u32) -> u32
+fn share(each: usize, more: usize, p: usize) -> usize
     requires { ⌜ each ≤ 65535 ⌝ }
     ensures { λ r. ⌜ (r ≡ evenly each more p) × (r ≤ 65536) ⌝ }
 {
-    each + ((p < more) as u32)
+    each + ((p < more) as usize)
 }
 
-// The frontiers that k processes keep with such a sharing; 1,025 for any number above 1,024. It is left as soon as the
-// room is passed, so that no product grows beyond 2^27.
-fn kept_by(k: u32, each: u32, more: u32) -> u32
+// The frontiers that k processes keep with such a sharing; 1,025 for any number above 1,024. It ends as soon as those
+// of a window are passed, so that no product grows beyond 2^27.
+fn kept_by(k: usize, each: usize, more: usize) -> usize
     requires { ⌜ each ≤ 65535 ⌝ }
     ensures { λ r. ⌜ r ≡ min 1025 (keptBy (sharing k each more)) ⌝ }
 {
-    let mut kept: u32 = 0;
-    let mut product: u32 = 1;
-    let mut p: u32 = 0;
+    let mut kept = 0;
+    let mut product = 1;
+    let mut p = 0;
     while p < k {
         let count = share(each, more, p);
         kept = kept * (count + 1) + product;
-        if kept > ROOM {
-            return ROOM + 1;
+        if kept > FRONTIERS {
+            return FRONTIERS + 1;
         }
         product = product * count;
         p = p + 1;
@@ -66,7 +64,7 @@ fn put_single(events: &mut [u8], w: usize, place: usize, p: usize, mask: u8, num
 }
 
 // Lays the first n events of process p down where all is 0.
-fn put_singles(events: &mut [u8], w: usize, place: usize, p: usize, n: u32)
+fn put_singles(events: &mut [u8], w: usize, place: usize, p: usize, n: usize)
     requires { ⌜ Width w ⌝ }
     requires { ⌜ p < 8 ⌝ }
     requires { ⌜ n < 65536 ⌝ }
@@ -77,16 +75,16 @@ fn put_singles(events: &mut [u8], w: usize, place: usize, p: usize, n: u32)
     let size = event_length(w);
     let mask = 1u8 << (p as u32);
     let mut at = place;
-    let mut i: u32 = 0;
+    let mut i = 0;
     while i < n {
         i = i + 1;
-        put_single(events, w, at, p, mask, i);
+        put_single(events, w, at, p, mask, i as u32);
         at = at + size;
     }
 }
 
 // Writes the events of k processes with such a sharing, process by process.
-fn put_day(events: &mut [u8], w: usize, k: u32, each: u32, more: u32)
+fn put_day(events: &mut [u8], w: usize, k: usize, each: usize, more: usize)
     requires { ⌜ Width w ⌝ }
     requires { ⌜ k ≤ 8 ⌝ }
     requires { ⌜ each ≤ 65535 ⌝ }
@@ -97,11 +95,11 @@ fn put_day(events: &mut [u8], w: usize, k: u32, each: u32, more: u32)
     clear_all(events);
     let size = event_length(w);
     let mut place = 0;
-    let mut p: u32 = 0;
+    let mut p = 0;
     while p < k {
         let count = share(each, more, p);
-        put_singles(events, w, place, p as usize, count);
-        place = place + (count as usize) * size;
+        put_singles(events, w, place, p, count);
+        place = place + count * size;
         p = p + 1;
     }
 }
@@ -118,15 +116,15 @@ pub fn busiest(w: usize, k: u64, n: u64, events: &mut [u8]) -> u64
     if n > DAY_EVENTS {
         return DAY;
     }
-    let each = (n / k) as u32;
-    let more = (n % k) as u32;
-    let kept = kept_by(k as u32, each, more);
-    if kept > ROOM {
+    let each = (n / k) as usize;
+    let more = (n % k) as usize;
+    let kept = kept_by(k as usize, each, more);
+    if FRONTIERS < kept {
         return BUSY;
     }
     if events.len() != (n as usize) * event_length(w) {
         return LENGTH;
     }
-    put_day(events, w, k as u32, each, more);
+    put_day(events, w, k as usize, each, more);
     65536 * (kept as u64)
 }

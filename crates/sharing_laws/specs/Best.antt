@@ -168,84 +168,85 @@ module _ (k n : ℕ) (some : 0 < k) where
   not-all = let part : n % k < k = mod-lt n some in omega (arith, div-add-mod n k, mul-comm q k)
 
   module _ (cs : List ℕ) (long : length cs ≡ k) (same : total cs ≡ n)
-      (nearer : (ds : List ℕ) → length ds ≡ k → total ds ≡ n → farAll q ds < farAll q cs → keptBy ds ≤ keptBy (shares k n))
-      where
-    -- Two that differ by two are found: one event moved.
-    moved : (x y : ℕ) (zs : List ℕ) → Two x y cs zs → y + 2 ≤ x
-        → ((suc q < x) × (y ≤ q)) ⊎ ((q < x) × (y < q)) → keptBy cs ≤ keptBy (shares k n)
-    unfolding total
-    moved x y zs t l h =
-        let e : x ≡ suc (x - 1) = omega arith in
-        let less : keptBy (x ∷ y ∷ zs) ≤ keptBy ((x - 1) ∷ suc y ∷ zs) =
-        rw (ap (λ (a : ℕ). keptBy (a ∷ y ∷ zs)) e) (moved-kept (x - 1) y zs (omega arith)) in
-        let best = nearer ((x - 1) ∷ suc y ∷ zs) (omega (arith, t .long)) fits (near h) in
-        omega (arith, t .kept)
-      where
-        fits : total ((x - 1) ∷ suc y ∷ zs) ≡ n
-        fits = omega (arith, t .sum)
+      (nearer : (ds : List ℕ) → length ds ≡ k → total ds ≡ n → farAll q ds < farAll q cs
+      → keptBy ds ≤ keptBy (shares k n))
+    where
+      -- Two that differ by two are found: one event moved.
+      moved : (x y : ℕ) (zs : List ℕ) → Two x y cs zs → y + 2 ≤ x
+          → ((suc q < x) × (y ≤ q)) ⊎ ((q < x) × (y < q)) → keptBy cs ≤ keptBy (shares k n)
+      unfolding total
+      moved x y zs t l h =
+          let e : x ≡ suc (x - 1) = omega arith in
+          let less : keptBy (x ∷ y ∷ zs) ≤ keptBy ((x - 1) ∷ suc y ∷ zs) =
+          rw (ap (λ (a : ℕ). keptBy (a ∷ y ∷ zs)) e) (moved-kept (x - 1) y zs (omega arith)) in
+          let best = nearer ((x - 1) ∷ suc y ∷ zs) (omega (arith, t .long)) fits (near h) in
+          omega (arith, t .kept)
+        where
+          fits : total ((x - 1) ∷ suc y ∷ zs) ≡ n
+          fits = omega (arith, t .sum)
 
-        by : far q (x - 1) + far q (suc y) < far q x + far q y → farAll q ((x - 1) ∷ suc y ∷ zs) < farAll q cs
-        by l = nearer-by _ _ _ _ _ _ _ (t .distance q) sum l
-          where
-            sum : farAll q ((x - 1) ∷ suc y ∷ zs) ≡ far q (x - 1) + far q (suc y) + farAll q zs
-            sum = sym (add-assoc (far q (x - 1)) (far q (suc y)) (farAll q zs))
+          by : far q (x - 1) + far q (suc y) < far q x + far q y → farAll q ((x - 1) ∷ suc y ∷ zs) < farAll q cs
+          by l = nearer-by _ _ _ _ _ _ _ (t .distance q) sum l
+            where
+              sum : farAll q ((x - 1) ∷ suc y ∷ zs) ≡ far q (x - 1) + far q (suc y) + farAll q zs
+              sum = sym (add-assoc (far q (x - 1)) (far q (suc y)) (farAll q zs))
 
-        near : ((suc q < x) × (y ≤ q)) ⊎ ((q < x) × (y < q)) → farAll q ((x - 1) ∷ suc y ∷ zs) < farAll q cs
-        near (inl a) = by (omega (arith, far-down q x (a .0), up-most q y (a .1)))
-        near (inr a) = by (omega (arith, down-most q x (a .0), far-up q y (a .1)))
+          near : ((suc q < x) × (y ≤ q)) ⊎ ((q < x) × (y < q)) → farAll q ((x - 1) ∷ suc y ∷ zs) < farAll q cs
+          near (inl a) = by (omega (arith, far-down q x (a .0), up-most q y (a .1)))
+          near (inr a) = by (omega (arith, down-most q x (a .0), far-up q y (a .1)))
 
-    turn : keptBy cs ≤ keptBy (shares k n)
-    turn = go (some-above (suc q) cs)
-      where
-        -- x is above q + 1: not all the others are, too
-        high : (x : ℕ) (ys : List ℕ) → Picked x cs ys → suc q < x
-            → ((y : ℕ) × (zs : List ℕ) × Picked y ys zs × (y < suc q)) ⊎ AllAtLeast (suc q) ys
-            → keptBy cs ≤ keptBy (shares k n)
-        high x ys p l (inl (y, zs, r, m)) =
-            moved x y zs (two x y cs ys zs p r) (omega arith) (inl (l, omega arith))
-        high x ys p l (inr all) =
-            absurd (omega (
-              arith,
-              not-all,
-              least-total (suc q) ys all,
-              picked-total x cs ys p,
-              picked-length x cs ys p,
-              suc-mul q (length ys),
-              ap (λ (a : ℕ). q * a) (sym long ∙ picked-length x cs ys p),
-              mul-suc q (length ys),
-            ))
+      turn : keptBy cs ≤ keptBy (shares k n)
+      turn = go (some-above (suc q) cs)
+        where
+          -- x is above q + 1: not all the others are, too
+          high : (x : ℕ) (ys : List ℕ) → Picked x cs ys → suc q < x
+              → ((y : ℕ) × (zs : List ℕ) × Picked y ys zs × (y < suc q)) ⊎ AllAtLeast (suc q) ys
+              → keptBy cs ≤ keptBy (shares k n)
+          high x ys p l (inl (y, zs, r, m)) =
+              moved x y zs (two x y cs ys zs p r) (omega arith) (inl (l, omega arith))
+          high x ys p l (inr all) =
+              absurd (omega (
+                arith,
+                not-all,
+                least-total (suc q) ys all,
+                picked-total x cs ys p,
+                picked-length x cs ys p,
+                suc-mul q (length ys),
+                ap (λ (a : ℕ). q * a) (sym long ∙ picked-length x cs ys p),
+                mul-suc q (length ys),
+              ))
 
-        -- y is below q: not all the others are at most q
-        low : (y : ℕ) (ys : List ℕ) → Picked y cs ys → y < q
-            → ((x : ℕ) × (zs : List ℕ) × Picked x ys zs × (q < x)) ⊎ AllAtMost q ys
-            → keptBy cs ≤ keptBy (shares k n)
-        low y ys p l (inl (x, zs, r, m)) =
-            moved x y zs (two-swap y x cs zs (two y x cs ys zs p r)) (omega arith) (inr (m, l))
-        low y ys p l (inr all) =
-            absurd (omega (
-              arith,
-              enough,
-              most-total q ys all,
-              picked-total y cs ys p,
-              ap (λ (a : ℕ). q * a) (sym long ∙ picked-length y cs ys p),
-              mul-suc q (length ys),
-            ))
+          -- y is below q: not all the others are at most q
+          low : (y : ℕ) (ys : List ℕ) → Picked y cs ys → y < q
+              → ((x : ℕ) × (zs : List ℕ) × Picked x ys zs × (q < x)) ⊎ AllAtMost q ys
+              → keptBy cs ≤ keptBy (shares k n)
+          low y ys p l (inl (x, zs, r, m)) =
+              moved x y zs (two-swap y x cs zs (two y x cs ys zs p r)) (omega arith) (inr (m, l))
+          low y ys p l (inr all) =
+              absurd (omega (
+                arith,
+                enough,
+                most-total q ys all,
+                picked-total y cs ys p,
+                ap (λ (a : ℕ). q * a) (sym long ∙ picked-length y cs ys p),
+                mul-suc q (length ys),
+              ))
 
-        flat : AllAtMost (suc q) cs
-            → ((y : ℕ) × (ys : List ℕ) × Picked y cs ys × (y < q)) ⊎ AllAtLeast q cs
-            → keptBy cs ≤ keptBy (shares k n)
-        flat most (inl (y, ys, p, l)) = low y ys p l (some-above q ys)
-        flat most (inr least) =
-            omega (
-              arith,
-              level-kept q cs (shares k n) (level q cs least most) (shares-level k n)
-                  (long ∙ sym (length-listOf k (evenly q (n % k)))) (same ∙ sym (total-shares k n some)),
-            )
+          flat : AllAtMost (suc q) cs
+              → ((y : ℕ) × (ys : List ℕ) × Picked y cs ys × (y < q)) ⊎ AllAtLeast q cs
+              → keptBy cs ≤ keptBy (shares k n)
+          flat most (inl (y, ys, p, l)) = low y ys p l (some-above q ys)
+          flat most (inr least) =
+              omega (
+                arith,
+                level-kept q cs (shares k n) (level q cs least most) (shares-level k n)
+                    (long ∙ sym (length-listOf k (evenly q (n % k)))) (same ∙ sym (total-shares k n some)),
+              )
 
-        go : ((x : ℕ) × (ys : List ℕ) × Picked x cs ys × (suc q < x)) ⊎ AllAtMost (suc q) cs
-            → keptBy cs ≤ keptBy (shares k n)
-        go (inl (x, ys, p, l)) = high x ys p l (some-below (suc q) ys)
-        go (inr most) = flat most (some-below q cs)
+          go : ((x : ℕ) × (ys : List ℕ) × Picked x cs ys × (suc q < x)) ⊎ AllAtMost (suc q) cs
+              → keptBy cs ≤ keptBy (shares k n)
+          go (inl (x, ys, p, l)) = high x ys p l (some-below (suc q) ys)
+          go (inr most) = flat most (some-below q cs)
 
   -- By induction on the distance.
   best-near : (fuel : ℕ) (cs : List ℕ) → length cs ≡ k → total cs ≡ n → farAll q cs ≤ fuel

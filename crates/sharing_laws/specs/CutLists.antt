@@ -1,12 +1,12 @@
--- All cuts up to the counts of a sharing, and those of them that reach a count: as lists in ascending order, with as many
--- elements as the products say.
+-- All cuts up to the counts of a sharing, and those of them that reach a count: as lists in ascending order, with as
+-- many elements as the products say.
 use Prim.Native.Nat.{ℕ, zero, suc, _+_, _*_, _≤_, _<_}
 use native.Mathlib.Nat.{zero-mul, suc-mul, le-of-suc-le-suc}
 use native.Mathlib.Decide.{decLt}
 use native.Mathlib.Omega.{arith}
 use mathlib.Core.Path.{_≡_, refl, sym, ap, _∙_, fun-ext, subst}
 use mathlib.Core.List.{List, [], _∷_, _++_, map, List·Memᴰ, List·Memᴰ·head, List·Memᴰ·tail, List·Memᴰ·cases-cons, List·Memᴰ·not-nil, Memᴰ·append-left, Memᴰ·append-right, List·Memᴰ·append-cases, Memᴰ·map, Memᴰ·of-map}
-use mathlib.Core.Logic.{_⊎_, inl, inr, ⊎-elim, _↔_}
+use mathlib.Core.Logic.{_⊎_, ⊎-elim, _↔_}
 use lib.Dec.{T}
 use lib.ListN.{length, length-append, length-map}
 use Rattle.clocks.specs.Event.{Cut, zeros}
@@ -42,8 +42,7 @@ headedBelow (suc n) cuts = headedBelow n cuts ++ map (headed n) cuts
 in-headed : (c : ℕ) (cuts : List Cut) (S : Cut) → List·Memᴰ S (map (headed c) cuts)
     → (S 0 ≡ c) × List·Memᴰ (others S) cuts
 in-headed c cuts S m =
-    let r = Memᴰ·of-map (headed c) cuts m in
-    (
+    let r = Memᴰ·of-map (headed c) cuts m in (
       ap (λ (R : Cut). R 0) (sym (r .2)),
       subst (λ (R : Cut). List·Memᴰ (others R) cuts) (r .2) (r .1),
     )
@@ -86,7 +85,8 @@ length-below (suc n) cuts =
 sorted-append : {A : Type 0} (key : A → List ℕ) (xs ys : List A) → SortedBy key xs → SortedBy key ys
     → ((x y : A) → List·Memᴰ x xs → List·Memᴰ y ys → T (before (key x) (key y))) → SortedBy key (xs ++ ys)
 sorted-append key [] ys s t h = t
-sorted-append {A} key (x ∷ xs) ys s t h = (first, sorted-append key xs ys (s .1) t (λ a b m k. h a b (List·Memᴰ·tail m) k))
+sorted-append {A} key (x ∷ xs) ys s t h =
+    (first, sorted-append key xs ys (s .1) t (λ a b m k. h a b (List·Memᴰ·tail m) k))
   where
     first : (z : A) → List·Memᴰ z (xs ++ ys) → T (before (key x) (key z))
     first z m = ⊎-elim (s .0 z) (h x z (List·Memᴰ·head refl)) (List·Memᴰ·append-cases xs m)
@@ -140,15 +140,14 @@ all-exactly [] S = (there, λ h. List·Memᴰ·head (none h))
 
     there : List·Memᴰ S (zeros ∷ []) → UpTo [] S
     there m p = ⊎-elim (λ e. rw e (omega arith)) (λ n. absurd (List·Memᴰ·not-nil n)) (List·Memᴰ·cases-cons m)
-all-exactly (c ∷ cs) S =
-    (
-      λ m.
-          let r = in-below (suc c) (allCuts cs) S m in
-          upTo-headed c cs S (le-of-suc-le-suc (r .0)) (all-exactly cs (others S) .0 (r .1)),
-      λ h.
-          let l : S 0 ≤ c = h 0 in
-          below-in (suc c) (allCuts cs) S (omega arith) (all-exactly cs (others S) .1 (upTo-others c cs S h)),
-    )
+all-exactly (c ∷ cs) S = (
+  λ m.
+      let r = in-below (suc c) (allCuts cs) S m in
+      upTo-headed c cs S (le-of-suc-le-suc (r .0)) (all-exactly cs (others S) .0 (r .1)),
+  λ h.
+      let l : S 0 ≤ c = h 0 in
+      below-in (suc c) (allCuts cs) S (omega arith) (all-exactly cs (others S) .1 (upTo-others c cs S h)),
+)
 
 length-all : (cs : List ℕ) → length (allCuts cs) ≡ product (map suc cs)
 unfolding allCuts product
@@ -183,14 +182,14 @@ reaching-exactly (c ∷ cs) S =
     there rest m =
         ⊎-elim
         (λ a.
-            let r = in-below c (reaching cs) S a in
-            let o = rest (r .1) in
-            let l : S 0 ≤ c = omega (arith, r .0) in
-            (upTo-headed c cs S l (o .0), (suc (o .1 .0), omega (arith, o .1 .1), o .1 .2)))
+        let r = in-below c (reaching cs) S a in
+        let o = rest (r .1) in
+        let l : S 0 ≤ c = omega (arith, r .0) in
+        (upTo-headed c cs S l (o .0), (suc (o .1 .0), omega (arith, o .1 .1), o .1 .2)))
         (λ b.
-            let r = in-headed c (allCuts cs) S b in
-            let l : S 0 ≤ c = omega (arith, r .0) in
-            (upTo-headed c cs S l (all-exactly cs (others S) .0 (r .1)), (0, omega arith, r .0)))
+        let r = in-headed c (allCuts cs) S b in
+        let l : S 0 ≤ c = omega (arith, r .0) in
+        (upTo-headed c cs S l (all-exactly cs (others S) .0 (r .1)), (0, omega arith, r .0)))
         (List·Memᴰ·append-cases (headedBelow c (reaching cs)) m)
 
     back : (UpTo cs (others S) × Reaches cs (others S) → List·Memᴰ (others S) (reaching cs))
@@ -198,7 +197,8 @@ reaching-exactly (c ∷ cs) S =
         → List·Memᴰ S (headedBelow c (reaching cs) ++ map (headed c) (allCuts cs))
     back rest h = go (decLt (S 0) c) (h .1)
       where
-        go : Dec (S 0 < c) → Reaches (c ∷ cs) S → List·Memᴰ S (headedBelow c (reaching cs) ++ map (headed c) (allCuts cs))
+        go : Dec (S 0 < c) → Reaches (c ∷ cs) S
+            → List·Memᴰ S (headedBelow c (reaching cs) ++ map (headed c) (allCuts cs))
         go (no l) r =
             let same : S 0 ≡ c = omega (arith, h .0 0) in
             Memᴰ·append-right (headedBelow c (reaching cs))

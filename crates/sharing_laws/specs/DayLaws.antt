@@ -3,7 +3,7 @@
 use Prim.Native.Nat.{ℕ, zero, suc, _+_, _≤_, _<_}
 use native.Mathlib.Decide.{decLt, ℕ-discrete}
 use native.Mathlib.Omega.{arith}
-use mathlib.Core.Path.{_≡_, refl, sym, ap, _∙_, subst}
+use mathlib.Core.Path.{_≡_, refl, sym, ap, _∙_}
 use mathlib.Core.Bool.{true, false, cond, true≢false}
 use mathlib.Core.List.{List, [], _∷_, _++_, reverse, reverse-append, List·Memᴰ, List·Memᴰ·cases-cons, List·Memᴰ·not-nil, List·Memᴰ·append-cases}
 use mathlib.Core.Logic.{_≢_, ⊎-elim}
@@ -13,7 +13,7 @@ use borrow.Author.Tests.{eq-eqb, ne-eqb}
 use Rattle.codec.specs.BitLaws.{bit-power, bit-power-other}
 use Rattle.clocks.specs.declared.Event.{Event}
 use Rattle.clocks.specs.Event.{involved, count, Ready}
-use Rattle.clocks.specs.History.{taken, In}
+use Rattle.clocks.specs.History.{taken}
 use Rattle.clocks.specs.Valid.{Known, Takeable, History}
 use Rattle.clocks.specs.Counts.{at, listOf}
 use Rattle.clocks.specs.cuts.EventLaws.{true-T, ready-i, lowered-ready}
@@ -51,8 +51,9 @@ module _ (p n : ℕ) where
         go : Dec (q < 8) → at (listOf 8 (λ r. cond (eqb r p) n 0)) q ≡ 0
         go (yes k) = at-listOf 8 (λ r. cond (eqb r p) n 0) q k ∙ rw (ne-eqb q p h)
         go (no k) =
-            let beyond : length (listOf 8 (λ r. cond (eqb r p) n 0)) ≤ q = omega (arith, length-listOf 8 (λ r. cond (eqb r p) n 0)) in
-            at-beyond (listOf 8 (λ r. cond (eqb r p) n 0)) q beyond
+            let f : ℕ → ℕ = λ r. cond (eqb r p) n 0 in
+            let beyond : length (listOf 8 f) ≤ q = omega (arith, length-listOf 8 f) in
+            at-beyond (listOf 8 f) q beyond
 
     -- No count is above its number.
     pub single-most : (q : ℕ) → count (single p n) q ≤ n
@@ -63,7 +64,12 @@ module _ (p n : ℕ) where
         go (no e) = omega (arith, single-silent q e)
 
     pub single-alone : Alone (single p n)
-    single-alone = record { process = p; takes-part = single-takes; no-other = single-other; knows-none = single-silent }
+    single-alone = record {
+      process = p;
+      takes-part = single-takes;
+      no-other = single-other;
+      knows-none = single-silent;
+    }
 
 -- ---- The events of one process, newest first, after others
 
@@ -100,7 +106,8 @@ next-takeable k p n l few ts h a e = record {
   };
   ready = ready;
   true-clock =
-      alone-consistent ts (history-causal k Known (known-rule k) ts h) a _ (lowered-ready (single p (suc n)) (taken ts) ready);
+      alone-consistent ts (history-causal k Known (known-rule k) ts h) a _
+      (lowered-ready (single p (suc n)) (taken ts) ready);
 }
   where
     own : (q : ℕ) → involved (single p (suc n)) q ≡ true → count (single p (suc n)) q ≡ taken ts q + 1
@@ -113,16 +120,16 @@ next-takeable k p n l few ts h a e = record {
     ready : Ready (single p (suc n)) (taken ts)
     ready = ready-i (single p (suc n)) (taken ts) own
         (λ q b. let other : q ≢ p = λ s. true≢false (sym (rw s (single-takes p (suc n))) ∙ b) in
-            omega (arith, single-silent p (suc n) (omega arith) q other))
+        omega (arith, single-silent p (suc n) (omega arith) q other))
 
 past-history : (k p n : ℕ) → p < k → k ≤ 8 → (ts : List Event) → History k Known ts → AllAlone ts → taken ts p ≡ 0
     → History k Known (past p n ts)
 unfolding past
 past-history k p zero l few ts h a e = h
 past-history k p (suc n) l few ts h a e =
-    let before = past-history k p n l few ts h a e in
-    (
-      next-takeable k p n l few (past p n ts) before (past-alone p n (omega arith) ts a) (omega (arith, past-own p n ts)),
+    let before = past-history k p n l few ts h a e in (
+      next-takeable k p n l few (past p n ts) before (past-alone p n (omega arith) ts a)
+          (omega (arith, past-own p n ts)),
       before,
     )
 
@@ -208,7 +215,7 @@ day-member f zero e m = absurd (List·Memᴰ·not-nil m)
 day-member f (suc k) e m =
     ⊎-elim (λ a. let r = day-member f k e a in (r .0, r .1, omega (arith, r .2), r .3, r .4))
     (λ b.
-        let r = member-place (singles k (f k)) e e b in
-        let l : r .0 < f k = omega (arith, r .1, length-singles k (f k)) in
-        (k, r .0, omega arith, l, sym (r .2) ∙ getD-listOf (f k) (λ i. single k (suc i)) (r .0) e l))
+    let r = member-place (singles k (f k)) e e b in
+    let l : r .0 < f k = omega (arith, r .1, length-singles k (f k)) in
+    (k, r .0, omega arith, l, sym (r .2) ∙ getD-listOf (f k) (λ i. single k (suc i)) (r .0) e l))
     (List·Memᴰ·append-cases (day f k) m)

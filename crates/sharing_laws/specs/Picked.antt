@@ -1,6 +1,6 @@
 -- One process of a sharing picked out: what is kept, the sum and the distance from an even sharing, by it and the
 -- others. The order of the processes makes no difference.
-use Prim.Native.Nat.{ℕ, zero, suc, _+_, _-_, _*_, _≤_, _<_}
+use Prim.Native.Nat.{ℕ, suc, _+_, _-_, _*_, _≤_, _<_}
 use native.Mathlib.Nat.{mul-add, suc-mul, mul-left-comm, mul-zero, mul-suc}
 use native.Mathlib.Decide.{decLt}
 use native.Mathlib.Omega.{arith}

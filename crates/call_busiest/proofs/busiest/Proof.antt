@@ -65,21 +65,8 @@ returns-2 c =
 div-each : tie.Need-div-each
 div-each c = within (c .before) .0
 
-cast-each : tie.Need-cast-each
-cast-each c =
-    let a = c .before .before .before .before .args in
-    record { fits = omega (arith, div-le-self (a .n) (a .k), few c) }
-
 rem-more : tie.Need-rem-more
 rem-more c = within (c .before) .0
-
-cast-more : tie.Need-cast-more
-cast-more c =
-    let a = c .before .before .before .before .args in
-    record { fits = omega (arith, mod-le (a .n) (a .k), few c) }
-
-cast-kept-by : tie.Need-cast-kept-by
-cast-kept-by c = record { fits = omega (arith, within (c .before) .1) }
 
 kept-by-requires : tie.Need-kept-by-requires
 kept-by-requires c κs =
@@ -101,7 +88,10 @@ event-length-requires c κs = search needs
 mul-if4 : tie.Need-mul-if4
 mul-if4 c =
     record {
-      fits = omega (arith, mul-le-mul {n₂ = 65535} {m₂ = 48} (few (c .before .before .before)) (c .event-length .ensures .1));
+      fits = omega (
+        arith,
+        mul-le-mul {n₂ = 65535} {m₂ = 48} (few (c .before .before .before)) (c .event-length .ensures .1),
+      );
     }
 
 returns-4 : tie.Need-returns-4
@@ -114,9 +104,6 @@ returns-4 c =
     λ q. c .if4 .taken (q ∙ ap (λ (l : ℕ). a .n * l) (sym (c .before .event-length .ensures .0))) in
     told (a .w) (a .k) (a .n) (now (a .events)) 6 (now (a .events)) (turned (a .w) (a .k) (a .n) (now (a .events)) 6)
     (length-turned (a .w) (a .k) (a .n) (now (a .events)) (good (e .before)) (few e) (room f) other) refl refl
-
-cast-put-day : tie.Need-cast-put-day
-cast-put-day c = record { fits = omega (arith, within (c .before .before .before .before .before .before) .1) }
 
 -- The list is one of n events.
 long : (c : tie.Else4)
@@ -143,9 +130,6 @@ put-day-requires c κs =
       ),
     )
 
-cast-result : tie.Need-cast-result
-cast-result c = search needs
-
 mul-result : tie.Need-mul-result
 mul-result c = search needs
 
@@ -159,8 +143,9 @@ returns-5 c =
     let f = d .before .before in
     let e = f .before .before in
     let a = e .before .before .before .before .args in
-    let kept : f .before .kept-by .result ≡ keptBy (shares (a .k) (a .n)) = omega (arith, f .before .kept-by .ensures, room f) in
-    told (a .w) (a .k) (a .n) (now (a .events)) (65536 * f .before .kept-by .result) (c .before .before .put-day .last .0)
+    let g = f .before in
+    let kept : g .kept-by .result ≡ keptBy (shares (a .k) (a .n)) = omega (arith, g .kept-by .ensures, room f) in
+    told (a .w) (a .k) (a .n) (now (a .events)) (65536 * g .kept-by .result) (c .before .before .put-day .last .0)
     (whole (a .w) (a .k) (a .n) (now (a .events)))
     (all-written (a .w) (a .k) (a .n) (now (a .events)) (good (e .before)) (few e) (room f) (long d))
     (ap (λ (m : ℕ). 65536 * m) kept) (c .before .before .put-day .ensures)
@@ -173,18 +158,13 @@ busiest-spec =
     returns
     returns-2
     div-each
-    cast-each
     rem-more
-    cast-more
-    cast-kept-by
     kept-by-requires
     returns-3
     event-length-requires
     mul-if4
     returns-4
-    cast-put-day
     put-day-requires
-    cast-result
     mul-result
     same-length
     returns-5)

@@ -1,3 +1,4 @@
+-- The events of the first p processes are laid, one process more with each turn: the law `day-step`.
 use native.Mathlib.Omega.{arith}
 use mathlib.Core.Path.{_≡_, refl, sym, ap, _∙_}
 use Prim.Native.Nat.{ℕ, _≤_, _<_, _-_, _+_, _*_}
@@ -19,12 +20,6 @@ use Rattle.call_busiest.specs.DayBytes.{length-day}
 use Rattle.call_busiest.proofs.DaySteps.{day-step, day-blank, share-within, place-within, place-next, blank-zeros}
 use Rattle.call_busiest.proofs.put_day.Statement.{statement}
 use Rattle.call_busiest.proofs.put_day.Tie as tie
-use Rattle.call_busiest.proofs.put_day.Reads as reads
-use Rattle.call_busiest.proofs.put_day.Lts as lts
-use Rattle.call_busiest.proofs.put_singles.Reads as put-singles-reads
-use Rattle.call_busiest.proofs.share.Reads as share-reads
-use Rattle.frontiers.proofs.moving.clear_all.Reads as clear-all-reads
-use Rattle.records.proofs.fields.event_length.Reads as event-length-reads
 
 abbrev Inv-loop : tie.InvT-loop
 Inv-loop events₀ w k each more size place₀ p₀ events place p =
@@ -34,15 +29,12 @@ Inv-loop events₀ w k each more size place₀ p₀ events place p =
 abbrev μ-loop : tie.MeasureT-loop
 μ-loop events₀ w k each more size place₀ p₀ events place p = k - p
 
--- src/lib.rt:97:5
 clear-all-requires : tie.Need-clear-all-requires Inv-loop μ-loop
 clear-all-requires c κs = search needs
 
--- src/lib.rt:98:9
 event-length-requires : tie.Need-event-length-requires Inv-loop μ-loop
 event-length-requires c κs = search needs
 
--- src/lib.rt:101:5
 loop-holds : tie.Need-loop-holds Inv-loop μ-loop
 unfolding eventsBytes day total listOf
 loop-holds c = (
@@ -52,15 +44,9 @@ loop-holds c = (
   refl,
 )
 
--- src/lib.rt:102:13
 share-requires : tie.Need-share-requires Inv-loop μ-loop
 share-requires c κs = search needs
 
--- src/lib.rt:103:39
-cast-put-singles : tie.Need-cast-put-singles Inv-loop μ-loop
-cast-put-singles c = search needs
-
--- src/lib.rt:103:9
 put-singles-requires : tie.Need-put-singles-requires Inv-loop μ-loop
 put-singles-requires c κs =
     let l = c .before .before .before .loop in
@@ -79,7 +65,7 @@ put-singles-requires c κs =
         (
           omega (arith, share-within (a .w) f (l .p) (a .k) (c .before .share .result) inside mine),
           (
-            omega (arith, l .inv .1, l .inv .2, long, place-within (a .w) f (l .p) (a .k) (c .before .share .result) inside mine),
+            omega (arith, l .inv .1, l .inv .2, long, place-within (a .w) f (l .p) (a .k) _ inside mine),
             λ i m.
                 rw (l .inv .3)
                 (day-blank (a .w) f (z .clear-all .last .0) (l .p) clear i (omega (arith, l .inv .1))),
@@ -88,11 +74,6 @@ put-singles-requires c κs =
       ),
     )
 
--- src/lib.rt:104:26
-cast-place : tie.Need-cast-place Inv-loop μ-loop
-cast-place c = search needs
-
--- src/lib.rt:104:25
 mul-place : tie.Need-mul-place Inv-loop μ-loop
 mul-place c =
     let h = c .before .before .before .before in
@@ -104,7 +85,6 @@ mul-place c =
       );
     }
 
--- src/lib.rt:104:17
 add-place : tie.Need-add-place Inv-loop μ-loop
 add-place c =
     let h = c .before .before .before .before in
@@ -126,15 +106,12 @@ add-place c =
           ));
     }
 
--- src/lib.rt:105:13
 add-p : tie.Need-add-p Inv-loop μ-loop
 add-p c = search needs
 
--- src/lib.rt:101:5
 loop-less : tie.Need-loop-less Inv-loop μ-loop
 loop-less c = search needs
 
--- src/lib.rt:101:5
 loop-again : tie.Need-loop-again Inv-loop μ-loop
 loop-again c =
     let h = c .before .before .before .before in
@@ -144,17 +121,16 @@ loop-again c =
     let a = z .before .before .before .args in
     let f = evenly (a .each) (a .more) in (
       search needs,
-      rw (e .event-length .ensures .0, l .inv .1) (place-next (a .w) f (l .p) (h .share .result) (h .share .ensures .0)),
+      rw (e .event-length .ensures .0, l .inv .1)
+          (place-next (a .w) f (l .p) (h .share .result) (h .share .ensures .0)),
       search needs,
       day-step (a .w) f (z .clear-all .last .0) (l .p) (l .events) (l .place) (h .share .result) _ (l .inv .3)
           (l .inv .1) (h .share .ensures .0) (c .before .before .put-singles .ensures),
     )
 
--- src/lib.rt:89:1
 same-length : tie.Need-same-length Inv-loop μ-loop
 same-length c = search needs
 
--- src/lib.rt:89:1
 returns : tie.Need-returns Inv-loop μ-loop
 returns c =
     let l = c .before .loop in
@@ -177,9 +153,7 @@ put-day-spec =
     event-length-requires
     loop-holds
     share-requires
-    cast-put-singles
     put-singles-requires
-    cast-place
     mul-place
     add-place
     add-p

@@ -1,3 +1,4 @@
+-- Two stores make the event, since all else of it is 0 already: the law `single-laid`.
 use native.Mathlib.Omega.{arith}
 use mathlib.Core.Path.{_≡_, refl, sym, ap, _∙_}
 use Prim.Native.Nat.{ℕ, _≤_, _<_, _-_, _+_, _*_}
@@ -10,31 +11,23 @@ use Rattle.codec.specs.Little.{put}
 use Rattle.call_busiest.proofs.EventSteps.{single-laid, count-there, fits-width}
 use Rattle.call_busiest.proofs.put_single.Statement.{statement}
 use Rattle.call_busiest.proofs.put_single.Tie as tie
-use Rattle.call_busiest.proofs.put_single.Reads as reads
-use Rattle.call_busiest.proofs.put_single.Lts as lts
-use Rattle.frontiers.proofs.counts.write_count.Reads as write-count-reads
 
--- src/lib.rt:64:5
 slice-write-events : tie.Need-slice-write-events
 slice-write-events c = search needs
 
--- src/lib.rt:65:25
 add-write-count : tie.Need-add-write-count
 add-write-count c = search needs
 
--- src/lib.rt:65:37
 mul-write-count : tie.Need-mul-write-count
 mul-write-count c =
     let a = c .before .before .args in
     record { fits = omega (arith, count-there (a .w) (a .p) (search needs)) }
 
--- src/lib.rt:65:25
 add-write-count-2 : tie.Need-add-write-count-2
 add-write-count-2 c =
     let a = c .before .before .args in
     record { fits = omega (arith, count-there (a .w) (a .p) (search needs)) }
 
--- src/lib.rt:65:5
 write-count-requires : tie.Need-write-count-requires
 write-count-requires c κs =
     let a = c .before .before .args in (
@@ -45,18 +38,17 @@ write-count-requires c κs =
       ),
     )
 
--- src/lib.rt:55:1
 same-length : tie.Need-same-length
 same-length c =
     let a = c .before .before .before .before .before .args in
     omega (arith, length-set (now (a .events)) (a .place) (a .mask))
 
--- src/lib.rt:55:1
 returns : tie.Need-returns
 returns c =
     let a = c .before .before .before .before .before .args in
     c .before .before .write-count .ensures
-    ∙ ap (λ (m : ℕ). put (set (now (a .events)) (a .place) m) (a .place + 8 + a .p * a .w) (a .w) (a .number)) (search needs)
+    ∙ ap (λ (m : ℕ). put (set (now (a .events)) (a .place) m) (a .place + 8 + a .p * a .w) (a .w) (a .number))
+    (search needs)
     ∙ single-laid (a .w) (a .p) (a .number) (now (a .events)) (a .place) (search needs) (search needs)
 
 pub put-single-spec : {M : Type 1} → statement M

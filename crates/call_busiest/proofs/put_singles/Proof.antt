@@ -1,3 +1,4 @@
+-- The first i events are laid, one more with each turn: the law `singles-step`.
 use native.Mathlib.Omega.{arith}
 use mathlib.Core.Path.{_≡_, refl, sym, ap, _∙_}
 use Prim.Native.Nat.{ℕ, _≤_, _<_, _-_, _+_, _*_, _^_}
@@ -16,10 +17,6 @@ use Rattle.call_busiest.specs.Busiest.{singles}
 use Rattle.call_busiest.proofs.DaySteps.{singles-step, singles-blank}
 use Rattle.call_busiest.proofs.put_singles.Statement.{statement}
 use Rattle.call_busiest.proofs.put_singles.Tie as tie
-use Rattle.call_busiest.proofs.put_singles.Reads as reads
-use Rattle.call_busiest.proofs.put_singles.Lts as lts
-use Rattle.call_busiest.proofs.put_single.Reads as put-single-reads
-use Rattle.records.proofs.fields.event_length.Reads as event-length-reads
 
 abbrev Inv-loop : tie.InvT-loop
 Inv-loop events₀ w place p n size mask at₀ i₀ events at i =
@@ -29,32 +26,28 @@ Inv-loop events₀ w place p n size mask at₀ i₀ events at i =
 abbrev μ-loop : tie.MeasureT-loop
 μ-loop events₀ w place p n size mask at₀ i₀ events at i = n - i
 
--- src/lib.rt:77:9
 event-length-requires : tie.Need-event-length-requires Inv-loop μ-loop
 event-length-requires c κs = search needs
 
--- src/lib.rt:78:24
 cast-mask : tie.Need-cast-mask Inv-loop μ-loop
 cast-mask c = search needs
 
--- src/lib.rt:78:24
 cast-mask-2 : tie.Need-cast-mask-2 Inv-loop μ-loop
 cast-mask-2 c = search needs
 
--- src/lib.rt:78:16
 shl-mask : tie.Need-shl-mask Inv-loop μ-loop
 shl-mask c = search needs
 
--- src/lib.rt:81:5
 loop-holds : tie.Need-loop-holds Inv-loop μ-loop
 unfolding eventsBytes singles listOf
 loop-holds c = (search needs, omega (arith, zero-mul (eventLength (c .before .before .args .w))), search needs, refl)
 
--- src/lib.rt:82:13
 add-i : tie.Need-add-i Inv-loop μ-loop
 add-i c = search needs
 
--- src/lib.rt:83:9
+cast-put-single : tie.Need-cast-put-single Inv-loop μ-loop
+cast-put-single c = search needs
+
 put-single-requires : tie.Need-put-single-requires Inv-loop μ-loop
 put-single-requires c κs =
     let l = c .before .before .loop in
@@ -76,7 +69,6 @@ put-single-requires c κs =
       ),
     )
 
--- src/lib.rt:84:14
 add-at : tie.Need-add-at Inv-loop μ-loop
 add-at c =
     let l = c .before .before .before .before .before .loop in
@@ -91,11 +83,9 @@ add-at c =
       );
     }
 
--- src/lib.rt:81:5
 loop-less : tie.Need-loop-less Inv-loop μ-loop
 loop-less c = search needs
 
--- src/lib.rt:81:5
 loop-again : tie.Need-loop-again Inv-loop μ-loop
 loop-again c =
     let l = c .before .before .before .before .before .loop in
@@ -108,11 +98,9 @@ loop-again c =
           (c .before .before .put-single .ensures),
     )
 
--- src/lib.rt:69:1
 same-length : tie.Need-same-length Inv-loop μ-loop
 same-length c = search needs
 
--- src/lib.rt:69:1
 returns : tie.Need-returns Inv-loop μ-loop
 returns c =
     let l = c .before .loop in
@@ -131,6 +119,7 @@ put-singles-spec =
     shl-mask
     loop-holds
     add-i
+    cast-put-single
     put-single-requires
     add-at
     loop-less

@@ -1,5 +1,5 @@
--- A busiest day's list, read back; and watches of such events: their kept cuts are the cuts that reach a taken count, and
--- these are counted.
+-- A busiest day's list, read back; and watches of such events: their kept cuts are the cuts that reach a taken count,
+-- and these are counted.
 use Prim.Native.Nat.{ℕ, suc, _+_, _-_, _*_, _^_, _≤_, _<_}
 use native.Mathlib.Nat.{pow-le-pow-right, zero-add}
 use native.Mathlib.Decide.{decLt}
@@ -68,12 +68,12 @@ events-read v es fit = sym (filled (length es) _ none es refl (λ i l. sym (one 
     one i l =
         let e = getD es i none in
         let before : List ℕ = blocks (eventBytes v) (take i es) in
-        let split : eventsBytes v es ≡ ([] ++ before) ++ (eventBytes v e ++ (blocks (eventBytes v) (drop (suc i) es) ++ [])) =
+        let behind : List ℕ = blocks (eventBytes v) (drop (suc i) es) ++ [] in
+        let split : eventsBytes v es ≡ ([] ++ before) ++ (eventBytes v e ++ behind) =
         eventsBytes-blocks v es ∙ sym (append-nil (blocks (eventBytes v) es))
         ∙ block-apart (eventBytes v) es i none l [] [] in
         ap (λ (s : List ℕ). eventFrom v s (i * eventLength v)) split
-        ∙ eventFrom-bytes v e (fit e (place-member es i none l)) ([] ++ before)
-        (blocks (eventBytes v) (drop (suc i) es) ++ []) (i * eventLength v)
+        ∙ eventFrom-bytes v e (fit e (place-member es i none l)) ([] ++ before) behind (i * eventLength v)
         (length-before (eventBytes v) (eventLength v) es (even-pending v es fit) i (omega arith) [] 0 refl
         ∙ zero-add (i * eventLength v))
 
@@ -128,8 +128,7 @@ module _ {A : Type 0} where
   pub in-reverse : (x : A) (xs : List A) → List·Memᴰ x xs ↔ List·Memᴰ x (reverse xs)
   in-reverse x [] = (λ m. m, λ m. m)
   in-reverse x (y ∷ ys) =
-      let rest = in-reverse x ys in
-      (
+      let rest = in-reverse x ys in (
         λ m.
             rw (reverse-cons y ys)
             (⊎-elim (λ e. Memᴰ·append-right (reverse ys) (List·Memᴰ·head e))
@@ -137,7 +136,7 @@ module _ {A : Type 0} where
         λ m.
             ⊎-elim (λ i. List·Memᴰ·tail (rest .1 i))
             (λ i.
-                ⊎-elim (λ e. List·Memᴰ·head e) (λ z. absurd (List·Memᴰ·not-nil z)) (List·Memᴰ·cases-cons i))
+            ⊎-elim (λ e. List·Memᴰ·head e) (λ z. absurd (List·Memᴰ·not-nil z)) (List·Memᴰ·cases-cons i))
             (List·Memᴰ·append-cases (reverse ys) (rw (reverse-cons y ys) at m)),
       )
 
@@ -175,17 +174,19 @@ module _ (k : ℕ) (some : 0 < k) (eight : k ≤ 8) (ts : List Event) (h : Histo
 
       in-there : (S : Cut) → List·Memᴰ S (reaching counts) → Consistent ts S × Stays k 0 ts S
       in-there S m =
-          let r = reaching-exactly counts S .0 m in
-          (
+          let r = reaching-exactly counts S .0 m in (
             alone-consistent ts causal alone S (λ p. omega (arith, r .0 p, taken-at p)),
-            none-closed k some ts S .1 (r .1 .0, rw (length-listOf k (taken ts)) at (r .1 .1), r .1 .2 ∙ taken-at (r .1 .0)),
+            none-closed k some ts S .1
+                (r .1 .0, rw (length-listOf k (taken ts)) at (r .1 .1), r .1 .2 ∙ taken-at (r .1 .0)),
           )
 
       in-back : (S : Cut) → Consistent ts S × Stays k 0 ts S → List·Memᴰ S (reaching counts)
       in-back S c =
           let r = none-closed k some ts S .0 (c .1) in
-          reaching-exactly counts S .1
-          ((λ p. omega (arith, c .0 .within p, taken-at p)), (r .0, rw (length-listOf k (taken ts)) (r .1), r .2 ∙ sym (taken-at (r .0))))
+          reaching-exactly counts S .1 (
+            (λ p. omega (arith, c .0 .within p, taken-at p)),
+            (r .0, rw (length-listOf k (taken ts)) (r .1), r .2 ∙ sym (taken-at (r .0))),
+          )
 
   -- No more than an even sharing of as many events.
   alone-most : (n : ℕ) → length ts ≤ n → keptBy counts ≤ keptBy (shares k n)
@@ -288,11 +289,10 @@ module _ (w k : ℕ) (f : Formula) (start : Cut) (Z : Watch) (S : Sound w k f st
     settled-kept : ((e : Event) → occurrences e (Z .accepted) ≡ occurrences e (listed v k n events)) → EndsQuiet Z
         → (Z .ledger .pending ≡ []) × (keptCount (Z .bytes) ≡ m)
     unfolding occurrences
-    settled-kept h quiet =
-        (
-          no-members (Z .ledger .pending) (λ e i. List·Memᴰ·not-nil (pending e .1 i)),
-          same-kept (record { there = both .back; back = both .there }),
-        )
+    settled-kept h quiet = (
+      no-members (Z .ledger .pending) (λ e i. List·Memᴰ·not-nil (pending e .1 i)),
+      same-kept (record { there = both .back; back = both .there }),
+    )
       where
         settled : Settled (Z .ledger)
         settled = S .reporting .quiet (quiet .0) (quiet .1)
@@ -365,7 +365,8 @@ module _ (w k : ℕ) (f : Formula) (start : Cut) (Z : Watch) (S : Sound w k f st
   pub busiest-kept-of : BusiestKept w k f start Z
   busiest-kept-of = record {
     kept-by-counts = by-counts;
-    kept-by-products = λ P. ap (λ (n : ℕ). n + product (listOf k (taken ts))) (by-counts P) ∙ kept-sum (listOf k (taken ts));
+    kept-by-products = λ P.
+        ap (λ (n : ℕ). n + product (listOf k (taken ts))) (by-counts P) ∙ kept-sum (listOf k (taken ts));
     never-more = most;
     day-kept = listed-kept;
     day-settled = settled-kept;
