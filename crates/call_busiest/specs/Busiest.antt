@@ -51,10 +51,15 @@ pub record Listed : Type 0 where
   pub answer : Result
   pub events : List ℕ
 
+-- Turned back by a number; and with the day's events in the list.
+abbrev pub unwritten : List ℕ → ℕ → Listed
+unwritten events m = record { answer = refused m; events = events }
+
+abbrev pub written : ℕ → ℕ → ℕ → Listed
+written w k n = record { answer = gives (keptBy (shares k n)); events = eventsBytes w (busiestDay k n) }
+
 unfoldable pub busiestCall : ℕ → ℕ → ℕ → List ℕ → Listed
 busiestCall w k n events =
-    let turned : ℕ → Listed = λ m. record { answer = refused m; events = events } in
-    cond (badDay k n) (turned dayNumber)
-    (cond (tooBusy k n) (turned busyNumber)
-    (cond (badListLength w n (length events)) (turned lengthNumber)
-    (record { answer = gives (keptBy (shares k n)); events = eventsBytes w (busiestDay k n) })))
+    cond (badDay k n) (unwritten events dayNumber)
+    (cond (tooBusy k n) (unwritten events busyNumber)
+    (cond (badListLength w n (length events)) (unwritten events lengthNumber) (written w k n)))

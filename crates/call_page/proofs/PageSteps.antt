@@ -21,7 +21,7 @@ use Rattle.refusals.specs.RefusalCode.{watchFault}
 use Rattle.refusals.specs.FaultLaws.{Good, good-watch, fault-first, fault-passed, watch-good}
 use Rattle.answers.specs.Result.{refused, gives, resultWord}
 use Rattle.answers.specs.Turns.{chosen-by, passed as passed-turn, end, turn}
-use Rattle.call_page.specs.Page.{row, rows, shortPage, Paged, pageCall}
+use Rattle.call_page.specs.Page.{row, rows, shortPage, Paged, unwritten, written, pageCall}
 use Rattle.call_page.specs.PageCode.{pageFault}
 use Rattle.call_page.specs.RowLaws.{rowAt, rows-more, length-rows}
 
@@ -77,18 +77,17 @@ module _ (w : ℕ) (s window page : List ℕ) where
   abbrev fault : ℕ
   fault = pageFault w s window (length page)
 
-  -- What a page that is turned back answers and leaves, and one that is not.
-  turned : ℕ → Paged
-  turned n = record { answer = refused n; page = page }
-
   abbrev text : List ℕ
   text = rows (processCount s) (lineTotal s - 1) (frontiers w window (keptCount s))
 
-  whole : Paged
-  whole = record { answer = gives (keptCount s); page = text ++ drop (93 * keptCount s) page }
+  abbrev turned : ℕ → Paged
+  turned n = unwritten page n
+
+  abbrev whole : Paged
+  whole = written s (frontiers w window (keptCount s)) page
 
   page-by : pageCall w s window page ≡ cond (eqb fault 0) whole (turned fault)
-  unfolding pageCall pageFault turned whole
+  unfolding pageCall pageFault
   page-by =
       chosen-by
       (turn (badRecordLength w (length s) || badWindowLength w (length window)) 6
@@ -98,7 +97,7 @@ module _ (w : ℕ) (s window page : List ℕ) where
 
   pub page-turned : (n : ℕ) → n ≡ fault → (n ≡ 0 → ⊥)
       → (n ≡ resultWord (pageCall w s window page .answer)) × (page ≡ pageCall w s window page .page)
-  unfolding turned resultWord
+  unfolding resultWord
   page-turned n e h =
       let back : pageCall w s window page ≡ turned n = page-by ∙ rw (← e, ne-eqb n 0 h) in
       (rw back, rw back)
@@ -114,11 +113,11 @@ module _ (w : ℕ) (s window page : List ℕ) where
         ltb-false (length page) (93 * keptCount s) (short .0),
       )
 
-  pub page-written : fault ≡ 0 → Bytes window → w ≤ 4 → (written : List ℕ) → written ≡ sets page 0 text
+  pub page-written : fault ≡ 0 → Bytes window → w ≤ 4 → (page′ : List ℕ) → page′ ≡ sets page 0 text
       → (65536 * keptCount s ≡ resultWord (pageCall w s window page .answer))
-      × (written ≡ pageCall w s window page .page)
-  unfolding whole resultWord
-  page-written h b narrow written e =
+      × (page′ ≡ pageCall w s window page .page)
+  unfolding resultWord
+  page-written h b narrow page′ e =
       let done : pageCall w s window page ≡ whole = page-by ∙ rw (eq-eqb fault 0 h) in
       let long : length text ≡ 93 * keptCount s =
       length-rows w window b narrow (processCount s) (lineTotal s - 1) (keptCount s) in

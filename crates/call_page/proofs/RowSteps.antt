@@ -13,8 +13,8 @@ use Rattle.codec.specs.Ascii.{ascii}
 use Rattle.codec.specs.Decimal.{numeral}
 use Rattle.codec.specs.SetsLaws.{sets-append}
 use Rattle.clocks.specs.Counts.{at}
-use Rattle.call_page.specs.Page.{aligned, column, columns, word, row}
-use Rattle.call_page.specs.PageCode.{TenDigits, ending}
+use Rattle.call_page.specs.Page.{aligned, column, columns, word, row, ending}
+use Rattle.call_page.specs.PageCode.{TenDigits}
 use Rattle.call_page.specs.RowLaws.{length-columns}
 
 -- ---- The ending
@@ -73,7 +73,7 @@ pub row-stands : (page₀ : List ℕ) (place k : ℕ) (counts : List ℕ) (holds
     → (b page₁ : List ℕ) → page₁ ≡ sets page₀ place (columns k counts k)
     → b ≡ sets page₁ (place + 11 * k) (replicate (11 * (8 - k)) 32)
     → sets b (place + 88) (ending holds) ≡ sets page₀ place (row k counts holds)
-unfolding row ending
+unfolding row
 row-stands page₀ place k counts holds ten few b page₁ e f =
     let blanks : List ℕ = replicate (11 * (8 - k)) 32 in
     let there : place + 11 * k ≡ place + length (columns k counts k) = omega (arith, length-columns k counts k ten) in
@@ -84,7 +84,3 @@ row-stands page₀ place k counts holds ten few b page₁ e f =
     let end : place + 88 ≡ place + length (columns k counts 8) = omega (arith, length-columns k counts 8 ten) in
     ap (λ (s : List ℕ). sets s (place + 88) (ending holds)) eight
     ∙ behind page₀ place (columns k counts 8) (place + 88) (ending holds) end
-    ∙ ap (sets page₀ place) (join (columns k counts 8) (ascii " ") (word holds) (10 ∷ []))
-  where
-    join : (a b c d : List ℕ) → a ++ (b ++ c ++ d) ≡ a ++ b ++ c ++ d
-    join a b c d = sym (append-assoc a (b ++ c) d) ∙ ap (λ (s : List ℕ). s ++ d) (sym (append-assoc a b c))

@@ -38,9 +38,13 @@ columns k counts (suc p) = columns k counts p ++ column k counts p
 unfoldable pub word : Bool → List ℕ
 word truth = cond truth (ascii "yes") (ascii "no ")
 
+-- What stands behind the columns: a blank, the word and a line feed.
+unfoldable pub ending : Bool → List ℕ
+ending truth = ascii " " ++ word truth ++ (10 ∷ [])
+
 -- The row of a cut with these counts, at which the rule has this truth.
 unfoldable pub row : ℕ → List ℕ → Bool → List ℕ
-row k counts truth = columns k counts 8 ++ ascii " " ++ word truth ++ (10 ∷ [])
+row k counts truth = columns k counts 8 ++ ending truth
 
 -- The rows of frontiers, one behind the other, for the rule that is this line of the table.
 unfoldable pub rows : ℕ → ℕ → List Frontier → List ℕ
@@ -58,15 +62,19 @@ pub record Paged : Type 0 where
   pub answer : Result
   pub page : List ℕ
 
+-- Turned back by a number; and with the rows of these frontiers, what stood behind them.
+abbrev pub unwritten : List ℕ → ℕ → Paged
+unwritten page n = record { answer = refused n; page = page }
+
+abbrev pub written : List ℕ → List Frontier → List ℕ → Paged
+written s fs page = record {
+  answer = gives (keptCount s);
+  page = rows (processCount s) (lineTotal s - 1) fs ++ drop (rowLength * keptCount s) page;
+}
+
 unfoldable pub pageCall : ℕ → List ℕ → List ℕ → List ℕ → Paged
 pageCall w s window page =
-    let turned : ℕ → Paged = λ n. record { answer = refused n; page = page } in
-    cond (badRecordLength w (length s) || badWindowLength w (length window)) (turned lengthNumber)
-    (cond (badState w (roomOf w (length window)) s) (turned stateNumber)
-    (cond (shortPage (keptCount s) (length page)) (turned shortPageNumber)
-    (record {
-      answer = gives (keptCount s);
-      page =
-          rows (processCount s) (lineTotal s - 1) (frontiers w window (keptCount s))
-          ++ drop (rowLength * keptCount s) page;
-    })))
+    cond (badRecordLength w (length s) || badWindowLength w (length window)) (unwritten page lengthNumber)
+    (cond (badState w (roomOf w (length window)) s) (unwritten page stateNumber)
+    (cond (shortPage (keptCount s) (length page)) (unwritten page shortPageNumber)
+    (written s (frontiers w window (keptCount s)) page)))

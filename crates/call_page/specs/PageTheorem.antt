@@ -18,8 +18,7 @@ use Rattle.answers.specs.Result.{Result, refused, gives}
 use Rattle.answers.specs.Told.{Told}
 use Rattle.answers.specs.ToldLaws.{not-both, refused-told, gives-told}
 use Rattle.answers.specs.Turns.{by-test}
-use Rattle.call_page.specs.Page.{word, rows, shortPage, Paged, pageCall}
-use Rattle.call_page.specs.PageCode.{ending}
+use Rattle.call_page.specs.Page.{word, rows, shortPage, Paged, pageCall, ending}
 use Rattle.call_page.specs.PageExact.{Printed, PageIsExact, RefusedWritesNothing, PageTells}
 use Rattle.call_page.specs.RowLaws.{few-digits, length-rows}
 use Rattle.call_page.specs.ColumnLaws.{column-says, column-blank}
@@ -32,12 +31,12 @@ module _ (w : ℕ) (s window page : List ℕ) where
   text = rows (processCount s) (lineTotal s - 1) (frontiers w window (keptCount s))
 
   -- What a page comes to.
-  pub data Way (P : Paged) : Type 0 where
+  data Way (P : Paged) : Type 0 where
     turned : (n : ℕ) → 0 < n → n < 256 → P .answer ≡ refused n → P .page ≡ page → Way P
     whole : badState w (roomOf w (length window)) s ≡ false → 93 * keptCount s ≤ length page
         → P .answer ≡ gives (keptCount s) → P .page ≡ text ++ drop (93 * keptCount s) page → Way P
 
-  pub the-way : Way (pageCall w s window page)
+  the-way : Way (pageCall w s window page)
   unfolding pageCall shortPage
   the-way =
       by-test Way (badRecordLength w (length s) || badWindowLength w (length window)) _ _

@@ -10,20 +10,20 @@ use Rattle.codec.specs.Ascii.{ascii}
 use Rattle.codec.specs.Bit.{bit}
 use Rattle.codec.specs.Little.{Bytes}
 use Rattle.frontiers.specs.Bytes.{frontierAt, frontiers}
-use Rattle.call_page.specs.Page.{column, columns, word, row, rows}
-use Rattle.call_page.specs.PageCode.{TenDigits, ending}
+use Rattle.call_page.specs.Page.{column, columns, word, row, rows, ending}
+use Rattle.call_page.specs.PageCode.{TenDigits}
 use Rattle.call_page.specs.RowLaws.{few-digits, rowAt, rows-more, length-rows, length-column, length-columns, length-ending}
 
 -- ---- Parts of a text
 
 -- A part of a text, with so many characters before it.
-pub record Part (text part : List ℕ) (place : ℕ) : Type 0 where
-  pub before : List ℕ
-  pub behind : List ℕ
-  pub text-is : text ≡ before ++ part ++ behind
-  pub place-is : length before ≡ place
+record Part (text part : List ℕ) (place : ℕ) : Type 0 where
+  before : List ℕ
+  behind : List ℕ
+  text-is : text ≡ before ++ part ++ behind
+  place-is : length before ≡ place
 
-pub part-taken : (text part : List ℕ) (place n : ℕ) → Part text part place → length part ≡ n
+part-taken : (text part : List ℕ) (place n : ℕ) → Part text part place → length part ≡ n
     → take n (drop place text) ≡ part
 part-taken text part place n P long =
     rw (
@@ -107,24 +107,19 @@ module _ (w : ℕ) (s : List ℕ) (b : Bytes s) (narrow : w ≤ 4) (k line : ℕ
         rw all at (column-in k counts ten p (8 - suc p)) in
         let truth = bit (frontierAt w s i .values) line in
         let begin : Part (rowAt w s k line i) (column k counts p) (11 * p) =
-        begun (columns k counts 8 ++ ascii " " ++ word truth) (column k counts p) (10 ∷ []) (11 * p)
-        (begun (columns k counts 8 ++ ascii " ") (column k counts p) (word truth) (11 * p)
-        (begun (columns k counts 8) (column k counts p) (ascii " ") (11 * p) inside)) in
+        begun (columns k counts 8) (column k counts p) (ending truth) (11 * p) inside in
         part-taken text (column k counts p) (93 * i + 11 * p) 11
         (within text (rowAt w s k line i) (column k counts p) (93 * i) (11 * p) row-there begin)
         (length-column k counts p ten)
 
     pub ending-there : take 5 (drop (93 * i + 88) text) ≡ ending (bit (frontierAt w s i .values) line)
-    unfolding row ending
+    unfolding row
     ending-there =
         let counts = frontierAt w s i .counts in
         let truth = bit (frontierAt w s i .values) line in
-        let whole : rowAt w s k line i ≡ columns k counts 8 ++ ending truth =
-        append-assoc (columns k counts 8 ++ ascii " ") (word truth) (10 ∷ [])
-        ∙ append-assoc (columns k counts 8) (ascii " ") (word truth ++ (10 ∷ [])) in
         let eight : length (columns k counts 8) ≡ 88 = length-columns k counts 8 (few-digits w s b narrow i) in
         let end : Part (rowAt w s k line i) (ending truth) 88 =
-        rw (whole, ← eight) (ends (columns k counts 8) (ending truth)) in
+        rw (← eight) (ends (columns k counts 8) (ending truth)) in
         part-taken text (ending truth) (93 * i + 88) 5
         (within text (rowAt w s k line i) (ending truth) (93 * i) 88 row-there end)
         (length-ending truth)

@@ -20,8 +20,8 @@ use Rattle.codec.specs.PutLaws.{number-lt}
 use Rattle.frontiers.specs.declared.Frontier.{Frontier}
 use Rattle.frontiers.specs.Bytes.{frontierLength, frontierFrom, frontierAt, frontiers}
 use Rattle.frontiers.specs.WindowLaws.{frontiers-more}
-use Rattle.call_page.specs.PageCode.{TenDigits, ending}
-use Rattle.call_page.specs.Page.{aligned, column, columns, word, row, rows}
+use Rattle.call_page.specs.PageCode.{TenDigits}
+use Rattle.call_page.specs.Page.{aligned, column, columns, word, row, rows, ending}
 
 -- ---- A column
 
@@ -63,20 +63,11 @@ unfolding ending word
 length-ending true = refl
 length-ending false = refl
 
-length-word : (truth : Bool) → length (word truth) ≡ 3
-unfolding word
-length-word true = refl
-length-word false = refl
-
 pub length-row : (k : ℕ) (counts : List ℕ) (truth : Bool) → TenDigits counts → length (row k counts truth) ≡ 93
 unfolding row
 length-row k counts truth ten =
-    rw (
-      length-append (columns k counts 8 ++ ascii " " ++ word truth) (10 ∷ []),
-      length-append (columns k counts 8 ++ ascii " ") (word truth),
-      length-append (columns k counts 8) (ascii " "),
-    )
-    (omega (arith, length-columns k counts 8 ten, length-word truth))
+    rw (length-append (columns k counts 8) (ending truth))
+    (omega (arith, length-columns k counts 8 ten, length-ending truth))
 
 -- ---- Rows
 

@@ -8,8 +8,8 @@ ghost use Prim.Native.Nat.{_+_, _≤_};
 ghost use mathlib.Core.Path.{_≡_};
 ghost use lib.ListN.{length};
 ghost use lib.Seq.{sets};
-ghost use Rattle.call_page.specs.Page.{row};
-ghost use Rattle.call_page.specs.PageCode.{Pairs, TenDigits, ending};
+ghost use Rattle.call_page.specs.Page.{row, ending};
+ghost use Rattle.call_page.specs.PageCode.{Pairs, TenDigits};
 
 // Writes what stands behind the columns.
 fn put_ending(page: &mut [u8], at: usize, holds: bool)

@@ -26,7 +26,7 @@ use Rattle.rules.specs.lines.LinesMean.{rule-means}
 use Rattle.records.specs.Record.{processCount, lineTotal, keptCount}
 use Rattle.refusals.specs.Refusals.{badWindowLength}
 use Rattle.answers.specs.Result.{Result, refused, gives}
-use Rattle.call_page.specs.Page.{rows, shortPage, Paged, pageCall}
+use Rattle.call_page.specs.Page.{shortPage, Paged, unwritten, written, pageCall}
 use Rattle.call_page.specs.PageExact.{RowSays, Printed}
 use Rattle.answers.specs.ToldLaws.{not-both}
 use Rattle.call_page.specs.PageTheorem.{page-exact}
@@ -58,15 +58,6 @@ mapped-at F (C ∷ before) S behind d = mapped-at F before S behind d
 -- ---- After a list of calls
 
 -- What a page comes to where neither 6 nor 34 does: 44, or the rows of these frontiers.
-abbrev unwritten : List ℕ → ℕ → Paged
-unwritten page n = record { answer = refused n; page = page }
-
-abbrev written : List ℕ → List Frontier → List ℕ → Paged
-written s fs page = record {
-  answer = gives (keptCount s);
-  page = rows (processCount s) (lineTotal s - 1) fs ++ drop (93 * keptCount s) page;
-}
-
 abbrev pub printed : List ℕ → List Frontier → List ℕ → Paged
 printed s fs page = cond (shortPage (keptCount s) (length page)) (unwritten page 44) (written s fs page)
 
