@@ -206,10 +206,11 @@ uint64_t watch32_page(const uint8_t *record, size_t record_len, const uint8_t *w
  * other process, shared evenly, the first n mod k processes having one more. No watch is read or written.
  * Accepted: value is the number of frontiers that a watch of k processes keeps when it has taken these events, in
  * whatever order they came, and no process is closed: with n(p) events of process p, the product of all n(p) + 1 less
- * the product of all n(p). No other sharing of n such events among the k processes keeps more. Writes every byte of the
- * list: process 0's events, their counts rising from 1, then process 1's, and so on. An event is 48 bytes, as a pending
- * one in a record: its mask (the one process), seven zeros, eight counts of four bytes, low byte first (its number at
- * its process, 0 elsewhere), eight label bytes, all 0. They may be taken in this order.
+ * the product of all n(p). No other sharing of n such events among the k processes, or of fewer, keeps more. So a
+ * window of so many frontiers is long enough for any n of them, counted from open: no take in it answers 36.
+ * Writes every byte of the list: process 0's events, their counts rising from 1, then process 1's, and so on. An event
+ * is 48 bytes, as a pending one in a record: its mask (the one process), seven zeros, eight counts of four bytes, low
+ * byte first (its number at its process, 0 elsewhere), eight label bytes, all 0. They may be taken in this order.
  * Refused, in this order: 45 k or n, 46, 6 a list of other than WATCH32_EVENTS_BYTES(n) bytes. The whole words k and n
  * are judged. Writes nothing then. With n = 0 the list is empty and the value 1.
  * Linear in n. Nothing is said of events of several processes, of messages or of closed processes. */
