@@ -13,7 +13,7 @@ use Rattle.clocks.specs.Counts.{listOf}
 use Rattle.frontiers.specs.ListLaws.{listOf-more}
 use Rattle.records.specs.Record.{eventLength, eventBytes, eventsBytes}
 use Rattle.call_busiest.specs.Sharing.{total}
-use Rattle.call_busiest.specs.SharingLaws.{total-next, total-grows}
+use Rattle.call_busiest.specs.SharingLaws.{total-next, share-within}
 use Rattle.call_busiest.specs.Busiest.{single, singles, day}
 use Rattle.call_busiest.specs.BusiestCode.{Blank}
 use Rattle.call_busiest.specs.DayBytes.{events-append, length-singles, length-day}
@@ -75,16 +75,11 @@ module _ (w : ℕ) (f : ℕ → ℕ) where
       rw from at (blank-behind s 0 (eventsBytes w (day f p)) (total (listOf p f) * eventLength w) (length-day w f p) b)
 
   -- The events of the next process are within the list.
-  pub share-within : (p k c : ℕ) → p < k → c ≡ f p → total (listOf p f) + c ≤ total (listOf k f)
-  share-within p k c l e =
-      let all : k - suc p + suc p ≡ k = omega arith in
-      let more : total (listOf (suc p) f) ≤ total (listOf k f) = rw all at (total-grows f (suc p) (k - suc p)) in
-      omega (arith, total-next f p)
-
   pub place-within : (p k c : ℕ) → p < k → c ≡ f p
       → total (listOf p f) * eventLength w + c * eventLength w ≤ total (listOf k f) * eventLength w
   place-within p k c l e =
-      rw (← add-mul (total (listOf p f)) c (eventLength w)) (mul-le-mul-right (eventLength w) (share-within p k c l e))
+      rw (← add-mul (total (listOf p f)) c (eventLength w))
+      (mul-le-mul-right (eventLength w) (rw e (share-within f p k l)))
 
   pub place-next : (p c : ℕ) → c ≡ f p
       → total (listOf p f) * eventLength w + c * eventLength w ≡ total (listOf (p + 1) f) * eventLength w

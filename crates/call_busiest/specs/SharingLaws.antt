@@ -1,6 +1,6 @@
 -- Products and sums of a sharing, one process at a time: the frontiers kept are a product less another that is never
 -- larger, they grow with each process, and an even sharing shares out every event.
-use Prim.Native.Nat.{ℕ, zero, suc, _+_, _*_, _/_, _%_, _≤_, _<_, min}
+use Prim.Native.Nat.{ℕ, zero, suc, _+_, _-_, _*_, _/_, _%_, _≤_, _<_, min}
 use native.Mathlib.Nat.{mul-add, add-mul, suc-mul, mul-suc, mul-assoc, mul-one, one-mul, zero-mul, zero-add, suc-add, mul-le-mul, div-add-mod, mod-lt}
 use native.Mathlib.Omega.{arith}
 use mathlib.Core.Path.{_≡_, refl, sym, ap, _∙_}
@@ -106,11 +106,30 @@ module _ (f : ℕ → ℕ) where
         mul-suc (keptBy (listOf (more + p) f)) (f (more + p)),
       ))
 
-  pub total-grows : (p more : ℕ) → total (listOf p f) ≤ total (listOf (more + p) f)
+  total-grows : (p more : ℕ) → total (listOf p f) ≤ total (listOf (more + p) f)
   total-grows p zero = rw zero-add (omega arith)
   total-grows p (suc more) = rw suc-add (omega (arith, total-grows p more, total-next (more + p)))
 
+  -- The events of one process are among all.
+  pub share-within : (p k : ℕ) → p < k → total (listOf p f) + f p ≤ total (listOf k f)
+  share-within p k l =
+      let all : k - suc p + suc p ≡ k = omega arith in
+      let more : total (listOf (suc p) f) ≤ total (listOf k f) = rw all at (total-grows (suc p) (k - suc p)) in
+      omega (arith, total-next p)
+
 -- ---- Shared evenly
+
+one-most : (b : Bool) → one b ≤ 1
+one-most true = omega arith
+one-most false = omega arith
+
+pub evenly-least : (each more p : ℕ) → each ≤ evenly each more p
+unfolding evenly
+evenly-least each more p = omega arith
+
+pub evenly-most : (each more p : ℕ) → evenly each more p ≤ suc each
+unfolding evenly
+evenly-most each more p = omega (arith, one-most (ltb p more))
 
 -- So many each, and one more for the first ones that there are.
 total-evenly : (each more k : ℕ) → total (listOf k (evenly each more)) ≡ k * each + min k more

@@ -14,6 +14,7 @@ pub mod OrderIndependent
 pub mod Looked
 pub mod Find
 pub mod Page
+pub mod DayListed
 pub mod Busiest
 pub mod WithoutAgains
 pub mod Again

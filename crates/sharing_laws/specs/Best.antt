@@ -5,16 +5,13 @@ use native.Mathlib.Nat.{add-assoc, mul-add, suc-mul, mul-suc, mul-comm, mul-asso
 use native.Mathlib.Decide.{decLt}
 use native.Mathlib.Omega.{arith}
 use mathlib.Core.Path.{_≡_, refl, sym, ap, _∙_}
-use mathlib.Core.Bool.{Bool, true, false}
 use mathlib.Core.List.{List, [], _∷_, map}
 use mathlib.Core.Logic.{_⊎_, inl, inr}
-use lib.Dec.{ltb}
 use lib.ListN.{length}
-use Rattle.clocks.specs.Event.{one}
 use Rattle.clocks.specs.Counts.{listOf}
 use Rattle.clocks.specs.stored.CountsLaws.{length-listOf}
 use Rattle.call_busiest.specs.Sharing.{evenly, shares, total, product, keptBy}
-use Rattle.call_busiest.specs.SharingLaws.{kept-sum, kept-first, total-shares}
+use Rattle.call_busiest.specs.SharingLaws.{kept-sum, kept-first, evenly-least, evenly-most, total-shares}
 use Rattle.sharing_laws.specs.SharingExact.{KeptIsProducts, EvenIsBest}
 use Rattle.sharing_laws.specs.Picked.{Picked, picked-length, picked-total, far, farAll, AllAtLeast, AllAtMost, some-above, some-below, most-total, least-total, Two, two, two-swap}
 
@@ -143,16 +140,10 @@ unfolding listOf
 all-most q zero f h = tt
 all-most q (suc k) f h = (h 0, all-most q k (λ p. f (suc p)) (λ p. h (suc p)))
 
-one-most : (b : Bool) → one b ≤ 1
-one-most true = omega arith
-one-most false = omega arith
-
 shares-level : (k n : ℕ) → Level (n / k) (shares k n)
-unfolding evenly
 shares-level k n =
-    level (n / k) (shares k n)
-    (all-least (n / k) k (evenly (n / k) (n % k)) (λ p. omega arith))
-    (all-most (suc (n / k)) k (evenly (n / k) (n % k)) (λ p. omega (arith, one-most (ltb p (n % k)))))
+    level (n / k) (shares k n) (all-least (n / k) k (evenly (n / k) (n % k)) (evenly-least (n / k) (n % k)))
+    (all-most (suc (n / k)) k (evenly (n / k) (n % k)) (evenly-most (n / k) (n % k)))
 
 -- ---- Any sharing, by its distance from an even one
 

@@ -13,11 +13,11 @@ use denote.Ref.{now}
 use Rattle.clocks.specs.Counts.{listOf}
 use Rattle.records.specs.Record.{eventLength, eventsBytes}
 use Rattle.call_busiest.specs.Sharing.{evenly, total}
-use Rattle.call_busiest.specs.SharingLaws.{total-next, total-grows}
+use Rattle.call_busiest.specs.SharingLaws.{share-within}
 use Rattle.call_busiest.specs.Busiest.{day}
 use Rattle.call_busiest.specs.BusiestCode.{sharing, Blank}
 use Rattle.call_busiest.specs.DayBytes.{length-day}
-use Rattle.call_busiest.proofs.DaySteps.{day-step, day-blank, share-within, place-within, place-next, blank-zeros}
+use Rattle.call_busiest.proofs.DaySteps.{day-step, day-blank, place-within, place-next, blank-zeros}
 use Rattle.call_busiest.proofs.put_day.Statement.{statement}
 use Rattle.call_busiest.proofs.put_day.Tie as tie
 
@@ -63,7 +63,7 @@ put-singles-requires c κs =
       (
         omega arith,
         (
-          omega (arith, share-within (a .w) f (l .p) (a .k) (c .before .share .result) inside mine),
+          omega (arith, share-within f (l .p) (a .k) inside, mine),
           (
             omega (arith, l .inv .1, l .inv .2, long, place-within (a .w) f (l .p) (a .k) _ inside mine),
             λ i m.

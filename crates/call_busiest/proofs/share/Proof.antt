@@ -1,5 +1,5 @@
 -- The test as a number is 1 or 0.
-use Prim.Native.Nat.{_≤_}
+use Prim.Native.Nat.{ℕ, _+_}
 use native.Mathlib.Omega.{arith}
 use mathlib.Core.Path.{_≡_, refl}
 use mathlib.Core.Bool.{Bool, true, false}
@@ -8,6 +8,7 @@ use mir.Val.{boolByte}
 use borrow.Author.Needs.{needs}
 use Rattle.clocks.specs.Event.{one}
 use Rattle.call_busiest.specs.Sharing.{evenly}
+use Rattle.call_busiest.specs.SharingLaws.{evenly-most}
 use Rattle.call_busiest.proofs.share.Statement.{statement}
 use Rattle.call_busiest.proofs.share.Tie as tie
 
@@ -15,23 +16,24 @@ byte-one : (b : Bool) → boolByte b ≡ one b
 byte-one true = refl
 byte-one false = refl
 
-one-most : (b : Bool) → one b ≤ 1
-one-most true = omega arith
-one-most false = omega arith
-
 cast-result : tie.Need-cast-result
 cast-result c = search needs
 
+-- What is added up is the share.
+is : (each more p : ℕ) → each + boolByte (ltb p more) ≡ evenly each more p
+unfolding evenly
+is each more p = omega (arith, byte-one (ltb p more))
+
 add-result : tie.Need-add-result
 add-result c =
-    let t = ltb (c .args .p) (c .args .more) in
-    record { fits = omega (arith, byte-one t, one-most t) }
+    let a = c .args in
+    record { fits = omega (arith, is (a .each) (a .more) (a .p), evenly-most (a .each) (a .more) (a .p)) }
 
 returns : tie.Need-returns
-unfolding evenly
 returns c =
-    let t = ltb (c .args .p) (c .args .more) in
-    (omega (arith, byte-one t), omega (arith, byte-one t, one-most t))
+    let a = c .args in
+    let e = is (a .each) (a .more) (a .p) in
+    (e, omega (arith, e, evenly-most (a .each) (a .more) (a .p)))
 
 pub share-spec : {M : Type 1} → statement M
 share-spec = tie.close (tie.spec cast-result add-result returns)

@@ -1,52 +1,42 @@
--- A busiest day's list, read back; and watches of such events: their kept cuts are the cuts that reach a taken count,
--- and these are counted.
-use Prim.Native.Nat.{ℕ, suc, _+_, _-_, _*_, _^_, _≤_, _<_}
-use native.Mathlib.Nat.{pow-le-pow-right, zero-add}
-use native.Mathlib.Decide.{decLt}
+-- Watches of events of single processes without messages: their kept cuts are the cuts that reach a taken count, and
+-- these are counted.
+use Prim.Native.Nat.{ℕ, suc, _+_, _-_, _≤_, _<_}
 use native.Mathlib.Omega.{arith}
 use mathlib.Core.Path.{_≡_, refl, sym, ap, subst, _∙_}
 use mathlib.Core.Bool.{cond}
-use mathlib.Core.List.{List, [], _∷_, _++_, reverse, reverse-cons, append-nil, List·Memᴰ, List·Memᴰ·head, List·Memᴰ·tail, List·Memᴰ·cases-cons, List·Memᴰ·not-nil, List·Memᴰ·append-cases, Memᴰ·append-left, Memᴰ·append-right}
-use mathlib.Core.Logic.{_↔_, ⊎-elim, inl, inr}
-use lib.Dec.{eqb, lit<}
-use lib.ListN.{length, getD, take, drop, replicate, length-replicate}
-use lib.Pow.{pow-lt}
+use mathlib.Core.List.{List, [], _∷_, reverse, reverse-cons, List·Memᴰ, List·Memᴰ·head, List·Memᴰ·cases-cons, List·Memᴰ·not-nil}
+use mathlib.Core.Logic.{_↔_, ⊎-elim}
+use lib.Dec.{eqb}
+use lib.ListN.{length, length-replicate}
 use Rattle.clocks.specs.declared.Event.{Event}
-use Rattle.clocks.specs.Event.{Cut, count, Ready}
+use Rattle.clocks.specs.Event.{Cut, Ready}
 use Rattle.clocks.specs.History.{taken, Consistent, Causal, In}
 use Rattle.clocks.specs.Valid.{History}
 use Rattle.clocks.specs.Counts.{at, listOf}
 use Rattle.clocks.specs.cuts.SameEvents.{Same, same-taken}
-use Rattle.clocks.specs.stored.CountsLaws.{length-listOf, listOf-same, at-listOf-all, filled}
+use Rattle.clocks.specs.stored.CountsLaws.{length-listOf, listOf-same, at-listOf-all}
 use Rattle.clocks.specs.validity.ClockRule.{history-causal, taken-silent}
-use Rattle.frontiers.specs.ListLaws.{place-member}
 use Rattle.rules.specs.Formula.{Formula}
 use Rattle.rules.specs.Line.{linesAt}
-use Rattle.records.specs.Record.{eventLength, eventFrom, eventBytes, eventsBytes, keptCount}
+use Rattle.records.specs.Record.{keptCount}
 use Rattle.answers.specs.Answer.{turnedBack}
-use Rattle.answers.specs.Result.{gives}
-use Rattle.call_busiest.specs.Sharing.{share, shares, total, product, keptBy}
-use Rattle.call_busiest.specs.SharingLaws.{total-next, total-grows, total-shares, kept-sum}
-use Rattle.call_busiest.specs.Busiest.{single, day, busiestDay, busiestCall}
+use Rattle.call_busiest.specs.Sharing.{share, shares, product, keptBy}
+use Rattle.call_busiest.specs.SharingLaws.{kept-sum}
+use Rattle.call_busiest.specs.Busiest.{single, day, busiestDay}
 use Rattle.call_busiest.specs.BusiestExact.{Day}
 use Rattle.call_busiest.specs.BusiestTheorem.{busiest-exact}
 use Rattle.sharing_laws.specs.Alone.{AllAlone}
 use Rattle.sharing_laws.specs.AloneLaws.{alone-consistent, alone-total}
 use Rattle.sharing_laws.specs.Best.{even-is-best}
 use Rattle.sharing_laws.specs.CutLists.{reaching, reaching-exactly, length-reaching, sorted-reaching}
-use Rattle.sharing_laws.specs.DayLaws.{single-most, day-history, day-alone, day-taken, day-member, length-day}
+use Rattle.sharing_laws.specs.DayLaws.{day-history, day-alone, day-taken, day-member}
 use Rattle.demands.specs.Ledger.{Ledger, Settled, occurrences, accounted}
 use Rattle.demands.specs.Run.{Watch}
-use Rattle.demands.specs.World.{Valid, KeptCuts, KeptNumber, Stays}
+use Rattle.demands.specs.World.{Valid, KeptNumber, Stays}
 use Rattle.demands.specs.Watching.{Eight, Kept-right}
 use Rattle.demands.specs.EveryList.{EndsQuiet, RightLengths, nextTake}
-use Rattle.demands.specs.statements.Busiest.{Gives, listed, DayListed, DayIsListed, Plain, BusiestKept, BusiestIsKept}
+use Rattle.demands.specs.statements.Busiest.{Gives, listed, Plain, BusiestKept, BusiestIsKept}
 use Rattle.demands.specs.statements.TakeAnswers.{allowedNext}
-use Rattle.demands.specs.bytes.BlockLaws.{blocks, eventsBytes-blocks, block-apart, length-before}
-use Rattle.demands.specs.bytes.PlaceLaws.{Bytes-zeros}
-use Rattle.demands.specs.bytes.RecordBlocks.{AllStorable, even-pending}
-use Rattle.demands.specs.bytes.Sized.{Storable}
-use Rattle.demands.specs.bytes.StoredLaws.{eventFrom-bytes}
 use Rattle.demands.specs.calls.KeptCutsLaws.{number-unique, represented-number, none-closed}
 use Rattle.demands.specs.calls.ValidRule.{valid-rule}
 use Rattle.demands.specs.calls.WatchingLaws.{says-kept}
@@ -54,101 +44,7 @@ use Rattle.demands.specs.lists.LedgerBalance.{occurs-append}
 use Rattle.demands.specs.lists.Delivery.{same-taken-events, same-pending}
 use Rattle.demands.specs.lists.SoundRun.{Sound, every-list}
 use Rattle.demands.specs.lists.TakeAnswers.{take-exact-of}
-
--- ---- Events that stand one behind the other
-
-events-read : (v : ℕ) (es : List Event) → AllStorable v es
-    → listOf (length es) (λ i. eventFrom v (eventsBytes v es) (i * eventLength v)) ≡ es
-events-read v es fit = sym (filled (length es) _ none es refl (λ i l. sym (one i l)))
-  where
-    none : Event
-    none = record { mask = 0; clock = []; labels = [] }
-
-    one : (i : ℕ) → i < length es → eventFrom v (eventsBytes v es) (i * eventLength v) ≡ getD es i none
-    one i l =
-        let e = getD es i none in
-        let before : List ℕ = blocks (eventBytes v) (take i es) in
-        let behind : List ℕ = blocks (eventBytes v) (drop (suc i) es) ++ [] in
-        let split : eventsBytes v es ≡ ([] ++ before) ++ (eventBytes v e ++ behind) =
-        eventsBytes-blocks v es ∙ sym (append-nil (blocks (eventBytes v) es))
-        ∙ block-apart (eventBytes v) es i none l [] [] in
-        ap (λ (s : List ℕ). eventFrom v s (i * eventLength v)) split
-        ∙ eventFrom-bytes v e (fit e (place-member es i none l)) ([] ++ before) behind (i * eventLength v)
-        (length-before (eventBytes v) (eventLength v) es (even-pending v es fit) i (omega arith) [] 0 refl
-        ∙ zero-add (i * eventLength v))
-
--- ---- The list of a call
-
-single-storable : (v p n : ℕ) → p < 8 → n < 256 ^ v → Storable v (single p n)
-unfolding single count
-single-storable v p n l fits = record {
-  mask-fits = pow-lt {j = 8} l;
-  eight-counts = length-listOf 8 (λ q. cond (eqb q p) n 0);
-  counts-fit = λ q. le-lt (single-most p n l q) fits;
-  eight-labels = length-replicate {A = ℕ} 8 0;
-  labels-fit = Bytes-zeros 8;
-}
-  where
-    le-lt : {a b c : ℕ} → a ≤ b → b < c → a < c
-    le-lt x y = omega arith
-
-module _ (v : ℕ) (wide : 2 ≤ v) (k n : ℕ) (events : List ℕ) (m : ℕ) (given : Gives v k n events m) where
-  there : Day k n
-  there = busiest-exact v k n events .given m .0 given .0
-
-  value : m ≡ keptBy (shares k n)
-  value = busiest-exact v k n events .given m .0 given .3
-
-  storable : AllStorable v (busiestDay k n)
-  storable e i =
-      let r = day-member (share k n) k e i in
-      let few : r .1 < n = omega (arith, r .3, share-within (r .0) (r .2)) in
-      let fits : suc (r .1) < 256 ^ v =
-      omega (arith, there .few-events, pow-le-pow-right {n = 256} (lit< tt) {i = 2} {j = v} wide) in
-      rw (r .4) (single-storable v (r .0) (suc (r .1)) (omega (arith, r .2, there .eight-processes)) fits)
-    where
-      share-within : (p : ℕ) → p < k → share k n p ≤ n
-      share-within p l =
-          let all : k - suc p + suc p ≡ k = omega arith in
-          let more : total (listOf (suc p) (share k n)) ≤ total (listOf k (share k n)) =
-          rw all at (total-grows (share k n) (suc p) (k - suc p)) in
-          omega (arith, total-next (share k n) p, total-shares k n (there .some-process))
-
-  read : listed v k n events ≡ busiestDay k n
-  read =
-      let many : length (busiestDay k n) ≡ n = length-day (share k n) k ∙ total-shares k n (there .some-process) in
-      ap (λ (s : List ℕ). listOf n (λ i. eventFrom v s (i * eventLength v)))
-      (busiest-exact v k n events .given-writes m given)
-      ∙ ap (λ (l : ℕ). listOf l (λ i. eventFrom v (eventsBytes v (busiestDay k n)) (i * eventLength v))) (sym many)
-      ∙ events-read v (busiestDay k n) storable
-
--- ---- Turned round
-
-module _ {A : Type 0} where
-  pub in-reverse : (x : A) (xs : List A) → List·Memᴰ x xs ↔ List·Memᴰ x (reverse xs)
-  in-reverse x [] = (λ m. m, λ m. m)
-  in-reverse x (y ∷ ys) =
-      let rest = in-reverse x ys in (
-        λ m.
-            rw (reverse-cons y ys)
-            (⊎-elim (λ e. Memᴰ·append-right (reverse ys) (List·Memᴰ·head e))
-            (λ i. Memᴰ·append-left (y ∷ []) (rest .0 i)) (List·Memᴰ·cases-cons m)),
-        λ m.
-            ⊎-elim (λ i. List·Memᴰ·tail (rest .1 i))
-            (λ i.
-            ⊎-elim (λ e. List·Memᴰ·head e) (λ z. absurd (List·Memᴰ·not-nil z)) (List·Memᴰ·cases-cons i))
-            (List·Memᴰ·append-cases (reverse ys) (rw (reverse-cons y ys) at m)),
-      )
-
-pub day-is-listed : DayIsListed
-day-is-listed v wide k n events m given =
-    let d = there v wide k n events m given in
-    let e = read v wide k n events m given in
-    record {
-      are = e;
-      alone = rw e (λ x i. day-alone k (d .eight-processes) (share k n) x (in-reverse x (busiestDay k n) .0 i));
-      history = rw e (day-history k (d .eight-processes) (share k n));
-    }
+use Rattle.demands.specs.lists.DayListed.{there, value, read, in-reverse}
 
 -- ---- How many cuts are kept
 

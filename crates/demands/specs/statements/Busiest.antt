@@ -1,6 +1,6 @@
 -- What a busiest day is to a watch (02 [8]): the list that a call wrote, how many frontiers such events keep in
 -- whatever order they came, that no other sharing keeps more, and that a window of so many frontiers is long enough.
--- Proved in lists/Busiest.
+-- Proved in lists/DayListed and lists/Busiest.
 use Prim.Native.Nat.{ℕ, suc, _+_, _*_, _≤_, _<_}
 use mathlib.Core.Path.{_≡_}
 use mathlib.Core.List.{List, [], map, reverse, List·Memᴰ}
