@@ -8,7 +8,7 @@ use lib.ListN.{length}
 use borrow.Author.Tests.{eq-eqb, ne-eqb, lt-ltb, le-ltb}
 use Rattle.records.specs.Record.{eventLength}
 use Rattle.refusals.specs.Refusals.{badProcesses}
-use Rattle.call_busiest.specs.Sharing.{shares, keptBy}
+use Rattle.call_busiest.specs.Sharing.{shares, sharingKeeps}
 use Rattle.call_busiest.specs.Busiest.{badDay, tooBusy, badListLength, unwritten, written, busiestCall}
 
 module _ (w k n : ℕ) (events : List ℕ) where
@@ -22,18 +22,18 @@ module _ (w k n : ℕ) (events : List ℕ) where
     events-turned l = rw (good, lt-ltb 65535 n l)
 
     module _ (few : n ≤ 65535) where
-      pub busy-turned : 1024 < keptBy (shares k n) → busiestCall w k n events ≡ unwritten events 46
+      pub busy-turned : 1024 < sharingKeeps (shares k n) → busiestCall w k n events ≡ unwritten events 46
       unfolding busiestCall badDay tooBusy
-      busy-turned l = rw (good, le-ltb 65535 n few, lt-ltb 1024 (keptBy (shares k n)) l)
+      busy-turned l = rw (good, le-ltb 65535 n few, lt-ltb 1024 (sharingKeeps (shares k n)) l)
 
-      module _ (room : keptBy (shares k n) ≤ 1024) where
+      module _ (room : sharingKeeps (shares k n) ≤ 1024) where
         pub length-turned : length events ≢ n * eventLength w → busiestCall w k n events ≡ unwritten events 6
         unfolding busiestCall badDay tooBusy badListLength
         length-turned other =
             rw (
               good,
               le-ltb 65535 n few,
-              le-ltb 1024 (keptBy (shares k n)) room,
+              le-ltb 1024 (sharingKeeps (shares k n)) room,
               ne-eqb (length events) (n * eventLength w) other,
             )
 
@@ -43,6 +43,6 @@ module _ (w k n : ℕ) (events : List ℕ) where
             rw (
               good,
               le-ltb 65535 n few,
-              le-ltb 1024 (keptBy (shares k n)) room,
+              le-ltb 1024 (sharingKeeps (shares k n)) room,
               eq-eqb (length events) (n * eventLength w) same,
             )

@@ -12,7 +12,7 @@ use Rattle.refusals.specs.Refusals.{badProcesses}
 use Rattle.numbers.specs.Limit.{mostFrontiers, mostDayEvents}
 use Rattle.numbers.specs.Refusal.{dayNumber, busyNumber, lengthNumber}
 use Rattle.answers.specs.Result.{Result, refused, gives}
-use Rattle.call_busiest.specs.Sharing.{share, shares, keptBy}
+use Rattle.call_busiest.specs.Sharing.{share, shares, sharingKeeps}
 
 -- ---- The events
 
@@ -40,7 +40,7 @@ badDay k n = badProcesses k || ltb mostDayEvents n
 
 -- 46: the day keeps over 1,024 frontiers.
 unfoldable pub tooBusy : ℕ → ℕ → Bool
-tooBusy k n = ltb mostFrontiers (keptBy (shares k n))
+tooBusy k n = ltb mostFrontiers (sharingKeeps (shares k n))
 
 -- 6: a list of so many bytes is not one of n events.
 unfoldable pub badListLength : ℕ → ℕ → ℕ → Bool
@@ -56,7 +56,7 @@ abbrev pub unwritten : List ℕ → ℕ → Listed
 unwritten events m = record { answer = refused m; events = events }
 
 abbrev pub written : ℕ → ℕ → ℕ → Listed
-written w k n = record { answer = gives (keptBy (shares k n)); events = eventsBytes w (busiestDay k n) }
+written w k n = record { answer = gives (sharingKeeps (shares k n)); events = eventsBytes w (busiestDay k n) }
 
 unfoldable pub busiestCall : ℕ → ℕ → ℕ → List ℕ → Listed
 busiestCall w k n events =

@@ -10,7 +10,7 @@ use Rattle.numbers.specs.Limit.{mostProcesses, mostFrontiers, mostDayEvents}
 use Rattle.numbers.specs.Refusal.{dayNumber, busyNumber, lengthNumber}
 use Rattle.answers.specs.Result.{refused, gives}
 use Rattle.answers.specs.Told.{Told}
-use Rattle.call_busiest.specs.Sharing.{shares, keptBy}
+use Rattle.call_busiest.specs.Sharing.{shares, sharingKeeps}
 use Rattle.call_busiest.specs.Busiest.{busiestDay, Listed, busiestCall}
 
 -- There is such a day: 1 to 8 processes, and up to 65,535 events.
@@ -23,14 +23,14 @@ pub record Day (k n : ℕ) : Type 0 where
 pub record Exact (w k n : ℕ) (events : List ℕ) (L : Listed) : Type 0 where
   -- the refusals in their order
   pub no-day : (L .answer ≡ refused dayNumber) ↔ ((k ≡ 0) ⊎ ((mostProcesses < k) ⊎ (mostDayEvents < n)))
-  pub too-busy : (L .answer ≡ refused busyNumber) ↔ (Day k n × (mostFrontiers < keptBy (shares k n)))
+  pub too-busy : (L .answer ≡ refused busyNumber) ↔ (Day k n × (mostFrontiers < sharingKeeps (shares k n)))
   pub wrong-length : (L .answer ≡ refused lengthNumber)
-      ↔ (Day k n × (keptBy (shares k n) ≤ mostFrontiers) × (length events ≢ n * eventLength w))
+      ↔ (Day k n × (sharingKeeps (shares k n) ≤ mostFrontiers) × (length events ≢ n * eventLength w))
   -- else the frontiers kept
   pub given : (m : ℕ)
       → (L .answer ≡ gives m)
-      ↔ (Day k n × (keptBy (shares k n) ≤ mostFrontiers) × (length events ≡ n * eventLength w)
-      × (m ≡ keptBy (shares k n)))
+      ↔ (Day k n × (sharingKeeps (shares k n) ≤ mostFrontiers) × (length events ≡ n * eventLength w)
+      × (m ≡ sharingKeeps (shares k n)))
   -- refused, it writes nothing; accepted, every byte
   pub refused-leaves : (m : ℕ) → L .answer ≡ refused m → L .events ≡ events
   pub given-writes : (m : ℕ) → L .answer ≡ gives m → L .events ≡ eventsBytes w (busiestDay k n)

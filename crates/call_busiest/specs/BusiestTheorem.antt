@@ -14,7 +14,7 @@ use Rattle.refusals.specs.Refusals.{badProcesses}
 use Rattle.answers.specs.Result.{refused, gives}
 use Rattle.answers.specs.Turns.{by-test}
 use Rattle.answers.specs.ToldLaws.{not-both, refused-told, gives-told}
-use Rattle.call_busiest.specs.Sharing.{share, shares, keptBy}
+use Rattle.call_busiest.specs.Sharing.{share, shares, sharingKeeps}
 use Rattle.call_busiest.specs.SharingLaws.{total-shares}
 use Rattle.call_busiest.specs.DayBytes.{length-day}
 use Rattle.call_busiest.specs.Busiest.{busiestDay, badDay, tooBusy, badListLength, Listed, busiestCall}
@@ -27,11 +27,11 @@ module _ (w k n : ℕ) (events : List ℕ) where
   -- What a call comes to.
   data Way (L : Listed) : Type 0 where
     no-day : NoDay → L .answer ≡ refused 45 → L .events ≡ events → Way L
-    busy : Day k n → 1024 < keptBy (shares k n) → L .answer ≡ refused 46 → L .events ≡ events → Way L
-    length-wrong : Day k n → keptBy (shares k n) ≤ 1024 → length events ≢ n * eventLength w → L .answer ≡ refused 6
-        → L .events ≡ events → Way L
-    whole : Day k n → keptBy (shares k n) ≤ 1024 → length events ≡ n * eventLength w
-        → L .answer ≡ gives (keptBy (shares k n)) → L .events ≡ eventsBytes w (busiestDay k n) → Way L
+    busy : Day k n → 1024 < sharingKeeps (shares k n) → L .answer ≡ refused 46 → L .events ≡ events → Way L
+    length-wrong : Day k n → sharingKeeps (shares k n) ≤ 1024 → length events ≢ n * eventLength w
+        → L .answer ≡ refused 6 → L .events ≡ events → Way L
+    whole : Day k n → sharingKeeps (shares k n) ≤ 1024 → length events ≡ n * eventLength w
+        → L .answer ≡ gives (sharingKeeps (shares k n)) → L .events ≡ eventsBytes w (busiestDay k n) → Way L
 
   -- ---- By the tests
 
@@ -74,13 +74,13 @@ module _ (w k n : ℕ) (events : List ℕ) where
   unfolding busiestCall tooBusy badListLength
   the-way =
       by-test Way (badDay k n) _ _ (λ h. no-day (bad h) refl refl) λ d.
-      by-test Way (tooBusy k n) _ _ (λ h. busy (good d) (ltb-true 1024 (keptBy (shares k n)) h) refl refl) λ room.
+      by-test Way (tooBusy k n) _ _ (λ h. busy (good d) (ltb-true 1024 (sharingKeeps (shares k n)) h) refl refl) λ room.
       by-test Way (badListLength w n (length events)) _ _
       (λ h.
-      length-wrong (good d) (ltb-false 1024 (keptBy (shares k n)) room)
+      length-wrong (good d) (ltb-false 1024 (sharingKeeps (shares k n)) room)
       (eqb-false (length events) (n * eventLength w) (not-true (eqb (length events) (n * eventLength w)) h)) refl refl)
       λ same.
-      whole (good d) (ltb-false 1024 (keptBy (shares k n)) room)
+      whole (good d) (ltb-false 1024 (sharingKeeps (shares k n)) room)
       (eqb-true (length events) (n * eventLength w) (not-false _ same)) refl refl
     where
       not-true : (b : Bool) → not b ≡ true → b ≡ false
@@ -146,7 +146,7 @@ module _ (w k n : ℕ) (events : List ℕ) where
   }
     where
       K : ℕ
-      K = keptBy (shares k n)
+      K = sharingKeeps (shares k n)
 
       value : (m : ℕ) → L .answer ≡ gives m → m ≡ K
       value m q = let same : gives K ≡ gives m = sym a ∙ q in let z : K ≡ m = cc in sym z

@@ -19,9 +19,9 @@ share k n p = evenly (n / k) (n % k) p
 abbrev pub shares : ℕ → ℕ → List ℕ
 shares k n = listOf k (share k n)
 
--- ---- Frontiers kept
+-- ---- What a sharing keeps
 
--- All of them.
+-- How many events there are.
 unfoldable pub total : List ℕ → ℕ
 total [] = 0
 total (c ∷ cs) = c + total cs
@@ -30,6 +30,7 @@ unfoldable pub product : List ℕ → ℕ
 product [] = 1
 product (c ∷ cs) = c * product cs
 
--- The product of all n(p) + 1 less the product of all n(p). (It is never the larger one: SharingLaws.)
-unfoldable pub keptBy : List ℕ → ℕ
-keptBy cs = product (map suc cs) - product cs
+-- How many frontiers: the product of all n(p) + 1 less the product of all n(p). (The second is never the larger one:
+-- SharingExact.)
+unfoldable pub sharingKeeps : List ℕ → ℕ
+sharingKeeps cs = product (map suc cs) - product cs

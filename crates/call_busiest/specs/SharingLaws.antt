@@ -11,7 +11,7 @@ use borrow.Author.Tests.{ltb-true, ltb-false}
 use Rattle.clocks.specs.Event.{one}
 use Rattle.clocks.specs.Counts.{listOf}
 use Rattle.frontiers.specs.ListLaws.{listOf-more}
-use Rattle.call_busiest.specs.Sharing.{evenly, shares, total, product, keptBy}
+use Rattle.call_busiest.specs.Sharing.{evenly, shares, total, product, sharingKeeps}
 
 -- ---- Products
 
@@ -32,16 +32,16 @@ product-one c = mul-one c
 -- ---- Frontiers kept
 
 -- The formula without its subtraction.
-pub kept-sum : (cs : List ℕ) → keptBy cs + product cs ≡ product (map suc cs)
-unfolding keptBy
+pub kept-sum : (cs : List ℕ) → sharingKeeps cs + product cs ≡ product (map suc cs)
+unfolding sharingKeeps
 kept-sum cs = omega (arith, product-le cs)
 
 -- One process more, at the front: its count is not reached, and another process is complete; or it is, and the others
 -- are at any cut.
-pub kept-first : (c : ℕ) (cs : List ℕ) → keptBy (c ∷ cs) ≡ suc c * keptBy cs + product cs
+pub kept-first : (c : ℕ) (cs : List ℕ) → sharingKeeps (c ∷ cs) ≡ suc c * sharingKeeps cs + product cs
 unfolding product
 kept-first c cs =
-    let K = keptBy cs in
+    let K = sharingKeeps cs in
     let P = product cs in
     omega (
       arith,
@@ -52,9 +52,9 @@ kept-first c cs =
     )
 
 -- and at the end.
-pub kept-last : (cs : List ℕ) (c : ℕ) → keptBy (cs ++ (c ∷ [])) ≡ keptBy cs * suc c + product cs
+pub kept-last : (cs : List ℕ) (c : ℕ) → sharingKeeps (cs ++ (c ∷ [])) ≡ sharingKeeps cs * suc c + product cs
 kept-last cs c =
-    let K = keptBy cs in
+    let K = sharingKeeps cs in
     let P = product cs in
     let all : product (map suc (cs ++ (c ∷ []))) ≡ product (map suc cs) * suc c =
     rw (map-append suc cs (c ∷ []), product-append (map suc cs) (suc c ∷ []), product-one (suc c)) in
@@ -70,8 +70,8 @@ kept-last cs c =
     product-last : product (cs ++ (c ∷ [])) ≡ product cs * c
     product-last = rw (product-append cs (c ∷ []), product-one c)
 
-    add-mul-suc : (keptBy cs + product cs) * suc c ≡ keptBy cs * suc c + (product cs * c + product cs)
-    add-mul-suc = rw (add-mul (keptBy cs) (product cs) (suc c), mul-suc (product cs) c)
+    add-mul-suc : (sharingKeeps cs + product cs) * suc c ≡ sharingKeeps cs * suc c + (product cs * c + product cs)
+    add-mul-suc = rw (add-mul (sharingKeeps cs) (product cs) (suc c), mul-suc (product cs) c)
 
 -- ---- Sums
 
@@ -84,7 +84,8 @@ total-last (x ∷ cs) c = omega (arith, total-last cs c)
 
 module _ (f : ℕ → ℕ) where
   -- One process more.
-  pub kept-next : (p : ℕ) → keptBy (listOf (suc p) f) ≡ keptBy (listOf p f) * suc (f p) + product (listOf p f)
+  pub kept-next : (p : ℕ)
+      → sharingKeeps (listOf (suc p) f) ≡ sharingKeeps (listOf p f) * suc (f p) + product (listOf p f)
   kept-next p = rw (listOf-more p f) (kept-last (listOf p f) (f p))
 
   pub product-next : (p : ℕ) → product (listOf (suc p) f) ≡ product (listOf p f) * f p
@@ -95,7 +96,7 @@ module _ (f : ℕ → ℕ) where
   total-next p = rw (listOf-more p f) (total-last (listOf p f) (f p))
 
   -- Fewer processes keep no more, and have no more events.
-  pub kept-grows : (p more : ℕ) → keptBy (listOf p f) ≤ keptBy (listOf (more + p) f)
+  pub kept-grows : (p more : ℕ) → sharingKeeps (listOf p f) ≤ sharingKeeps (listOf (more + p) f)
   kept-grows p zero = rw zero-add (omega arith)
   kept-grows p (suc more) =
       rw suc-add
@@ -103,7 +104,7 @@ module _ (f : ℕ → ℕ) where
         arith,
         kept-grows p more,
         kept-next (more + p),
-        mul-suc (keptBy (listOf (more + p) f)) (f (more + p)),
+        mul-suc (sharingKeeps (listOf (more + p) f)) (f (more + p)),
       ))
 
   total-grows : (p more : ℕ) → total (listOf p f) ≤ total (listOf (more + p) f)

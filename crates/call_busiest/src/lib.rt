@@ -16,7 +16,7 @@ ghost use lib.Seq.{sets};
 ghost use Rattle.frontiers.specs.Width.{Width};
 ghost use Rattle.records.specs.Record.{eventLength, eventBytes, eventsBytes};
 ghost use Rattle.answers.specs.Result.{resultWord};
-ghost use Rattle.call_busiest.specs.Sharing.{evenly, total, keptBy};
+ghost use Rattle.call_busiest.specs.Sharing.{evenly, total, sharingKeeps};
 ghost use Rattle.call_busiest.specs.Busiest.{single, singles, day, busiestCall};
 ghost use Rattle.call_busiest.specs.BusiestCode.{sharing, Blank};
 
@@ -32,7 +32,7 @@ fn share(each: usize, more: usize, p: usize) -> usize
 // of a window are passed, so that no product grows beyond 2^27.
 fn kept_by(k: usize, each: usize, more: usize) -> usize
     requires { ⌜ each ≤ 65535 ⌝ }
-    ensures { λ r. ⌜ r ≡ min 1025 (keptBy (sharing k each more)) ⌝ }
+    ensures { λ r. ⌜ r ≡ min 1025 (sharingKeeps (sharing k each more)) ⌝ }
 {
     let mut kept = 0;
     let mut product = 1;

@@ -10,7 +10,7 @@ use mathlib.Core.Logic.{_⊎_, inl, inr}
 use lib.ListN.{length}
 use Rattle.clocks.specs.Counts.{listOf}
 use Rattle.clocks.specs.stored.CountsLaws.{length-listOf}
-use Rattle.call_busiest.specs.Sharing.{evenly, shares, total, product, keptBy}
+use Rattle.call_busiest.specs.Sharing.{evenly, shares, total, product, sharingKeeps}
 use Rattle.call_busiest.specs.SharingLaws.{kept-sum, kept-first, evenly-least, evenly-most, total-shares}
 use Rattle.sharing_laws.specs.SharingExact.{KeptIsProducts, EvenIsBest}
 use Rattle.sharing_laws.specs.Picked.{Picked, picked-length, picked-total, far, farAll, AllAtLeast, AllAtMost, some-above, some-below, most-total, least-total, Two, two, two-swap}
@@ -18,10 +18,10 @@ use Rattle.sharing_laws.specs.Picked.{Picked, picked-length, picked-tota
 -- ---- An event moved
 
 -- From a process that has x + 1 to one that has y, which is less.
-moved-kept : (x y : ℕ) (zs : List ℕ) → y ≤ x → keptBy (suc x ∷ y ∷ zs) ≤ keptBy (x ∷ suc y ∷ zs)
+moved-kept : (x y : ℕ) (zs : List ℕ) → y ≤ x → sharingKeeps (suc x ∷ y ∷ zs) ≤ sharingKeeps (x ∷ suc y ∷ zs)
 unfolding product
 moved-kept x y zs l =
-    let K = keptBy zs in
+    let K = sharingKeeps zs in
     let P = product zs in
     omega (
       arith,
@@ -42,13 +42,13 @@ moved-kept x y zs l =
         rw e (mul-add n (a + c) b)
 
 -- One event more of the first process.
-raised-kept : (c d : ℕ) (cs : List ℕ) → keptBy (c ∷ cs) ≤ keptBy ((c + d) ∷ cs)
+raised-kept : (c d : ℕ) (cs : List ℕ) → sharingKeeps (c ∷ cs) ≤ sharingKeeps ((c + d) ∷ cs)
 raised-kept c d cs =
     omega (
       arith,
       kept-first c cs,
       kept-first (c + d) cs,
-      mul-le-mul-right {m = suc c} {n = suc (c + d)} (keptBy cs) (omega arith),
+      mul-le-mul-right {m = suc c} {n = suc (c + d)} (sharingKeeps cs) (omega arith),
     )
 
 -- One event less, or one more, and the number is nearer or as near.
@@ -119,7 +119,7 @@ level q (x ∷ xs) a b = go (decLt q x) (level q xs (a .1) (b .1))
         }
 
 level-kept : (q : ℕ) (xs ys : List ℕ) → Level q xs → Level q ys → length xs ≡ length ys → total xs ≡ total ys
-    → keptBy xs ≡ keptBy ys
+    → sharingKeeps xs ≡ sharingKeeps ys
 level-kept q xs ys a b long same =
     let h : a .high ≡ b .high =
     omega (arith, a .sum, b .sum, ap (λ (n : ℕ). q * n) long) in
@@ -160,16 +160,16 @@ module _ (k n : ℕ) (some : 0 < k) where
 
   module _ (cs : List ℕ) (long : length cs ≡ k) (same : total cs ≡ n)
       (nearer : (ds : List ℕ) → length ds ≡ k → total ds ≡ n → farAll q ds < farAll q cs
-      → keptBy ds ≤ keptBy (shares k n))
+      → sharingKeeps ds ≤ sharingKeeps (shares k n))
     where
       -- Two that differ by two are found: one event moved.
       moved : (x y : ℕ) (zs : List ℕ) → Two x y cs zs → y + 2 ≤ x
-          → ((suc q < x) × (y ≤ q)) ⊎ ((q < x) × (y < q)) → keptBy cs ≤ keptBy (shares k n)
+          → ((suc q < x) × (y ≤ q)) ⊎ ((q < x) × (y < q)) → sharingKeeps cs ≤ sharingKeeps (shares k n)
       unfolding total
       moved x y zs t l h =
           let e : x ≡ suc (x - 1) = omega arith in
-          let less : keptBy (x ∷ y ∷ zs) ≤ keptBy ((x - 1) ∷ suc y ∷ zs) =
-          rw (ap (λ (a : ℕ). keptBy (a ∷ y ∷ zs)) e) (moved-kept (x - 1) y zs (omega arith)) in
+          let less : sharingKeeps (x ∷ y ∷ zs) ≤ sharingKeeps ((x - 1) ∷ suc y ∷ zs) =
+          rw (ap (λ (a : ℕ). sharingKeeps (a ∷ y ∷ zs)) e) (moved-kept (x - 1) y zs (omega arith)) in
           let best = nearer ((x - 1) ∷ suc y ∷ zs) (omega (arith, t .long)) fits (near h) in
           omega (arith, t .kept)
         where
@@ -186,13 +186,13 @@ module _ (k n : ℕ) (some : 0 < k) where
           near (inl a) = by (omega (arith, far-down q x (a .0), up-most q y (a .1)))
           near (inr a) = by (omega (arith, down-most q x (a .0), far-up q y (a .1)))
 
-      turn : keptBy cs ≤ keptBy (shares k n)
+      turn : sharingKeeps cs ≤ sharingKeeps (shares k n)
       turn = go (some-above (suc q) cs)
         where
           -- x is above q + 1: not all the others are, too
           high : (x : ℕ) (ys : List ℕ) → Picked x cs ys → suc q < x
               → ((y : ℕ) × (zs : List ℕ) × Picked y ys zs × (y < suc q)) ⊎ AllAtLeast (suc q) ys
-              → keptBy cs ≤ keptBy (shares k n)
+              → sharingKeeps cs ≤ sharingKeeps (shares k n)
           high x ys p l (inl (y, zs, r, m)) =
               moved x y zs (two x y cs ys zs p r) (omega arith) (inl (l, omega arith))
           high x ys p l (inr all) =
@@ -210,7 +210,7 @@ module _ (k n : ℕ) (some : 0 < k) where
           -- y is below q: not all the others are at most q
           low : (y : ℕ) (ys : List ℕ) → Picked y cs ys → y < q
               → ((x : ℕ) × (zs : List ℕ) × Picked x ys zs × (q < x)) ⊎ AllAtMost q ys
-              → keptBy cs ≤ keptBy (shares k n)
+              → sharingKeeps cs ≤ sharingKeeps (shares k n)
           low y ys p l (inl (x, zs, r, m)) =
               moved x y zs (two-swap y x cs zs (two y x cs ys zs p r)) (omega arith) (inr (m, l))
           low y ys p l (inr all) =
@@ -225,7 +225,7 @@ module _ (k n : ℕ) (some : 0 < k) where
 
           flat : AllAtMost (suc q) cs
               → ((y : ℕ) × (ys : List ℕ) × Picked y cs ys × (y < q)) ⊎ AllAtLeast q cs
-              → keptBy cs ≤ keptBy (shares k n)
+              → sharingKeeps cs ≤ sharingKeeps (shares k n)
           flat most (inl (y, ys, p, l)) = low y ys p l (some-above q ys)
           flat most (inr least) =
               omega (
@@ -235,17 +235,17 @@ module _ (k n : ℕ) (some : 0 < k) where
               )
 
           go : ((x : ℕ) × (ys : List ℕ) × Picked x cs ys × (suc q < x)) ⊎ AllAtMost (suc q) cs
-              → keptBy cs ≤ keptBy (shares k n)
+              → sharingKeeps cs ≤ sharingKeeps (shares k n)
           go (inl (x, ys, p, l)) = high x ys p l (some-below (suc q) ys)
           go (inr most) = flat most (some-below q cs)
 
   -- By induction on the distance.
   best-near : (fuel : ℕ) (cs : List ℕ) → length cs ≡ k → total cs ≡ n → farAll q cs ≤ fuel
-      → keptBy cs ≤ keptBy (shares k n)
+      → sharingKeeps cs ≤ sharingKeeps (shares k n)
   best-near zero cs long same near = turn cs long same (λ ds a b l. absurd (omega arith))
   best-near (suc fuel) cs long same near = turn cs long same (λ ds a b l. best-near fuel ds a b (omega arith))
 
-  best-of : (cs : List ℕ) → length cs ≡ k → total cs ≤ n → keptBy cs ≤ keptBy (shares k n)
+  best-of : (cs : List ℕ) → length cs ≡ k → total cs ≤ n → sharingKeeps cs ≤ sharingKeeps (shares k n)
   unfolding total
   best-of [] long few = absurd (omega arith)
   best-of (c ∷ cs) long few =

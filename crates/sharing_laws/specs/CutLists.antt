@@ -14,7 +14,7 @@ use Rattle.clocks.specs.Counts.{at, listOf}
 use Rattle.lookup.specs.Order.{before}
 use Rattle.lookup.specs.OrderLaws.{before-less, before-tail}
 use Rattle.window_laws.specs.Represents.{SortedBy, Sorted}
-use Rattle.call_busiest.specs.Sharing.{product, keptBy}
+use Rattle.call_busiest.specs.Sharing.{product, sharingKeeps}
 use Rattle.call_busiest.specs.SharingLaws.{kept-sum, kept-first}
 
 -- ---- Cuts by the count of process 0
@@ -209,7 +209,7 @@ reaching-exactly (c ∷ cs) S =
             (below-in c (reaching cs) S l
             (rest (upTo-others c cs S (h .0), (p, le-of-suc-le-suc k, e))))
 
-pub length-reaching : (cs : List ℕ) → length (reaching cs) ≡ keptBy cs
+pub length-reaching : (cs : List ℕ) → length (reaching cs) ≡ sharingKeeps cs
 unfolding reaching
 length-reaching [] = omega (arith, kept-sum [])
 length-reaching (c ∷ cs) =
@@ -222,7 +222,7 @@ length-reaching (c ∷ cs) =
       ap (λ (n : ℕ). c * n) (length-reaching cs),
       kept-first c cs,
       kept-sum cs,
-      suc-mul c (keptBy cs),
+      suc-mul c (sharingKeeps cs),
     )
 
 pub sorted-reaching : (n : ℕ) (cs : List ℕ) → length cs ≤ n → Sorted n (reaching cs)

@@ -8,7 +8,7 @@ use mathlib.Core.Path.{_≡_, refl, sym, ap, _∙_}
 use mathlib.Core.List.{List, [], _∷_}
 use mathlib.Core.Logic.{_⊎_, inl, inr}
 use lib.ListN.{length}
-use Rattle.call_busiest.specs.Sharing.{total, product, keptBy}
+use Rattle.call_busiest.specs.Sharing.{total, product, sharingKeeps}
 use Rattle.call_busiest.specs.SharingLaws.{kept-first}
 
 -- The list is x and the others, x at some place.
@@ -32,11 +32,11 @@ unfolding product
 picked-product x _ _ (here xs) = refl
 picked-product x _ _ (there y xs zs p) = rw (picked-product x xs zs p) (mul-left-comm y x (product zs))
 
-pub picked-kept : (x : ℕ) (xs zs : List ℕ) → Picked x xs zs → keptBy xs ≡ suc x * keptBy zs + product zs
+pub picked-kept : (x : ℕ) (xs zs : List ℕ) → Picked x xs zs → sharingKeeps xs ≡ suc x * sharingKeeps zs + product zs
 unfolding product
 picked-kept x _ _ (here xs) = kept-first x xs
 picked-kept x _ _ (there y xs zs p) =
-    let K = keptBy zs in
+    let K = sharingKeeps zs in
     let P = product zs in
     omega (
       arith,
@@ -108,7 +108,7 @@ least-total b (x ∷ xs) h = omega (arith, h .0, least-total b xs (h .1), mul-su
 
 -- The list is a, b and the others, as far as what is kept, the sum and the distance go.
 pub record Two (a b : ℕ) (xs zs : List ℕ) : Type 0 where
-  pub kept : keptBy xs ≡ keptBy (a ∷ b ∷ zs)
+  pub kept : sharingKeeps xs ≡ sharingKeeps (a ∷ b ∷ zs)
   pub long : length xs ≡ suc (suc (length zs))
   pub sum : total xs ≡ a + b + total zs
   pub distance : (q : ℕ) → farAll q xs ≡ far q a + far q b + farAll q zs

@@ -13,7 +13,7 @@ use Rattle.records.specs.Record.{eventLength}
 use Rattle.refusals.specs.Refusals.{badProcesses}
 use Rattle.refusals.specs.RefusalLaws.{processes-within}
 use Rattle.answers.specs.Result.{resultWord}
-use Rattle.call_busiest.specs.Sharing.{shares, total, keptBy}
+use Rattle.call_busiest.specs.Sharing.{shares, total, sharingKeeps}
 use Rattle.call_busiest.specs.SharingLaws.{total-shares}
 use Rattle.call_busiest.specs.Busiest.{Listed, unwritten, written, busiestCall}
 use Rattle.call_busiest.proofs.BusiestSteps.{processes-turned, events-turned, busy-turned, length-turned, all-written}
@@ -37,7 +37,7 @@ few : (c : tie.Else2) → c .before .before .before .before .args .n ≤ 65535
 few c = omega (arith, c .if2 .left)
 
 room : (c : tie.Else3)
-    → keptBy (shares (c .before .before .before .before .before .before .args .k)
+    → sharingKeeps (shares (c .before .before .before .before .before .before .args .k)
     (c .before .before .before .before .before .before .args .n))
     ≤ 1024
 room c = omega (arith, c .before .kept-by .ensures, c .if3 .left)
@@ -144,7 +144,7 @@ returns-5 c =
     let e = f .before .before in
     let a = e .before .before .before .before .args in
     let g = f .before in
-    let kept : g .kept-by .result ≡ keptBy (shares (a .k) (a .n)) = omega (arith, g .kept-by .ensures, room f) in
+    let kept : g .kept-by .result ≡ sharingKeeps (shares (a .k) (a .n)) = omega (arith, g .kept-by .ensures, room f) in
     told (a .w) (a .k) (a .n) (now (a .events)) (65536 * g .kept-by .result) (c .before .before .put-day .last .0)
     (written (a .w) (a .k) (a .n))
     (all-written (a .w) (a .k) (a .n) (now (a .events)) (good (e .before)) (few e) (room f) (long d))

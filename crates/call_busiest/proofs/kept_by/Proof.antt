@@ -7,7 +7,7 @@ use lib.ListN.{length, getD, take, drop, set, length-set}
 use mathlib.Core.Logic.{⊎-elim}
 use borrow.Author.Needs.{needs}
 use Rattle.clocks.specs.Counts.{listOf}
-use Rattle.call_busiest.specs.Sharing.{evenly, keptBy, product as productOf}
+use Rattle.call_busiest.specs.Sharing.{evenly, sharingKeeps, product as productOf}
 use Rattle.call_busiest.specs.BusiestCode.{sharing}
 use Rattle.call_busiest.proofs.KeptSteps.{kept-step, product-step, kept-passed, kept-small, product-small}
 use Rattle.call_busiest.proofs.kept_by.Statement.{statement}
@@ -15,7 +15,7 @@ use Rattle.call_busiest.proofs.kept_by.Tie as tie
 
 abbrev Inv-loop : tie.InvT-loop
 Inv-loop k each more kept₀ product₀ p₀ kept product p =
-    (p ≤ k) × (kept ≡ keptBy (sharing p each more)) × (product ≡ productOf (sharing p each more)) × (kept ≤ 1024)
+    (p ≤ k) × (kept ≡ sharingKeeps (sharing p each more)) × (product ≡ productOf (sharing p each more)) × (kept ≤ 1024)
     × (product ≤ 67108864)
 
 abbrev μ-loop : tie.MeasureT-loop
@@ -24,7 +24,7 @@ abbrev μ-loop : tie.MeasureT-loop
 -- What is kept with the next process.
 now-kept : (c : tie.After-share Inv-loop μ-loop)
     → c .before .before .loop .kept * (c .share .result + 1) + c .before .before .loop .product
-    ≡ keptBy (sharing (c .before .before .loop .p + 1) (c .before .before .before .args .each)
+    ≡ sharingKeeps (sharing (c .before .before .loop .p + 1) (c .before .before .before .args .each)
     (c .before .before .before .args .more))
 now-kept c =
     let l = c .before .before .loop in
@@ -33,7 +33,7 @@ now-kept c =
     (c .share .ensures .0)
 
 loop-holds : tie.Need-loop-holds Inv-loop μ-loop
-unfolding keptBy productOf listOf
+unfolding sharingKeeps productOf listOf
 loop-holds c = (search needs, refl, refl, search needs, search needs)
 
 share-requires : tie.Need-share-requires Inv-loop μ-loop

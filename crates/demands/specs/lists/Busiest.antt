@@ -20,7 +20,7 @@ use Rattle.rules.specs.Formula.{Formula}
 use Rattle.rules.specs.Line.{linesAt}
 use Rattle.records.specs.Record.{keptCount}
 use Rattle.answers.specs.Answer.{turnedBack}
-use Rattle.call_busiest.specs.Sharing.{share, shares, product, keptBy}
+use Rattle.call_busiest.specs.Sharing.{share, shares, product, sharingKeeps}
 use Rattle.call_busiest.specs.SharingLaws.{kept-sum}
 use Rattle.call_busiest.specs.Busiest.{single, day, busiestDay}
 use Rattle.call_busiest.specs.BusiestExact.{Day}
@@ -55,7 +55,7 @@ module _ (k : ℕ) (some : 0 < k) (eight : k ≤ 8) (ts : List Event) (h : Histo
   taken-at : (p : ℕ) → at counts p ≡ taken ts p
   taken-at p = ap (λ (C : Cut). C p) (at-listOf-all k (taken ts) (taken-silent k Valid ts h))
 
-  alone-number : KeptNumber k 0 ts (keptBy counts)
+  alone-number : KeptNumber k 0 ts (sharingKeeps counts)
   alone-number = (
     reaching counts,
     record {
@@ -85,7 +85,7 @@ module _ (k : ℕ) (some : 0 < k) (eight : k ≤ 8) (ts : List Event) (h : Histo
           )
 
   -- No more than an even sharing of as many events.
-  alone-most : (n : ℕ) → length ts ≤ n → keptBy counts ≤ keptBy (shares k n)
+  alone-most : (n : ℕ) → length ts ≤ n → sharingKeeps counts ≤ sharingKeeps (shares k n)
   alone-most n l =
       even-is-best k n some .best counts (length-listOf k (taken ts)) (omega (arith, alone-total k Valid ts h alone))
 
@@ -145,9 +145,9 @@ module _ (w k : ℕ) (f : Formula) (start : Cut) (Z : Watch) (S : Sound w k f st
       rw (← none, says-kept w k (linesAt 0 f) start (S .rule) (Z .ledger) (Z .bytes) (Z .window) (S .right))
       (represented-number k (Z .ledger .closed) ts (linesAt 0 f) start (S .right .kept) (S .right .represents))
 
-  by-counts : Plain Z → keptCount (Z .bytes) ≡ keptBy (listOf k (taken ts))
+  by-counts : Plain Z → keptCount (Z .bytes) ≡ sharingKeeps (listOf k (taken ts))
   by-counts P =
-      number-unique k 0 ts (keptCount (Z .bytes)) (keptBy (listOf k (taken ts))) (number-read (P .none-closed))
+      number-unique k 0 ts (keptCount (Z .bytes)) (sharingKeeps (listOf k (taken ts))) (number-read (P .none-closed))
       (alone-number k (S .rule .some-process) (S .rule .eight-processes) ts by-rule (P .taken-alone))
 
   -- ---- Exactly the events of a list
@@ -168,7 +168,7 @@ module _ (w k : ℕ) (f : Formula) (start : Cut) (Z : Watch) (S : Sound w k f st
         same-taken ts days (history-causal k Valid (valid-rule k) ts by-rule)
         (history-causal k Valid (valid-rule k) days past) s in
         by-counts plain
-        ∙ ap keptBy
+        ∙ ap sharingKeeps
         (listOf-same k (taken ts) (share k n)
         (λ p l. ap (λ (C : Cut). C p) counted ∙ day-taken k (d .eight-processes) (share k n) p l))
         ∙ sym (value v wide k n events m given)
@@ -214,7 +214,7 @@ module _ (w k : ℕ) (f : Formula) (start : Cut) (Z : Watch) (S : Sound w k f st
             (day-quiet k n d) settled alike
 
   -- ---- Room enough
-  given-value : (v n : ℕ) (events : List ℕ) (m : ℕ) → Gives v k n events m → m ≡ keptBy (shares k n)
+  given-value : (v n : ℕ) (events : List ℕ) (m : ℕ) → Gives v k n events m → m ≡ sharingKeeps (shares k n)
   given-value v n events m g = busiest-exact v k n events .given m .0 g .3
 
   most : Plain Z → (v n : ℕ) (events : List ℕ) (m : ℕ) → Gives v k n events m → length ts ≤ n
@@ -230,13 +230,13 @@ module _ (w k : ℕ) (f : Formula) (start : Cut) (Z : Watch) (S : Sound w k f st
   -- With one event more, too.
   next-most : Plain Z → AllAlone (Z .ledger .pending) → (n : ℕ) → length ts < n → (e : Event)
       → List·Memᴰ e (Z .ledger .pending) → Ready e (taken ts) → Valid ts e
-      → (N : ℕ) → KeptNumber k (Z .ledger .closed) (e ∷ ts) N → N ≤ keptBy (shares k n)
+      → (N : ℕ) → KeptNumber k (Z .ledger .closed) (e ∷ ts) N → N ≤ sharingKeeps (shares k n)
   next-most P others n l e i ready true-clock N kept =
       let next : History k Valid (e ∷ ts) =
       (record { formed = S .right .right .formed e i; ready = ready; true-clock = true-clock }, by-rule) in
       let alone : AllAlone (e ∷ ts) =
       λ x j. ⊎-elim (λ y. rw y (others e i)) (P .taken-alone x) (List·Memᴰ·cases-cons j) in
-      let K = keptBy (listOf k (taken (e ∷ ts))) in
+      let K = sharingKeeps (listOf k (taken (e ∷ ts))) in
       omega (
         arith,
         number-unique k 0 (e ∷ ts) N K

@@ -16,7 +16,7 @@ use Rattle.clocks.specs.Counts.{at, listOf}
 use Rattle.clocks.specs.stored.CountsLaws.{length-listOf, filled}
 use Rattle.frontiers.specs.ListLaws.{place-member}
 use Rattle.records.specs.Record.{eventLength, eventFrom, eventBytes, eventsBytes}
-use Rattle.call_busiest.specs.Sharing.{share, shares, total, keptBy}
+use Rattle.call_busiest.specs.Sharing.{share, shares, total, sharingKeeps}
 use Rattle.call_busiest.specs.SharingLaws.{share-within, total-shares}
 use Rattle.call_busiest.specs.Busiest.{single, busiestDay}
 use Rattle.call_busiest.specs.BusiestExact.{Day}
@@ -70,7 +70,7 @@ module _ (v : ℕ) (wide : 2 ≤ v) (k n : ℕ) (events : List ℕ) (m : ℕ) (g
   pub there : Day k n
   there = busiest-exact v k n events .given m .0 given .0
 
-  pub value : m ≡ keptBy (shares k n)
+  pub value : m ≡ sharingKeeps (shares k n)
   value = busiest-exact v k n events .given m .0 given .3
 
   storable : AllStorable v (busiestDay k n)

@@ -15,7 +15,7 @@ use Rattle.rules.specs.Formula.{Formula}
 use Rattle.records.specs.Record.{eventLength, eventFrom, keptCount}
 use Rattle.answers.specs.Answer.{turnedBack}
 use Rattle.answers.specs.Result.{gives}
-use Rattle.call_busiest.specs.Sharing.{product, keptBy}
+use Rattle.call_busiest.specs.Sharing.{product, sharingKeeps}
 use Rattle.call_busiest.specs.Busiest.{busiestDay, busiestCall}
 use Rattle.sharing_laws.specs.Alone.{AllAlone}
 use Rattle.numbers.specs.Refusal.{noRoomNumber}
@@ -57,7 +57,7 @@ pub record Plain (Z : Watch) : Type 0 where
 
 pub record BusiestKept (w k : ℕ) (f : Formula) (start : Cut) (Z : Watch) : Type 0 where
   -- the frontiers kept are those of the taken counts, by the formula: with its subtraction, and without it
-  pub kept-by-counts : Plain Z → keptCount (Z .bytes) ≡ keptBy (listOf k (taken (Z .ledger .history)))
+  pub kept-by-counts : Plain Z → keptCount (Z .bytes) ≡ sharingKeeps (listOf k (taken (Z .ledger .history)))
   pub kept-by-products : Plain Z
       → keptCount (Z .bytes) + product (listOf k (taken (Z .ledger .history)))
       ≡ product (map suc (listOf k (taken (Z .ledger .history))))
