@@ -41,7 +41,7 @@ moved-kept x y zs l =
         let e : a + b + c ≡ a + c + b = omega arith in
         rw e (mul-add n (a + c) b)
 
--- One event more of the first process.
+-- More events of the first process.
 raised-kept : (c d : ℕ) (cs : List ℕ) → sharingKeeps (c ∷ cs) ≤ sharingKeeps ((c + d) ∷ cs)
 raised-kept c d cs =
     omega (
