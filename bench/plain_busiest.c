@@ -17,10 +17,10 @@ uint64_t plain32_busiest(uint64_t k, uint64_t n, uint8_t *events, size_t events_
     }
     if (cuts - inner > ROOM) return 46;
     if (events_len != EVENT * n) return 6;
+    if (n > 0) memset(events, 0, events_len);
     for (unsigned p = 0; p < k; p++) {
         count number = least + (p < one_more);
         for (count i = 1; i <= number; i++, events += EVENT) {
-            memset(events, 0, EVENT);
             events[0] = (uint8_t)(1u << p);
             memcpy(events + 8 + sizeof i * p, &i, sizeof i);
         }
