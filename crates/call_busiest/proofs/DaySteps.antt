@@ -1,14 +1,13 @@
 -- The events of a process, and those of the day, one more with each turn.
 use Prim.Native.Nat.{ℕ, zero, suc, _+_, _-_, _*_, _≤_, _<_}
-use native.Mathlib.Nat.{zero-mul, suc-mul, add-mul, zero-add, mul-le-mul-right}
+use native.Mathlib.Nat.{add-mul, zero-add, mul-le-mul-right}
 use native.Mathlib.Numerals.{add-one}
 use native.Mathlib.Omega.{arith}
 use mathlib.Core.Path.{_≡_, refl, sym, ap, _∙_}
-use mathlib.Core.List.{List, [], _∷_, _++_, append-assoc, append-nil}
-use lib.ListN.{length, getD, replicate, length-append}
+use mathlib.Core.List.{List, [], _∷_, _++_, append-nil}
+use lib.ListN.{length, getD, replicate}
 use lib.Seq.{sets}
 use Rattle.codec.specs.SetsLaws.{sets-append, getD-sets-after}
-use Rattle.clocks.specs.declared.Event.{Event}
 use Rattle.clocks.specs.Counts.{listOf}
 use Rattle.frontiers.specs.ListLaws.{listOf-more}
 use Rattle.records.specs.Record.{eventLength, eventBytes, eventsBytes}

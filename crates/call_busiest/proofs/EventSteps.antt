@@ -6,10 +6,9 @@ use mathlib.Core.Path.{_≡_, refl, sym, ap, _∙_}
 use mathlib.Core.Bool.{cond}
 use mathlib.Core.List.{List, [], _∷_, _++_, append-assoc}
 use lib.Dec.{eqb, eqb·zero-suc, eqb·suc-zero, eqb·suc-suc}
-use lib.ListN.{length, getD, set, replicate, length-append, length-replicate, replicate-append-replicate}
+use lib.ListN.{length, getD, set, replicate, length-replicate, replicate-append-replicate}
 use lib.Seq.{sets, getD-set-other}
 use Rattle.codec.specs.Little.{bytesOf, put}
-use Rattle.codec.specs.LittleLaws.{length-bytesOf}
 use Rattle.codec.specs.SetsLaws.{sets-append, getD-sets-after}
 use Rattle.clocks.specs.Counts.{listOf}
 use Rattle.clocks.specs.stored.CountsLaws.{listOf-same}

@@ -1,9 +1,9 @@
 -- One process more: how many frontiers are kept, by numbers that stay small as long as these do.
-use Prim.Native.Nat.{ℕ, suc, _+_, _-_, _*_, _≤_, _<_, min}
-use native.Mathlib.Nat.{mul-suc, mul-le-mul}
+use Prim.Native.Nat.{ℕ, _+_, _-_, _*_, _≤_, _<_, min}
+use native.Mathlib.Nat.{mul-le-mul}
 use native.Mathlib.Numerals.{add-one}
 use native.Mathlib.Omega.{arith}
-use mathlib.Core.Path.{_≡_, refl, sym, ap, _∙_}
+use mathlib.Core.Path.{_≡_, sym}
 use Rattle.clocks.specs.Counts.{listOf}
 use Rattle.call_busiest.specs.Sharing.{product, sharingKeeps}
 use Rattle.call_busiest.specs.SharingLaws.{kept-next, product-next, kept-grows}

@@ -2,4 +2,3 @@
 mod KeptSteps
 mod EventSteps
 mod DaySteps
-mod BusiestSteps

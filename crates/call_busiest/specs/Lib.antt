@@ -7,6 +7,7 @@ pub mod BusiestExact
 -- What is proved
 pub mod SharingLaws
 pub mod DayBytes
+pub mod BusiestLaws
 pub mod BusiestTheorem
 -- What its functions' contracts cite
 pub mod BusiestCode

@@ -3,7 +3,7 @@
 use Prim.Native.Nat.{ℕ, zero, suc, _+_, _-_, _*_, _/_, _%_, _≤_, _<_, min}
 use native.Mathlib.Nat.{mul-add, add-mul, suc-mul, mul-suc, mul-assoc, mul-one, one-mul, zero-mul, zero-add, suc-add, mul-le-mul, div-add-mod, mod-lt}
 use native.Mathlib.Omega.{arith}
-use mathlib.Core.Path.{_≡_, refl, sym, ap, _∙_}
+use mathlib.Core.Path.{_≡_, refl, sym, ap}
 use mathlib.Core.Bool.{Bool, true, false}
 use mathlib.Core.List.{List, [], _∷_, _++_, map, map-append}
 use lib.Dec.{ltb}
@@ -20,7 +20,7 @@ unfolding product
 product-le [] = omega arith
 product-le (c ∷ cs) = mul-le-mul (omega arith) (product-le cs)
 
-pub product-append : (cs ds : List ℕ) → product (cs ++ ds) ≡ product cs * product ds
+product-append : (cs ds : List ℕ) → product (cs ++ ds) ≡ product cs * product ds
 unfolding product
 product-append [] ds = sym (one-mul (product ds))
 product-append (c ∷ cs) ds = rw (product-append cs ds) (sym (mul-assoc c (product cs) (product ds)))
@@ -52,10 +52,8 @@ kept-first c cs =
     )
 
 -- and at the end.
-pub kept-last : (cs : List ℕ) (c : ℕ) → sharingKeeps (cs ++ (c ∷ [])) ≡ sharingKeeps cs * suc c + product cs
+kept-last : (cs : List ℕ) (c : ℕ) → sharingKeeps (cs ++ (c ∷ [])) ≡ sharingKeeps cs * suc c + product cs
 kept-last cs c =
-    let K = sharingKeeps cs in
-    let P = product cs in
     let all : product (map suc (cs ++ (c ∷ []))) ≡ product (map suc cs) * suc c =
     rw (map-append suc cs (c ∷ []), product-append (map suc cs) (suc c ∷ []), product-one (suc c)) in
     omega (

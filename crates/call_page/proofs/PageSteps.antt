@@ -19,7 +19,7 @@ use Rattle.records.specs.Record.{processCount, lineTotal, keptCount}
 use Rattle.refusals.specs.Refusals.{badRecordLength, badWindowLength, roomOf, badState}
 use Rattle.refusals.specs.RefusalCode.{watchFault}
 use Rattle.refusals.specs.FaultLaws.{Good, good-watch, fault-first, fault-passed, watch-good}
-use Rattle.answers.specs.Result.{refused, gives, resultWord}
+use Rattle.answers.specs.Result.{resultWord}
 use Rattle.answers.specs.Turns.{chosen-by, passed as passed-turn, end, turn}
 use Rattle.call_page.specs.Page.{row, rows, shortPage, Paged, unwritten, written, pageCall}
 use Rattle.call_page.specs.PageCode.{pageFault}

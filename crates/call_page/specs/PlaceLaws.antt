@@ -3,14 +3,13 @@ use Prim.Native.Nat.{ℕ, zero, suc, _+_, _-_, _*_, _≤_, _<_}
 use native.Mathlib.Omega.{arith}
 use native.Mathlib.Nat.{add-zero, add-suc}
 use mathlib.Core.Path.{_≡_, refl, sym, ap, _∙_}
-use mathlib.Core.List.{List, [], _∷_, _++_, append-assoc, append-nil}
+use mathlib.Core.List.{List, [], _++_, append-assoc, append-nil}
 use lib.ListN.{length, take, drop, length-append}
 use lib.Seq.{take-at, drop-at}
-use Rattle.codec.specs.Ascii.{ascii}
 use Rattle.codec.specs.Bit.{bit}
 use Rattle.codec.specs.Little.{Bytes}
 use Rattle.frontiers.specs.Bytes.{frontierAt, frontiers}
-use Rattle.call_page.specs.Page.{column, columns, word, row, rows, ending}
+use Rattle.call_page.specs.Page.{column, columns, row, rows, ending}
 use Rattle.call_page.specs.PageCode.{TenDigits}
 use Rattle.call_page.specs.RowLaws.{few-digits, rowAt, rows-more, length-rows, length-column, length-columns, length-ending}
 

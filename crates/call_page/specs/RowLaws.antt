@@ -9,7 +9,6 @@ use mathlib.Core.Bool.{Bool, true, false, cond}
 use mathlib.Core.List.{List, [], _∷_, _++_, append-assoc, append-nil}
 use lib.Dec.{ltb, lit<, lit≤}
 use lib.ListN.{length, replicate, length-append, length-replicate}
-use Rattle.codec.specs.Ascii.{ascii}
 use Rattle.codec.specs.Bit.{bit}
 use Rattle.codec.specs.Decimal.{numeralOf, numeral}
 use Rattle.codec.specs.DecimalLaws.{length-numeral, enough-digits}

@@ -1,7 +1,7 @@
--- Each way out is an equation of the call with what it comes to there: the laws of BusiestSteps.
+-- Each way out is an equation of the call with what it comes to there: the laws of BusiestLaws.
 use Rattle.call_busiest.proofs.busiest.Tie as tie
-use Prim.Native.Nat.{ℕ, _+_, _*_, _/_, _%_, _≤_, _<_}
-use native.Mathlib.Nat.{div-le-self, mod-le, mul-le-mul}
+use Prim.Native.Nat.{ℕ, _*_, _≤_}
+use native.Mathlib.Nat.{div-le-self, mul-le-mul}
 use native.Mathlib.Omega.{arith}
 use mathlib.Core.Path.{_≡_, refl, sym, ap, _∙_}
 use mathlib.Core.Bool.{false}
@@ -16,7 +16,7 @@ use Rattle.answers.specs.Result.{resultWord}
 use Rattle.call_busiest.specs.Sharing.{shares, total, sharingKeeps}
 use Rattle.call_busiest.specs.SharingLaws.{total-shares}
 use Rattle.call_busiest.specs.Busiest.{Listed, unwritten, written, busiestCall}
-use Rattle.call_busiest.proofs.BusiestSteps.{processes-turned, events-turned, busy-turned, length-turned, all-written}
+use Rattle.call_busiest.specs.BusiestLaws.{processes-turned, events-turned, busy-turned, length-turned, all-written}
 use Rattle.call_busiest.proofs.busiest.Statement.{statement}
 
 -- What is answered and left, from what the call comes to.

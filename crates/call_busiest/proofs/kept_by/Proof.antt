@@ -1,10 +1,7 @@
 -- What is kept, and the product, of the processes so far; both are small as long as no more than 1,024 are kept.
 use native.Mathlib.Omega.{arith}
-use mathlib.Core.Path.{_≡_, refl, sym, ap, _∙_}
-use Prim.Native.Nat.{ℕ, _≤_, _<_, _-_, _+_, _*_}
-use mathlib.Core.List.{List, _++_}
-use lib.ListN.{length, getD, take, drop, set, length-set}
-use mathlib.Core.Logic.{⊎-elim}
+use mathlib.Core.Path.{_≡_, refl}
+use Prim.Native.Nat.{_≤_, _-_, _+_, _*_}
 use borrow.Author.Needs.{needs}
 use Rattle.clocks.specs.Counts.{listOf}
 use Rattle.call_busiest.specs.Sharing.{evenly, sharingKeeps, product as productOf}

@@ -1,10 +1,8 @@
 -- The events of the first p processes are laid, one process more with each turn: the law `day-step`.
 use native.Mathlib.Omega.{arith}
 use mathlib.Core.Path.{_≡_, refl, sym, ap, _∙_}
-use Prim.Native.Nat.{ℕ, _≤_, _<_, _-_, _+_, _*_}
-use mathlib.Core.List.{List, _++_}
-use lib.ListN.{length, getD, take, drop, set, length-replicate}
-use mathlib.Core.Logic.{⊎-elim}
+use Prim.Native.Nat.{ℕ, _≤_, _<_, _-_, _*_}
+use lib.ListN.{length, length-replicate}
 use lib.Seq.{sets}
 use native.Mathlib.Nat.{zero-mul, mul-le-mul}
 use Rattle.codec.specs.SetsLaws.{sets-whole}

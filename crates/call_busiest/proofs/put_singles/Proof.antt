@@ -1,10 +1,8 @@
 -- The first i events are laid, one more with each turn: the law `singles-step`.
 use native.Mathlib.Omega.{arith}
-use mathlib.Core.Path.{_≡_, refl, sym, ap, _∙_}
-use Prim.Native.Nat.{ℕ, _≤_, _<_, _-_, _+_, _*_, _^_}
-use mathlib.Core.List.{List, _++_}
-use lib.ListN.{length, getD, take, drop, set, length-set}
-use mathlib.Core.Logic.{⊎-elim}
+use mathlib.Core.Path.{_≡_, refl, _∙_}
+use Prim.Native.Nat.{_≤_, _-_, _+_, _*_, _^_}
+use lib.ListN.{length}
 use lib.Seq.{sets}
 use lib.Pow.{shl-exact}
 use native.Mathlib.Nat.{zero-mul, one-mul, add-mul}

@@ -3,13 +3,12 @@ use Prim.Native.Nat.{ℕ, _+_, _*_}
 use native.Mathlib.Omega.{arith}
 use mathlib.Core.Path.{_≡_, refl, sym, ap, _∙_}
 use mathlib.Core.List.{List, _∷_, _++_, append-assoc}
-use lib.ListN.{length, getD, take, drop, length-append}
+use lib.ListN.{length, length-append}
 use lib.Seq.{getD-at, take-at, drop-at}
 use Rattle.clocks.specs.declared.Event.{Event}
-use Rattle.codec.specs.Little.{number, Bytes}
+use Rattle.codec.specs.Little.{Bytes}
 use Rattle.frontiers.specs.BytesLaws.{length-countBytes}
 use Rattle.frontiers.specs.Bytes.{countBytes}
-use Rattle.clocks.specs.Counts.{listOf}
 use Rattle.demands.specs.bytes.PlaceLaws.{numbers-countBytes, zeros, Bytes-append, Bytes-cons, Bytes-zeros, Bytes-countBytes}
 use Rattle.records.specs.Record.{eventLength, eventFrom, eventBytes}
 use Rattle.demands.specs.bytes.Sized.{Storable}

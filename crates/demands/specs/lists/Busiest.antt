@@ -22,7 +22,7 @@ use Rattle.records.specs.Record.{keptCount}
 use Rattle.answers.specs.Answer.{turnedBack}
 use Rattle.call_busiest.specs.Sharing.{share, shares, product, sharingKeeps}
 use Rattle.call_busiest.specs.SharingLaws.{kept-sum}
-use Rattle.call_busiest.specs.Busiest.{single, day, busiestDay}
+use Rattle.call_busiest.specs.Busiest.{single, busiestDay}
 use Rattle.call_busiest.specs.BusiestExact.{Day}
 use Rattle.call_busiest.specs.BusiestTheorem.{busiest-exact}
 use Rattle.sharing_laws.specs.Alone.{AllAlone}

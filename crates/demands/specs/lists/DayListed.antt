@@ -16,7 +16,7 @@ use Rattle.clocks.specs.Counts.{at, listOf}
 use Rattle.clocks.specs.stored.CountsLaws.{length-listOf, filled}
 use Rattle.frontiers.specs.ListLaws.{place-member}
 use Rattle.records.specs.Record.{eventLength, eventFrom, eventBytes, eventsBytes}
-use Rattle.call_busiest.specs.Sharing.{share, shares, total, sharingKeeps}
+use Rattle.call_busiest.specs.Sharing.{share, shares, sharingKeeps}
 use Rattle.call_busiest.specs.SharingLaws.{share-within, total-shares}
 use Rattle.call_busiest.specs.Busiest.{single, busiestDay}
 use Rattle.call_busiest.specs.BusiestExact.{Day}

@@ -1,4 +1,4 @@
--- The call, by the tests that decide it.
+-- What a call comes to, by the numbers that decide it.
 use Prim.Native.Nat.{ℕ, _*_, _≤_, _<_}
 use mathlib.Core.Path.{_≡_}
 use mathlib.Core.Bool.{true, false}
