@@ -163,20 +163,13 @@ static void check_words(void) {
 /* 45 comes before 46 and 6, and 46 before 6: each with a list of the right length and of wrong ones. */
 static void check_order(void) {
     static const size_t lengths[] = {0, 1, 47, 48, 49, 96, 144, 600, 1024};
-    for (size_t i = 0; i < sizeof lengths / sizeof lengths[0]; i++) {
-        CHECK_REPLY(try_busiest(0, 3, lengths[i]), refused(45));
-        CHECK_REPLY(try_busiest(9, 3, lengths[i]), refused(45));
-        CHECK_REPLY(try_busiest(9, 1024, lengths[i]), refused(45));
-        CHECK_REPLY(try_busiest(0, 65536, lengths[i]), refused(45));
-        CHECK_REPLY(try_busiest(1, 65536, lengths[i]), refused(45));
-        CHECK_REPLY(try_busiest(8, 65536, lengths[i]), refused(45));
-        CHECK_REPLY(try_busiest(2, 1024, lengths[i]), refused(46));
-        CHECK_REPLY(try_busiest(8, 12, lengths[i]), refused(46));
-        CHECK_REPLY(try_busiest(8, 65535, lengths[i]), refused(46));
-        CHECK_REPLY(try_busiest(1, 65535, lengths[i]), refused(6));
-        CHECK_REPLY(try_busiest(2, 1023, lengths[i]), refused(6));
-        CHECK_REPLY(try_busiest(8, 11, lengths[i]), refused(6));
-    }
+    static const struct { unsigned k, n, number; } days[] = {
+        {0, 3, 45}, {9, 3, 45}, {9, 1024, 45}, {0, 65536, 45}, {1, 65536, 45}, {8, 65536, 45},
+        {2, 1024, 46}, {8, 12, 46}, {8, 65535, 46}, {1, 65535, 6}, {2, 1023, 6}, {8, 11, 6},
+    };
+    for (size_t d = 0; d < sizeof days / sizeof days[0]; d++)
+        for (size_t i = 0; i < sizeof lengths / sizeof lengths[0]; i++)
+            CHECK_REPLY(try_busiest(days[d].k, days[d].n, lengths[i]), refused(days[d].number));
     CHECK_REPLY(watch32_busiest(9, 65536, NULL, 0), refused(45));
     CHECK_REPLY(watch32_busiest(2, 1024, NULL, 0), refused(46));
     CHECK_REPLY(watch32_busiest(2, 1, NULL, 0), refused(6));

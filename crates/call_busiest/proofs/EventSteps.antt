@@ -1,6 +1,6 @@
 -- An event laid down where all is 0: its mask and one count are stored, the rest of its bytes stands there already.
 use Prim.Native.Nat.{ℕ, zero, suc, _+_, _-_, _*_, _^_, _≤_, _<_}
-use native.Mathlib.Nat.{zero-mul, suc-mul, le-of-suc-le-suc, pow-le-pow-right}
+use native.Mathlib.Nat.{zero-mul, suc-mul, le-of-suc-le-suc}
 use native.Mathlib.Omega.{arith}
 use mathlib.Core.Path.{_≡_, refl, sym, ap, _∙_}
 use mathlib.Core.Bool.{cond}
@@ -111,7 +111,3 @@ single-laid w p n s place l b =
 -- The count that is stored ends within the event.
 pub count-there : (w p : ℕ) → p < 8 → 8 + p * w + w ≤ eventLength w
 count-there w p l = omega (arith, count-within p 8 w l)
-
--- A number of up to 16 bits fits a count of either width.
-pub fits-width : (w n : ℕ) → 2 ≤ w → n < 65536 → n < 256 ^ w
-fits-width w n l m = omega (arith, pow-le-pow-right {n = 256} (omega arith) {i = 2} {j = w} l)

@@ -12,7 +12,7 @@ use borrow.Author.Tests.{ne-eqb, le-ltb}
 use Rattle.records.specs.Record.{eventLength}
 use Rattle.refusals.specs.Refusals.{badProcesses}
 use Rattle.refusals.specs.RefusalLaws.{processes-within}
-use Rattle.answers.specs.Result.{Result, refused, gives}
+use Rattle.answers.specs.Result.{refused, gives}
 use Rattle.answers.specs.Told.{Told}
 use Rattle.answers.specs.ToldLaws.{not-both, refused-told, gives-told}
 use Rattle.call_busiest.specs.Sharing.{share, shares, sharingKeeps}

@@ -1,6 +1,6 @@
--- The bytes of a day: so many for each event, one event behind the other.
-use Prim.Native.Nat.{ℕ, zero, suc, _*_}
-use native.Mathlib.Nat.{zero-mul, suc-mul, add-mul}
+-- The bytes of a day: so many for each event, one event behind the other, and counts that fit.
+use Prim.Native.Nat.{ℕ, zero, suc, _*_, _^_, _≤_, _<_}
+use native.Mathlib.Nat.{zero-mul, suc-mul, add-mul, pow-le-pow-right}
 use native.Mathlib.Omega.{arith}
 use mathlib.Core.Path.{_≡_, refl, sym, ap, _∙_}
 use mathlib.Core.List.{List, [], _∷_, _++_, append-assoc}
@@ -43,3 +43,7 @@ length-day w f zero = sym (zero-mul (eventLength w))
 length-day w f (suc p) =
     rw (events-append w (day f p) (singles p (f p)), length-append, length-day w f p, length-singles w p (f p))
     (sym (ap (λ (n : ℕ). n * eventLength w) (total-next f p) ∙ add-mul (total (listOf p f)) (f p) (eventLength w)))
+
+-- Every count of a day fits, from two bytes up.
+pub number-fits : (w n : ℕ) → 2 ≤ w → n ≤ 65535 → n < 256 ^ w
+number-fits w n l m = omega (arith, pow-le-pow-right {n = 256} (omega arith) {i = 2} {j = w} l)

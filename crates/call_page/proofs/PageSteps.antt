@@ -18,7 +18,7 @@ use Rattle.frontiers.specs.Bytes.{frontierAt, frontiers}
 use Rattle.records.specs.Record.{processCount, lineTotal, keptCount}
 use Rattle.refusals.specs.Refusals.{badRecordLength, badWindowLength, roomOf, badState}
 use Rattle.refusals.specs.RefusalCode.{watchFault}
-use Rattle.refusals.specs.FaultLaws.{Good, good-watch, fault-first, fault-passed, watch-good}
+use Rattle.refusals.specs.FaultLaws.{Good, fault-first, fault-passed, tests-good}
 use Rattle.answers.specs.Result.{resultWord}
 use Rattle.answers.specs.Turns.{chosen-by, passed as passed-turn, end, turn}
 use Rattle.call_page.specs.Page.{row, rows, shortPage, Paged, unwritten, written, pageCall}
@@ -51,11 +51,11 @@ module _ (w : ℕ) (s window : List ℕ) (n : ℕ) where
 
 -- ---- The rows
 
-module _ (page₀ : List ℕ) (w : ℕ) (s : List ℕ) (b : Bytes s) (narrow : w ≤ 4) (k line : ℕ) where
-  pub no-row : page₀ ≡ sets page₀ 0 (rows k line (frontiers w s 0))
-  unfolding rows frontiers listOf
-  no-row = refl
+pub no-row : (page : List ℕ) (w : ℕ) (s : List ℕ) (k line : ℕ) → page ≡ sets page 0 (rows k line (frontiers w s 0))
+unfolding rows frontiers listOf
+no-row page w s k line = refl
 
+module _ (page₀ : List ℕ) (w : ℕ) (s : List ℕ) (b : Bytes s) (narrow : w ≤ 4) (k line : ℕ) where
   -- One row more, where its counts and the rule's truth are read.
   pub next-row : (i : ℕ) (page page′ counts : List ℕ) (values : ℕ) (holds : Bool)
       → page ≡ sets page₀ 0 (rows k line (frontiers w s i)) → counts ≡ frontierAt w s i .counts
@@ -109,7 +109,7 @@ module _ (w : ℕ) (s window page : List ℕ) where
       let wrong = passed-turn (badRecordLength w (length s) || badWindowLength w (length window)) 6 _ (lit< tt) h in
       let state = passed-turn (badState w (roomOf w (length window)) s) 34 _ (lit< tt) (wrong .1) in
       let short = passed-turn (shortPage (keptCount s) (length page)) 44 0 (lit< tt) (state .1) in (
-        good-watch w s (length window) (watch-good w s (length window) (wrong .0) (state .0)),
+        tests-good w s (length window) (wrong .0) (state .0),
         ltb-false (length page) (93 * keptCount s) (short .0),
       )
 

@@ -36,11 +36,11 @@ behind : (page₀ : List ℕ) (place : ℕ) (xs : List ℕ) (b : ℕ) (ys : List
     → sets (sets page₀ place xs) b ys ≡ sets page₀ place (xs ++ ys)
 behind page₀ place xs b ys e = rw e (sets-append page₀ place xs ys)
 
-module _ (page₀ : List ℕ) (place k : ℕ) (counts : List ℕ) (ten : TenDigits counts) where
-  pub no-columns : page₀ ≡ sets page₀ place (columns k counts 0)
-  unfolding columns
-  no-columns = refl
+pub no-columns : (page : List ℕ) (place k : ℕ) (counts : List ℕ) → page ≡ sets page place (columns k counts 0)
+unfolding columns
+no-columns page place k counts = refl
 
+module _ (page₀ : List ℕ) (place k : ℕ) (counts : List ℕ) (ten : TenDigits counts) where
   pub next-column : (p : ℕ) → p < k
       → sets (sets page₀ place (columns k counts p)) (place + 11 * p) (aligned 11 (numeral (at counts p)))
       ≡ sets page₀ place (columns k counts (p + 1))

@@ -26,15 +26,15 @@ use Rattle.call_page.specs.PlaceLaws.{column-there, ending-there}
 
 -- ---- The ways it goes
 
-module _ (w : ℕ) (s window page : List ℕ) where
-  abbrev text : List ℕ
-  text = rows (processCount s) (lineTotal s - 1) (frontiers w window (keptCount s))
+abbrev text : ℕ → List ℕ → List ℕ → List ℕ
+text w s window = rows (processCount s) (lineTotal s - 1) (frontiers w window (keptCount s))
 
+module _ (w : ℕ) (s window page : List ℕ) where
   -- What a page comes to.
   data Way (P : Paged) : Type 0 where
     turned : (n : ℕ) → 0 < n → n < 256 → P .answer ≡ refused n → P .page ≡ page → Way P
     whole : badState w (roomOf w (length window)) s ≡ false → 93 * keptCount s ≤ length page
-        → P .answer ≡ gives (keptCount s) → P .page ≡ text ++ drop (93 * keptCount s) page → Way P
+        → P .answer ≡ gives (keptCount s) → P .page ≡ text w s window ++ drop (93 * keptCount s) page → Way P
 
   the-way : Way (pageCall w s window page)
   unfolding pageCall shortPage
@@ -79,9 +79,9 @@ page-exact w narrow s window page b n q = go (the-way w s window page)
             ∙ ending-is (bit (frontierAt w window i .values) (lineTotal s - 1)));
       };
       same-length =
-          rw written (length-append (text w s window page) rest
+          rw written (length-append (text w s window) rest
           ∙ rw (long, length-drop (93 * keptCount s) page) (omega arith));
-      rest-stays = rw written (drop-at (text w s window page) rest (93 * keptCount s) long);
+      rest-stays = rw written (drop-at (text w s window) rest (93 * keptCount s) long);
     }
       where
         few : processCount s ≤ 8
@@ -90,7 +90,7 @@ page-exact w narrow s window page b n q = go (the-way w s window page)
         rest : List ℕ
         rest = drop (93 * keptCount s) page
 
-        long : length (text w s window page) ≡ 93 * keptCount s
+        long : length (text w s window) ≡ 93 * keptCount s
         long = length-rows w window b narrow (processCount s) (lineTotal s - 1) (keptCount s)
 
 pub refused-writes-nothing : RefusedWritesNothing

@@ -43,10 +43,6 @@ module _ (w : ℕ) (s : List ℕ) (n : ℕ) where
       go false true h = absurd (omega arith)
       go false false h = (refl, refl)
 
-  pub watch-good : wrong ≡ false → damaged ≡ false → watchFault w s n ≡ 0
-  unfolding watchFault
-  watch-good a b = rw (a, b)
-
   pub fault-passed : (x : ℕ) → watchFault w s n ≡ 0 → number wrong damaged x ≡ x
   fault-passed x none = let good = no-fault none in rw (good .0, good .1)
 
@@ -60,12 +56,11 @@ module _ (w : ℕ) (s : List ℕ) (n : ℕ) where
     pub kept : keptCount s ≤ 1024
     pub kept-within : keptCount s * frontierLength w ≤ n
 
-  pub good-watch : watchFault w s n ≡ 0 → Good
-  good-watch none =
-      let good = no-fault none in
-      let within = state-within w (roomOf w n) s (good .1) in
+  pub tests-good : wrong ≡ false → damaged ≡ false → Good
+  tests-good right sound =
+      let within = state-within w (roomOf w n) s sound in
       record {
-        record-long = right-length w (length s) (or-false-e (badRecordLength w (length s)) _ (good .0) .0);
+        record-long = right-length w (length s) (or-false-e (badRecordLength w (length s)) _ right .0);
         processes = within .0;
         pending = within .1;
         lines = within .2;
@@ -73,3 +68,6 @@ module _ (w : ℕ) (s : List ℕ) (n : ℕ) where
         kept = within .3;
         kept-within = room-within w (keptCount s) n (within .4);
       }
+
+  pub good-watch : watchFault w s n ≡ 0 → Good
+  good-watch none = let good = no-fault none in tests-good (good .0) (good .1)

@@ -13,7 +13,7 @@ use Rattle.clocks.specs.stored.CountsLaws.{length-listOf}
 use Rattle.call_busiest.specs.Sharing.{evenly, shares, total, product, sharingKeeps}
 use Rattle.call_busiest.specs.SharingLaws.{kept-sum, kept-first, evenly-least, evenly-most, total-shares}
 use Rattle.sharing_laws.specs.SharingExact.{KeptIsProducts, EvenIsBest}
-use Rattle.sharing_laws.specs.Picked.{Picked, picked-length, picked-total, far, farAll, AllAtLeast, AllAtMost, some-above, some-below, most-total, least-total, Two, two, two-swap}
+use Rattle.sharing_laws.specs.Picked.{Picked, picked-length, picked-total, far, farAll, All, AtLeast, AtMost, some-above, some-below, most-total, least-total, Two, two, two-swap}
 
 -- ---- An event moved
 
@@ -78,7 +78,7 @@ record Level (q : ℕ) (xs : List ℕ) : Type 0 where
   products : product xs ≡ suc q ^ high * q ^ low
   raised : product (map suc xs) ≡ suc (suc q) ^ high * suc q ^ low
 
-level : (q : ℕ) (xs : List ℕ) → AllAtLeast q xs → AllAtMost (suc q) xs → Level q xs
+level : (q : ℕ) (xs : List ℕ) → All (AtLeast q) xs → All (AtMost (suc q)) xs → Level q xs
 unfolding total product
 level q [] a b = record {
   high = 0;
@@ -130,20 +130,16 @@ level-kept q xs ys a b long same =
 
 -- ---- An even sharing is such a one
 
-all-least : (q k : ℕ) (f : ℕ → ℕ) → ((p : ℕ) → q ≤ f p) → AllAtLeast q (listOf k f)
+all-of : (P : ℕ → Type 0) (k : ℕ) (f : ℕ → ℕ) → ((p : ℕ) → P (f p)) → All P (listOf k f)
 unfolding listOf
-all-least q zero f h = tt
-all-least q (suc k) f h = (h 0, all-least q k (λ p. f (suc p)) (λ p. h (suc p)))
-
-all-most : (q k : ℕ) (f : ℕ → ℕ) → ((p : ℕ) → f p ≤ q) → AllAtMost q (listOf k f)
-unfolding listOf
-all-most q zero f h = tt
-all-most q (suc k) f h = (h 0, all-most q k (λ p. f (suc p)) (λ p. h (suc p)))
+all-of P zero f h = tt
+all-of P (suc k) f h = (h 0, all-of P k (λ p. f (suc p)) (λ p. h (suc p)))
 
 shares-level : (k n : ℕ) → Level (n / k) (shares k n)
 shares-level k n =
-    level (n / k) (shares k n) (all-least (n / k) k (evenly (n / k) (n % k)) (evenly-least (n / k) (n % k)))
-    (all-most (suc (n / k)) k (evenly (n / k) (n % k)) (evenly-most (n / k) (n % k)))
+    let q = n / k in
+    level q (shares k n) (all-of (AtLeast q) k (evenly q (n % k)) (evenly-least q (n % k)))
+    (all-of (AtMost (suc q)) k (evenly q (n % k)) (evenly-most q (n % k)))
 
 -- ---- Any sharing, by its distance from an even one
 
@@ -191,7 +187,7 @@ module _ (k n : ℕ) (some : 0 < k) where
         where
           -- x is above q + 1: not all the others are, too
           high : (x : ℕ) (ys : List ℕ) → Picked x cs ys → suc q < x
-              → ((y : ℕ) × (zs : List ℕ) × Picked y ys zs × (y < suc q)) ⊎ AllAtLeast (suc q) ys
+              → ((y : ℕ) × (zs : List ℕ) × Picked y ys zs × (y < suc q)) ⊎ All (AtLeast (suc q)) ys
               → sharingKeeps cs ≤ sharingKeeps (shares k n)
           high x ys p l (inl (y, zs, r, m)) =
               moved x y zs (two x y cs ys zs p r) (omega arith) (inl (l, omega arith))
@@ -209,7 +205,7 @@ module _ (k n : ℕ) (some : 0 < k) where
 
           -- y is below q: not all the others are at most q
           low : (y : ℕ) (ys : List ℕ) → Picked y cs ys → y < q
-              → ((x : ℕ) × (zs : List ℕ) × Picked x ys zs × (q < x)) ⊎ AllAtMost q ys
+              → ((x : ℕ) × (zs : List ℕ) × Picked x ys zs × (q < x)) ⊎ All (AtMost q) ys
               → sharingKeeps cs ≤ sharingKeeps (shares k n)
           low y ys p l (inl (x, zs, r, m)) =
               moved x y zs (two-swap y x cs zs (two y x cs ys zs p r)) (omega arith) (inr (m, l))
@@ -223,8 +219,8 @@ module _ (k n : ℕ) (some : 0 < k) where
                 mul-suc q (length ys),
               ))
 
-          flat : AllAtMost (suc q) cs
-              → ((y : ℕ) × (ys : List ℕ) × Picked y cs ys × (y < q)) ⊎ AllAtLeast q cs
+          flat : All (AtMost (suc q)) cs
+              → ((y : ℕ) × (ys : List ℕ) × Picked y cs ys × (y < q)) ⊎ All (AtLeast q) cs
               → sharingKeeps cs ≤ sharingKeeps (shares k n)
           flat most (inl (y, ys, p, l)) = low y ys p l (some-above q ys)
           flat most (inr least) =
@@ -234,7 +230,7 @@ module _ (k n : ℕ) (some : 0 < k) where
                     (long ∙ sym (length-listOf k (evenly q (n % k)))) (same ∙ sym (total-shares k n some)),
               )
 
-          go : ((x : ℕ) × (ys : List ℕ) × Picked x cs ys × (suc q < x)) ⊎ AllAtMost (suc q) cs
+          go : ((x : ℕ) × (ys : List ℕ) × Picked x cs ys × (suc q < x)) ⊎ All (AtMost (suc q)) cs
               → sharingKeeps cs ≤ sharingKeeps (shares k n)
           go (inl (x, ys, p, l)) = high x ys p l (some-below (suc q) ys)
           go (inr most) = flat most (some-below q cs)

@@ -66,40 +66,49 @@ picked-far q x _ _ (there y xs zs p) = omega (arith, picked-far q x xs zs p)
 
 -- ---- One picked by its size
 
-abbrev pub AllAtLeast : ℕ → List ℕ → Type 0
-AllAtLeast b [] = Unit {0}
-AllAtLeast b (x ∷ xs) = (b ≤ x) × AllAtLeast b xs
+-- What is true of each element.
+abbrev pub All : (ℕ → Type 0) → List ℕ → Type 0
+All P [] = Unit {0}
+All P (x ∷ xs) = P x × All P xs
 
-abbrev pub AllAtMost : ℕ → List ℕ → Type 0
-AllAtMost b [] = Unit {0}
-AllAtMost b (x ∷ xs) = (x ≤ b) × AllAtMost b xs
-
-pub some-above : (b : ℕ) (xs : List ℕ) → ((x : ℕ) × (zs : List ℕ) × Picked x xs zs × (b < x)) ⊎ AllAtMost b xs
-some-above b [] = inr tt
-some-above b (x ∷ xs) = go (decLt b x) (some-above b xs)
+-- One that is such as is looked for; or each is of the other kind.
+pub some-or-all : (P Q : ℕ → Type 0) → ((x : ℕ) → P x ⊎ Q x) → (xs : List ℕ)
+    → ((x : ℕ) × (zs : List ℕ) × Picked x xs zs × P x) ⊎ All Q xs
+some-or-all P Q test [] = inr tt
+some-or-all P Q test (x ∷ xs) = go (test x) (some-or-all P Q test xs)
   where
-    go : Dec (b < x) → ((y : ℕ) × (zs : List ℕ) × Picked y xs zs × (b < y)) ⊎ AllAtMost b xs
-        → ((y : ℕ) × (zs : List ℕ) × Picked y (x ∷ xs) zs × (b < y)) ⊎ AllAtMost b (x ∷ xs)
-    go (yes l) r = inl (x, xs, here xs, l)
-    go (no l) (inl r) = inl (r .0, x ∷ r .1, there x xs (r .1) (r .2), r .3)
-    go (no l) (inr r) = inr (omega arith, r)
+    go : P x ⊎ Q x → ((y : ℕ) × (zs : List ℕ) × Picked y xs zs × P y) ⊎ All Q xs
+        → ((y : ℕ) × (zs : List ℕ) × Picked y (x ∷ xs) zs × P y) ⊎ All Q (x ∷ xs)
+    go (inl h) r = inl (x, xs, here xs, h)
+    go (inr h) (inl r) = inl (r .0, x ∷ r .1, there x xs (r .1) (r .2), r .3)
+    go (inr h) (inr r) = inr (h, r)
 
-pub some-below : (b : ℕ) (xs : List ℕ) → ((x : ℕ) × (zs : List ℕ) × Picked x xs zs × (x < b)) ⊎ AllAtLeast b xs
-some-below b [] = inr tt
-some-below b (x ∷ xs) = go (decLt x b) (some-below b xs)
+abbrev pub AtLeast : ℕ → ℕ → Type 0
+AtLeast b x = b ≤ x
+
+abbrev pub AtMost : ℕ → ℕ → Type 0
+AtMost b x = x ≤ b
+
+-- Above b, or at most b.
+above : (b x : ℕ) → (b < x) ⊎ (x ≤ b)
+above b x = go (decLt b x)
   where
-    go : Dec (x < b) → ((y : ℕ) × (zs : List ℕ) × Picked y xs zs × (y < b)) ⊎ AllAtLeast b xs
-        → ((y : ℕ) × (zs : List ℕ) × Picked y (x ∷ xs) zs × (y < b)) ⊎ AllAtLeast b (x ∷ xs)
-    go (yes l) r = inl (x, xs, here xs, l)
-    go (no l) (inl r) = inl (r .0, x ∷ r .1, there x xs (r .1) (r .2), r .3)
-    go (no l) (inr r) = inr (omega arith, r)
+    go : Dec (b < x) → (b < x) ⊎ (x ≤ b)
+    go (yes l) = inl l
+    go (no l) = inr (omega arith)
 
-pub most-total : (b : ℕ) (xs : List ℕ) → AllAtMost b xs → total xs ≤ b * length xs
+pub some-above : (b : ℕ) (xs : List ℕ) → ((x : ℕ) × (zs : List ℕ) × Picked x xs zs × (b < x)) ⊎ All (AtMost b) xs
+some-above b xs = some-or-all (λ x. b < x) (AtMost b) (above b) xs
+
+pub some-below : (b : ℕ) (xs : List ℕ) → ((x : ℕ) × (zs : List ℕ) × Picked x xs zs × (x < b)) ⊎ All (AtLeast b) xs
+some-below b xs = some-or-all (λ x. x < b) (AtLeast b) (λ x. above x b) xs
+
+pub most-total : (b : ℕ) (xs : List ℕ) → All (AtMost b) xs → total xs ≤ b * length xs
 unfolding total
 most-total b [] h = omega arith
 most-total b (x ∷ xs) h = omega (arith, h .0, most-total b xs (h .1), mul-suc b (length xs))
 
-pub least-total : (b : ℕ) (xs : List ℕ) → AllAtLeast b xs → b * length xs ≤ total xs
+pub least-total : (b : ℕ) (xs : List ℕ) → All (AtLeast b) xs → b * length xs ≤ total xs
 unfolding total
 least-total b [] h = omega (arith, mul-zero b)
 least-total b (x ∷ xs) h = omega (arith, h .0, least-total b xs (h .1), mul-suc b (length xs))

@@ -6,7 +6,8 @@ use lib.ListN.{set, length-set}
 use borrow.Author.Needs.{needs}
 use denote.Ref.{now}
 use Rattle.codec.specs.Little.{put}
-use Rattle.call_busiest.proofs.EventSteps.{single-laid, count-there, fits-width}
+use Rattle.call_busiest.specs.DayBytes.{number-fits}
+use Rattle.call_busiest.proofs.EventSteps.{single-laid, count-there}
 use Rattle.call_busiest.proofs.put_single.Statement.{statement}
 use Rattle.call_busiest.proofs.put_single.Tie as tie
 
@@ -32,7 +33,7 @@ write-count-requires c κs =
       search needs,
       (
         omega (arith, count-there (a .w) (a .p) (search needs), length-set (now (a .events)) (a .place) (a .mask)),
-        fits-width (a .w) (a .number) (search needs) (search needs),
+        number-fits (a .w) (a .number) (search needs) (omega arith),
       ),
     )
 

@@ -33,7 +33,7 @@ loop-holds : tie.Need-loop-holds Inv-loop μ-loop
 loop-holds c =
     let k = c .before in
     let a = k .before .before .args in
-    (search needs, search needs, no-row (now (a .page)) (a .w) (now (a .window)) (bytes k) (narrow k) (a .k) (a .line))
+    (search needs, search needs, no-row (now (a .page)) (a .w) (now (a .window)) (a .k) (a .line))
 
 counts-at-requires : tie.Need-counts-at-requires Inv-loop μ-loop
 counts-at-requires c κs =

@@ -1,13 +1,11 @@
 -- Watches of events of single processes without messages: their kept cuts are the cuts that reach a taken count, and
 -- these are counted.
-use Prim.Native.Nat.{ℕ, suc, _+_, _-_, _≤_, _<_}
+use Prim.Native.Nat.{ℕ, _+_, _-_, _≤_, _<_}
 use native.Mathlib.Omega.{arith}
 use mathlib.Core.Path.{_≡_, refl, sym, ap, subst, _∙_}
-use mathlib.Core.Bool.{cond}
 use mathlib.Core.List.{List, [], _∷_, reverse, reverse-cons, List·Memᴰ, List·Memᴰ·head, List·Memᴰ·cases-cons, List·Memᴰ·not-nil}
 use mathlib.Core.Logic.{_↔_, ⊎-elim}
-use lib.Dec.{eqb}
-use lib.ListN.{length, length-replicate}
+use lib.ListN.{length}
 use Rattle.clocks.specs.declared.Event.{Event}
 use Rattle.clocks.specs.Event.{Cut, Ready}
 use Rattle.clocks.specs.History.{taken, Consistent, Causal, In}
@@ -22,14 +20,13 @@ use Rattle.records.specs.Record.{keptCount}
 use Rattle.answers.specs.Answer.{turnedBack}
 use Rattle.call_busiest.specs.Sharing.{share, shares, product, sharingKeeps}
 use Rattle.call_busiest.specs.SharingLaws.{kept-sum}
-use Rattle.call_busiest.specs.Busiest.{single, busiestDay}
+use Rattle.call_busiest.specs.Busiest.{busiestDay}
 use Rattle.call_busiest.specs.BusiestExact.{Day}
-use Rattle.call_busiest.specs.BusiestTheorem.{busiest-exact}
 use Rattle.sharing_laws.specs.Alone.{AllAlone}
 use Rattle.sharing_laws.specs.AloneLaws.{alone-consistent, alone-total}
 use Rattle.sharing_laws.specs.Best.{even-is-best}
 use Rattle.sharing_laws.specs.CutLists.{reaching, reaching-exactly, length-reaching, sorted-reaching}
-use Rattle.sharing_laws.specs.DayLaws.{day-history, day-alone, day-taken, day-member}
+use Rattle.sharing_laws.specs.DayLaws.{day-history, day-alone, day-taken}
 use Rattle.demands.specs.Ledger.{Ledger, Settled, occurrences, accounted}
 use Rattle.demands.specs.Run.{Watch}
 use Rattle.demands.specs.World.{Valid, KeptNumber, Stays}
@@ -44,7 +41,7 @@ use Rattle.demands.specs.lists.LedgerBalance.{occurs-append}
 use Rattle.demands.specs.lists.Delivery.{same-taken-events, same-pending}
 use Rattle.demands.specs.lists.SoundRun.{Sound, every-list}
 use Rattle.demands.specs.lists.TakeAnswers.{take-exact-of}
-use Rattle.demands.specs.lists.DayListed.{there, value, read, in-reverse}
+use Rattle.demands.specs.lists.DayListed.{there, value, storable, read, in-reverse}
 
 -- ---- How many cuts are kept
 
@@ -95,17 +92,10 @@ module _ (k n : ℕ) (d : Day k n) where
   abbrev dayLedger : Ledger
   dayLedger = record { history = reverse (busiestDay k n); pending = []; falsified = []; closed = 0 }
 
-  single-eight : (p i : ℕ) → Eight (single p i)
-  unfolding single
-  single-eight p i = record {
-    counts = length-listOf 8 (λ q. cond (eqb q p) i 0);
-    labels = length-replicate {A = ℕ} 8 0;
-  }
-
   day-eight : (e : Event) → In e (reverse (busiestDay k n)) → Eight e
   day-eight e m =
-      let r = day-member (share k n) k e (in-reverse e (busiestDay k n) .1 m) in
-      rw (r .4) (single-eight (r .0) (suc (r .1)))
+      let fits = storable 2 (omega arith) k n d e (in-reverse e (busiestDay k n) .1 m) in
+      record { counts = fits .eight-counts; labels = fits .eight-labels }
 
   day-right : Kept-right k Valid dayLedger
   day-right = record {
@@ -154,7 +144,7 @@ module _ (w k : ℕ) (f : Formula) (start : Cut) (Z : Watch) (S : Sound w k f st
   module _ (none : Z .ledger .closed ≡ 0) (v : ℕ) (wide : 2 ≤ v) (n : ℕ) (events : List ℕ) (m : ℕ)
       (given : Gives v k n events m) where
     d : Day k n
-    d = there v wide k n events m given
+    d = there v k n events m given
 
     same-kept : Same ts (reverse (busiestDay k n)) → keptCount (Z .bytes) ≡ m
     same-kept s =
@@ -171,7 +161,7 @@ module _ (w k : ℕ) (f : Formula) (start : Cut) (Z : Watch) (S : Sound w k f st
         ∙ ap sharingKeeps
         (listOf-same k (taken ts) (share k n)
         (λ p l. ap (λ (C : Cut). C p) counted ∙ day-taken k (d .eight-processes) (share k n) p l))
-        ∙ sym (value v wide k n events m given)
+        ∙ sym (value v k n events m given)
 
     listed-kept : ((e : Event) → In e ts ↔ List·Memᴰ e (listed v k n events)) → keptCount (Z .bytes) ≡ m
     listed-kept h =
@@ -214,16 +204,13 @@ module _ (w k : ℕ) (f : Formula) (start : Cut) (Z : Watch) (S : Sound w k f st
             (day-quiet k n d) settled alike
 
   -- ---- Room enough
-  given-value : (v n : ℕ) (events : List ℕ) (m : ℕ) → Gives v k n events m → m ≡ sharingKeeps (shares k n)
-  given-value v n events m g = busiest-exact v k n events .given m .0 g .3
-
   most : Plain Z → (v n : ℕ) (events : List ℕ) (m : ℕ) → Gives v k n events m → length ts ≤ n
       → keptCount (Z .bytes) ≤ m
   most P v n events m g l =
       omega (
         arith,
         by-counts P,
-        given-value v n events m g,
+        value v k n events m g,
         alone-most k (S .rule .some-process) (S .rule .eight-processes) ts by-rule (P .taken-alone) n l,
       )
 
@@ -255,7 +242,7 @@ module _ (w k : ℕ) (f : Formula) (start : Cut) (Z : Watch) (S : Sound w k f st
         arith,
         next-most P others n l (full .0 .0) (full .0 .1) (full .0 .2) (over .0) (over .1 .0) (over .1 .1),
         over .1 .2,
-        given-value v n events m g,
+        value v k n events m g,
       )
 
   pub busiest-kept-of : BusiestKept w k f start Z

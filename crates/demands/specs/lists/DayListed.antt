@@ -1,13 +1,13 @@
 -- The list of a busiest day, read back: its events are the day's, each of a single process without messages, and a
 -- history in their order.
 use Prim.Native.Nat.{ℕ, suc, _+_, _-_, _*_, _^_, _≤_, _<_}
-use native.Mathlib.Nat.{pow-le-pow-right, zero-add}
+use native.Mathlib.Nat.{zero-add}
 use native.Mathlib.Omega.{arith}
 use mathlib.Core.Path.{_≡_, refl, sym, ap, _∙_}
 use mathlib.Core.Bool.{cond}
 use mathlib.Core.List.{List, [], _∷_, _++_, reverse, reverse-cons, append-nil, List·Memᴰ, List·Memᴰ·head, List·Memᴰ·tail, List·Memᴰ·cases-cons, List·Memᴰ·not-nil, List·Memᴰ·append-cases, Memᴰ·append-left, Memᴰ·append-right}
 use mathlib.Core.Logic.{_↔_, ⊎-elim}
-use lib.Dec.{eqb, lit<}
+use lib.Dec.{eqb}
 use lib.ListN.{length, getD, take, drop, length-replicate}
 use lib.Pow.{pow-lt}
 use Rattle.clocks.specs.declared.Event.{Event}
@@ -18,6 +18,7 @@ use Rattle.frontiers.specs.ListLaws.{place-member}
 use Rattle.records.specs.Record.{eventLength, eventFrom, eventBytes, eventsBytes}
 use Rattle.call_busiest.specs.Sharing.{share, shares, sharingKeeps}
 use Rattle.call_busiest.specs.SharingLaws.{share-within, total-shares}
+use Rattle.call_busiest.specs.DayBytes.{number-fits}
 use Rattle.call_busiest.specs.Busiest.{single, busiestDay}
 use Rattle.call_busiest.specs.BusiestExact.{Day}
 use Rattle.call_busiest.specs.BusiestTheorem.{busiest-exact}
@@ -66,29 +67,33 @@ single-storable v p n l fits = record {
     le-lt : {a b c : ℕ} → a ≤ b → b < c → a < c
     le-lt x y = omega arith
 
-module _ (v : ℕ) (wide : 2 ≤ v) (k n : ℕ) (events : List ℕ) (m : ℕ) (given : Gives v k n events m) where
+module _ (v k n : ℕ) (events : List ℕ) (m : ℕ) (given : Gives v k n events m) where
   pub there : Day k n
   there = busiest-exact v k n events .given m .0 given .0
 
   pub value : m ≡ sharingKeeps (shares k n)
   value = busiest-exact v k n events .given m .0 given .3
 
-  storable : AllStorable v (busiestDay k n)
+module _ (v : ℕ) (wide : 2 ≤ v) (k n : ℕ) (d : Day k n) where
+  pub storable : AllStorable v (busiestDay k n)
   storable e i =
       let r = day-member (share k n) k e i in
       let few : r .1 < n =
-      omega (arith, r .3, share-within (share k n) (r .0) k (r .2), total-shares k n (there .some-process)) in
-      let fits : suc (r .1) < 256 ^ v =
-      omega (arith, there .few-events, pow-le-pow-right {n = 256} (lit< tt) {i = 2} {j = v} wide) in
-      rw (r .4) (single-storable v (r .0) (suc (r .1)) (omega (arith, r .2, there .eight-processes)) fits)
+      omega (arith, r .3, share-within (share k n) (r .0) k (r .2), total-shares k n (d .some-process)) in
+      let fits = number-fits v (suc (r .1)) wide (omega (arith, d .few-events)) in
+      rw (r .4) (single-storable v (r .0) (suc (r .1)) (omega (arith, r .2, d .eight-processes)) fits)
+
+module _ (v : ℕ) (wide : 2 ≤ v) (k n : ℕ) (events : List ℕ) (m : ℕ) (given : Gives v k n events m) where
+  d : Day k n
+  d = there v k n events m given
 
   pub read : listed v k n events ≡ busiestDay k n
   read =
-      let many : length (busiestDay k n) ≡ n = length-day (share k n) k ∙ total-shares k n (there .some-process) in
+      let many : length (busiestDay k n) ≡ n = length-day (share k n) k ∙ total-shares k n (d .some-process) in
       ap (λ (s : List ℕ). listOf n (λ i. eventFrom v s (i * eventLength v)))
       (busiest-exact v k n events .given-writes m given)
       ∙ ap (λ (l : ℕ). listOf l (λ i. eventFrom v (eventsBytes v (busiestDay k n)) (i * eventLength v))) (sym many)
-      ∙ events-read v (busiestDay k n) storable
+      ∙ events-read v (busiestDay k n) (storable v wide k n d)
 
 -- ---- Turned round
 
@@ -110,7 +115,7 @@ module _ {A : Type 0} where
 
 pub day-is-listed : DayIsListed
 day-is-listed v wide k n events m given =
-    let d = there v wide k n events m given in
+    let d = there v k n events m given in
     let e = read v wide k n events m given in
     record {
       are = e;

@@ -21,7 +21,7 @@ abbrev μ-loop : tie.MeasureT-loop
 loop-holds : tie.Need-loop-holds Inv-loop μ-loop
 loop-holds c =
     let b = c .before .before in
-    let none = no-columns (now (b .args .page)) (b .args .at) (b .args .k) (b .args .t4) (b .pre .1 .0) in
+    let none = no-columns (now (b .args .page)) (b .args .at) (b .args .k) (b .args .t4) in
     (search needs, search needs, none)
 
 mul-put-count : tie.Need-mul-put-count Inv-loop μ-loop
