@@ -14,7 +14,7 @@ use Rattle.refusals.specs.Refusals.{roomOf, badState}
 use Rattle.trial.specs.Trial.{Decision, tried}
 use Rattle.call_open.specs.Open.{openCall}
 use Rattle.call_take.specs.Take.{Taken, decided, badLengths, allowedOf, takeCapped}
-use Rattle.demands.specs.Run.{Call, offers, takes, finds, closes, Watch, afterTake, after, opened}
+use Rattle.demands.specs.Run.{Call, offers, takes, finds, closes, mislends, Watch, afterTake, after, opened}
 
 -- The clock is the largest of the last clocks, in the record, of the processes that take part, plus 1 there.
 unfoldable pub joinedIn : ℕ → List ℕ → Event → Bool
@@ -40,6 +40,7 @@ earlierAfter w (takes cap zeros scratch) W =
 earlierAfter w (offers mask clock labels) W = after w (offers mask clock labels) W
 earlierAfter w (finds line) W = after w (finds line) W
 earlierAfter w (closes p) W = after w (closes p) W
+earlierAfter w (mislends m) W = after w (mislends m) W
 
 unfoldable pub earlierRun : ℕ → List Call → Watch → Watch
 earlierRun w [] W = W

@@ -18,25 +18,30 @@ use Rattle.call_open.specs.Open.{Opened}
 use Rattle.answers.specs.Answer.{Answer, turnedBack, state, nothingReady, held, again, found, absent, processClosed}
 use Rattle.call_offer.specs.Offer.{placeAmong, offeredEvent, offerCall}
 use Rattle.demands.specs.Ledger.{Ledger}
+use Rattle.demands.specs.Mislent.{Mislent, TurnedAway, answerTo}
 use Rattle.demands.specs.Status.{insertAt, removeAt}
 use Rattle.clocks.specs.Event.{zeros}
 
 -- A call: an offer of an event by its mask, clock and labels; a take under a cap (watch_take has 1,024), lent the
--- window with so many zeros appended, and a scratch of any length and content; a find of a line; a close of a process.
+-- window with so many zeros appended, and a scratch of any length and content; a find of a line; a close of a process;
+-- or one of these that was lent other buffers, of a wrong length say, and turned back for them.
 pub data Call : Type 0 where
-  offers : ℕ → List ℕ → List ℕ → Call
-  takes : ℕ → ℕ → List ℕ → Call
-  finds : ℕ → Call
-  closes : ℕ → Call
+  offers : (mask : ℕ) (clock labels : List ℕ) → Call
+  takes : (cap zeros : ℕ) (scratch : List ℕ) → Call
+  finds : (line : ℕ) → Call
+  closes : (p : ℕ) → Call
+  mislends : (m : Mislent) → Call
 
--- The arguments are such as the machine passes: a mask of 64 bits, eight counts of w bytes, eight label bytes.
-abbrev pub Passed : ℕ → Call → Type 0
+-- The arguments are such as the machine passes: a mask of 64 bits, eight counts of w bytes, eight label bytes. Other
+-- buffers are such as 6 or 34 turns back.
+abbrev pub Passed : (w : ℕ) (c : Call) → Type 0
 Passed w (offers mask clock labels) =
     (mask < 2 ^ 64) × (length clock ≡ 8) × ((p : ℕ) → at clock p < 256 ^ w)
     × (length labels ≡ 8) × ((p : ℕ) → at labels p < 256)
 Passed w (takes cap zeros scratch) = Unit {0}
 Passed w (finds line) = Unit {0}
 Passed w (closes p) = Unit {0}
+Passed w (mislends m) = TurnedAway w m
 
 -- A watch between two calls: record and window, the ledger of the accepted events and of the closed processes, those
 -- events, and the answers so far, open's own among them, newest first.
@@ -46,6 +51,16 @@ pub record Watch : Type 0 where
   pub ledger : Ledger
   pub accepted : List Event
   pub answers : List Answer
+
+-- With one answer more, and the same in all else.
+abbrev pub answeredBy : (a : Answer) (W : Watch) → Watch
+answeredBy a W = record {
+  bytes = W .bytes;
+  window = W .window;
+  ledger = W .ledger;
+  accepted = W .accepted;
+  answers = a ∷ W .answers;
+}
 
 -- ---- What a call does
 
@@ -150,14 +165,7 @@ after w (offers mask clock labels) W =
 after w (takes cap zeros scratch) W =
     let lent = W .window ++ replicate zeros 0 in
     afterTake w (takeCapped w cap (W .bytes) lent scratch) (trialOf w cap (W .bytes) lent) W
-after w (finds line) W =
-    record {
-      bytes = W .bytes;
-      window = W .window;
-      ledger = W .ledger;
-      accepted = W .accepted;
-      answers = findCall w line (W .bytes) (W .window) ∷ W .answers;
-    }
+after w (finds line) W = answeredBy (findCall w line (W .bytes) (W .window)) W
 after w (closes p) W =
     let r = closeCall w p (W .bytes) (W .window) in
     record {
@@ -167,6 +175,7 @@ after w (closes p) W =
       accepted = W .accepted;
       answers = r .answer ∷ W .answers;
     }
+after w (mislends m) W = answeredBy (answerTo w m) W
 
 -- The calls of a list, one after the other.
 unfoldable pub run : ℕ → List Call → Watch → Watch

@@ -4,6 +4,7 @@ pub mod OrderIndependent
 pub mod TakeAnswers
 pub mod Balance
 pub mod Find
+pub mod Mislent
 pub mod Again
 pub mod Messages
 pub mod Earlier

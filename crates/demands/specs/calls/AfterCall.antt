@@ -25,7 +25,7 @@ use Rattle.demands.specs.Watching.{Rule, Watching}
 use Rattle.demands.specs.calls.WatchingLaws.{says-pending, lent-longer, never-34, says-frontiers, says-event, ready-in, valid-in, setting-in}
 use Rattle.call_offer.specs.Offer.{offeredEvent}
 use Rattle.demands.specs.Ledger.{Ledger}
-use Rattle.demands.specs.Run.{Passed, Watch, offeredLedger, closedLedger, after, offers, Call, run, takes, finds, closes, takenLedger, stoppedAt, trialOf}
+use Rattle.demands.specs.Run.{Passed, Watch, offeredLedger, closedLedger, after, offers, Call, run, takes, finds, closes, mislends, takenLedger, stoppedAt, trialOf}
 use Rattle.call_offer.specs.OfferCases.{OfferCase, offer-case, turned, repeats, accepted}
 use Rattle.demands.specs.calls.OfferLaws.{accepted-watching}
 use Rattle.call_close.specs.CloseCases as closing
@@ -249,6 +249,7 @@ module _ (w k : ℕ) (table : List Line) (start : Cut) (R : Rule w k table start
   unfolding after ledgerAfter
   after-right W X (offers mask clock labels) p = offer-right W X mask clock labels p
   after-right W X (finds line) p = X
+  after-right W X (mislends m) p = X
   after-right W X (closes p) q = close-right W X p
   after-right W X (takes cap zeros scratch) p = go (badLengths L bytes lent X′ cap scratch) refl
     where

@@ -22,7 +22,8 @@ use Rattle.call_find.specs.Find.{findFrom, findCall}
 use Rattle.call_close.specs.Close.{closing}
 use Rattle.call_offer.specs.Offer.{offeredEvent, offerCall}
 use Rattle.demands.specs.Ledger.{Ledger}
-use Rattle.demands.specs.Run.{Call, offers, takes, finds, closes, Passed, Watch, offeredLedger, acceptedBy, closedLedger, after}
+use Rattle.demands.specs.Mislent.{Mislent, TurnedAway, answerTo}
+use Rattle.demands.specs.Run.{Call, offers, takes, finds, closes, mislends, Passed, Watch, offeredLedger, acceptedBy, closedLedger, after}
 use Rattle.demands.specs.World.{Open, KeptNumber}
 use Rattle.demands.specs.EveryList.{lentWindow}
 use Rattle.demands.specs.calls.OfferByLedger.{offerAnswer, offer-by-ledger, offered-alike}
@@ -197,6 +198,22 @@ module _ (v w k : ℕ) (f : Formula) (start : Cut) (Y Z : Watch) (t : Twins v w 
             ∙ lent-more w (t .room) more (Z .window) (t .other-long);
       }
 
+  -- ---- Lent other buffers
+
+  after-mislends : (m n : Mislent) → answerTo v m ≡ answerTo w n → TurnedAway v m → TurnedAway w n
+      → Twins v w k f start (after v (mislends m) Y) (after w (mislends n) Z)
+  unfolding after
+  after-mislends m n same p q = record {
+    first = after-sound v k f start Y (mislends m) p (t .first);
+    second = after-sound w k f start Z (mislends n) q (t .second);
+    same-answers = ap₂ _∷_ same (t .same-answers);
+    same-ledger = t .same-ledger;
+    same-accepted = t .same-accepted;
+    room = t .room;
+    long = t .long;
+    other-long = t .other-long;
+  }
+
   -- ---- Theorem
 
   pub after-same : (c d : Call) → SameCall v w c d → Passed v c → Passed w d
@@ -212,3 +229,6 @@ module _ (v w k : ℕ) (f : Formula) (start : Cut) (Y Z : Watch) (t : Twins v w 
       subst (λ (e : Call). Twins v w k f start (after v (finds line) Y) (after w e Z)) (sym s) (after-finds line)
   after-same (closes n) d s p q =
       subst (λ (e : Call). Twins v w k f start (after v (closes n) Y) (after w e Z)) (sym s) (after-closes n)
+  after-same (mislends m) d (n, e, same) p q =
+      subst (λ (c : Call). Twins v w k f start (after v (mislends m) Y) (after w c Z)) (sym e)
+      (after-mislends m n same p (subst (Passed w) e q))

@@ -5,6 +5,7 @@ use native.Mathlib.Omega.{arith}
 use mathlib.Core.Path.{_≡_, refl}
 use mathlib.Core.Bool.{Bool, true, false, cond, _||_}
 use mathlib.Core.List.{List, [], _∷_, _++_}
+use mathlib.Core.Logic.{inl, inr}
 use lib.Dec.{leb}
 use lib.ListN.{length, replicate}
 use Rattle.frontiers.specs.declared.Frontier.{Frontier}
@@ -23,7 +24,8 @@ use Rattle.call_close.specs.Close.{closeProcess}
 use Rattle.call_close.specs.CloseCases as closing
 use Rattle.call_close.specs.CloseCases.{CloseCase, close-case}
 use Rattle.demands.specs.Ledger.{Ledger}
-use Rattle.demands.specs.Run.{Watch, Call, offers, takes, finds, closes, offeredLedger, acceptedBy, closedLedger, after}
+use Rattle.demands.specs.Run.{Watch, Call, Passed, offers, takes, finds, closes, mislends, offeredLedger, acceptedBy, closedLedger, after}
+use Rattle.demands.specs.Mislent.{Mislent, TurnedAway, answerTo}
 use Rattle.demands.specs.Watching.{Rule, Watching}
 use Rattle.demands.specs.statements.Balance.{number, isHeld, isState, isFalseClock}
 use Rattle.call_offer.specs.OfferCases.{OfferCase, offer-case, turned, repeats, accepted}
@@ -109,6 +111,12 @@ close-said w W Y p = go (close-case w p (W .bytes) (W .window))
       falsified-said = omega (arith, Y .falsified-said);
     })
 
+-- ---- lent other buffers
+mislent-said : (w : ℕ) (m : Mislent) → TurnedAway w m → (L : Ledger) (es : List Event) (answers : List Answer)
+    → Said L es answers → Said L es (answerTo w m ∷ answers)
+mislent-said w m (inl q) L es answers Y = rw q (plain L es answers Y (turnedBack 6 0) refl refl refl)
+mislent-said w m (inr q) L es answers Y = rw q (plain L es answers Y (turnedBack 34 0) refl refl refl)
+
 -- ---- take
 decided-said : (w : ℕ) (s window : List ℕ) (fs : List Frontier) (L : Ledger) (es : List Event) (answers : List Answer)
     → Said L es answers → (d : Decision)
@@ -168,11 +176,13 @@ module _ (w k : ℕ) (table : List Line) (start : Cut) (R : Rule w k table start
           (decision w k table start R L bytes lent X′ cap scratch))
 
   pub after-said : (W : Watch) → WatchRight w k table start W → Said (W .ledger) (W .accepted) (W .answers) → (c : Call)
-      → Said (after w c W .ledger) (after w c W .accepted) (after w c W .answers)
-  after-said W X Y (offers mask clock labels) = offer-said w W Y mask clock labels
-  after-said W X Y (takes cap more scratch) = take-said W X Y cap more scratch
-  after-said W X Y (closes p) = close-said w W Y p
-  after-said W X Y (finds line) =
+      → Passed w c → Said (after w c W .ledger) (after w c W .accepted) (after w c W .answers)
+  after-said W X Y (offers mask clock labels) h = offer-said w W Y mask clock labels
+  after-said W X Y (takes cap more scratch) h = take-said W X Y cap more scratch
+  after-said W X Y (closes p) h = close-said w W Y p
+  after-said W X Y (mislends m) h =
+      unfold after in mislent-said w m h (W .ledger) (W .accepted) (W .answers) Y
+  after-said W X Y (finds line) h =
       unfold after in find-said w line (W .bytes) (W .window) (W .ledger) (W .accepted) (W .answers) Y
 
 -- ---- open

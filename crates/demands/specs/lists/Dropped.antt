@@ -17,7 +17,7 @@ use Rattle.answers.specs.Answer.{Answer, turnedBack, state, nothingReady, held,
 use Rattle.answers.specs.Turns.{by-test}
 use Rattle.demands.specs.Ledger.{Ledger}
 use Rattle.demands.specs.World.{Open}
-use Rattle.demands.specs.Run.{Call, offers, takes, finds, closes, Watch, takenLedger, offeredLedger, closedLedger, after, run}
+use Rattle.demands.specs.Run.{Call, offers, takes, finds, closes, mislends, Watch, takenLedger, offeredLedger, closedLedger, after, run}
 use Rattle.demands.specs.statements.Close.{StaysDropped, DroppedStaysDropped}
 use Rattle.demands.specs.calls.CloseLaws.{still-open}
 use Rattle.demands.specs.calls.KeptCutsLaws.{stays-kept, open-bit}
@@ -83,6 +83,7 @@ after-later w (offers mask clock labels) W = offer-later w (W .bytes) _ (W .ledg
 after-later w (takes cap zeros scratch) W = take-later w (W .bytes) _ (W .ledger) _
 after-later w (finds line) W = no-later (W .ledger)
 after-later w (closes p) W = close-later p (W .ledger) _
+after-later w (mislends m) W = no-later (W .ledger)
 
 run-later : (w : ℕ) (cs : List Call) (W : Watch) → Later (W .ledger) (run w cs W .ledger)
 unfolding run

@@ -24,7 +24,7 @@ use Rattle.trial.specs.TrialLaws.{same-trial}
 use Rattle.call_open.specs.Open.{openCall}
 use Rattle.call_take.specs.Take.{Taken, decided, badLengths, takeWithin, allowedOf, takeCapped}
 use Rattle.demands.specs.Ledger.{Ledger}
-use Rattle.demands.specs.Run.{Call, offers, takes, finds, closes, Watch, afterTake, after, run, opened, trialOf, takenLedger}
+use Rattle.demands.specs.Run.{Call, offers, takes, finds, closes, mislends, Watch, afterTake, after, run, opened, trialOf, takenLedger}
 use Rattle.demands.specs.Earlier.{joinedIn, earlierTrial, earlierTake, earlierAfter, earlierRun}
 use Rattle.demands.specs.Watching.{Rule, Watching}
 use Rattle.demands.specs.World.{Valid}
@@ -107,6 +107,7 @@ earlier-more w (takes cap zeros scratch) W = (_, refl)
 earlier-more w (offers mask clock labels) W = (_, refl)
 earlier-more w (finds line) W = (_, refl)
 earlier-more w (closes p) W = (_, refl)
+earlier-more w (mislends m) W = (_, refl)
 
 answers-stay : (w : ℕ) (cs : List Call) (W : Watch) (a : Answer) → List·Memᴰ a (W .answers)
     → List·Memᴰ a (earlierRun w cs W .answers)
@@ -121,6 +122,7 @@ module _ (w k : ℕ) (table : List Line) (start : Cut) (R : Rule w k table start
   same-after (offers mask clock labels) W X n = refl
   same-after (finds line) W X n = refl
   same-after (closes p) W X n = refl
+  same-after (mislends m) W X n = refl
   same-after (takes cap zeros scratch) W X n =
       same-take w k table start R (W .ledger) (W .bytes) (W .window ++ replicate zeros 0)
       (lengthened w k table start R (W .ledger) (W .bytes) (W .window) X zeros) cap scratch

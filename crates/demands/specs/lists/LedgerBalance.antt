@@ -21,7 +21,7 @@ use Rattle.call_close.specs.Close.{closeProcess}
 use Rattle.call_close.specs.CloseCases as closing
 use Rattle.call_close.specs.CloseCases.{CloseCase, close-case}
 use Rattle.demands.specs.Ledger.{occurrences, Ledger}
-use Rattle.demands.specs.Run.{Call, Watch, offeredLedger, acceptedBy, closedLedger, after, offers, takes, finds, closes}
+use Rattle.demands.specs.Run.{Call, Watch, offeredLedger, acceptedBy, closedLedger, after, offers, takes, finds, closes, mislends}
 use Rattle.demands.specs.Status.{insertAt, removeAt}
 use Rattle.call_offer.specs.OfferCases.{OfferCase, offer-case, turned, repeats, accepted}
 use Rattle.demands.specs.calls.AfterCall.{WatchRight, noEvent, lengthened, badLengths, take-6, decision, take-else, trial, ledgerThen}
@@ -132,3 +132,4 @@ module _ (w k : ℕ) (table : List Line) (start : Cut) (R : Rule w k table start
   after-balanced W X B (takes cap more scratch) = after-take W X B cap more scratch
   after-balanced W X B (closes p) = after-close W B p
   after-balanced W X B (finds line) = unfold after in record { each = B .each; total = B .total }
+  after-balanced W X B (mislends m) = unfold after in record { each = B .each; total = B .total }

@@ -5,7 +5,7 @@ use native.Mathlib.Omega.{arith}
 use mathlib.Core.Path.{_≡_, sym, refl}
 use mathlib.Core.Bool.{Bool, true, false, cond, _||_}
 use mathlib.Core.List.{List, _∷_, List·Memᴰ·cases-cons, _++_, [], map, List·Memᴰ·eq-of-singleton}
-use mathlib.Core.Logic.{⊎-elim, inr}
+use mathlib.Core.Logic.{⊎-elim, inl, inr}
 use lib.ListN.{length, replicate, getD}
 use lib.Dec.{leb}
 use Rattle.pactl.specs.declared.Line.{Line}
@@ -27,7 +27,8 @@ use Rattle.records.specs.Record.{pendingCount, pendingAt, pendingEvents, lineTo
 use Rattle.answers.specs.Answer.{Answer, turnedBack, state, nothingReady, held, again, found, absent, processClosed, stateOf}
 use Rattle.call_offer.specs.Offer.{offeredEvent, placeAmong}
 use Rattle.demands.specs.Ledger.{Ledger, Settled}
-use Rattle.demands.specs.Run.{Watch, offeredLedger, closedLedger, after, offers, Call, takes, finds, closes}
+use Rattle.demands.specs.Mislent.{Mislent, TurnedAway, answerTo}
+use Rattle.demands.specs.Run.{Watch, Passed, offeredLedger, closedLedger, after, offers, Call, takes, finds, closes, mislends}
 use Rattle.call_offer.specs.OfferCases.{OfferCase, offer-case, turned, repeats, accepted}
 use Rattle.call_close.specs.Close.{closeProcess}
 use Rattle.call_close.specs.CloseCases as closing
@@ -225,14 +226,21 @@ module _ (w k : ℕ) (f : Formula) (start : Cut) (R : Rule w k (linesAt 0 f) sta
         (taken-reporting j l (is-ready w k table start R L bytes lent X′ cap scratch j l r)
         (is-valid w k table start R L bytes lent X′ cap scratch j l r v))
 
+  -- ---- lent other buffers
+  mislent-reporting : (m : Mislent) → TurnedAway w m → (L : Ledger) (as′ : List Answer) → Reporting L as′
+      → Reporting L (answerTo w m ∷ as′)
+  mislent-reporting m (inl q) L as′ Y = rw q (turned-plain L L as′ Y refl 6 0)
+  mislent-reporting m (inr q) L as′ Y = rw q (turned-plain L L as′ Y refl 34 0)
+
   -- ---- Theorem
   pub after-reporting : (W : Watch) → WatchRight w k table start W → Reporting (W .ledger) (W .answers) → (c : Call)
-      → Reporting (after w c W .ledger) (after w c W .answers)
+      → Passed w c → Reporting (after w c W .ledger) (after w c W .answers)
   unfolding after ledgerAfter
-  after-reporting W X Y (offers mask clock labels) = offer-reporting W Y mask clock labels
-  after-reporting W X Y (finds line) = find-reporting line (W .bytes) (W .window) (W .ledger) (W .answers) Y
-  after-reporting W X Y (closes p) = close-reporting W Y p
-  after-reporting W X Y (takes cap more scratch) =
+  after-reporting W X Y (offers mask clock labels) h = offer-reporting W Y mask clock labels
+  after-reporting W X Y (finds line) h = find-reporting line (W .bytes) (W .window) (W .ledger) (W .answers) Y
+  after-reporting W X Y (closes p) h = close-reporting W Y p
+  after-reporting W X Y (mislends m) h = mislent-reporting m h (W .ledger) (W .answers) Y
+  after-reporting W X Y (takes cap more scratch) h =
       go (badLengths w k table start R (W .ledger) (W .bytes) lent″ X″ cap scratch) refl
     where
       lent″ : List ℕ

@@ -38,8 +38,8 @@ after-sound w k f start W c p S = record {
   rule = S .rule;
   right = after-right w k (linesAt 0 f) start (S .rule) W (S .right) c p;
   balanced = after-balanced w k (linesAt 0 f) start (S .rule) W (S .right) (S .balanced) c;
-  said = after-said w k (linesAt 0 f) start (S .rule) W (S .right) (S .said) c;
-  reporting = after-reporting w k f start (S .rule) W (S .right) (S .reporting) c;
+  said = after-said w k (linesAt 0 f) start (S .rule) W (S .right) (S .said) c p;
+  reporting = after-reporting w k f start (S .rule) W (S .right) (S .reporting) c p;
 }
 
 pub run-sound : (w k : ℕ) (f : Formula) (start : Cut) (cs : List Call) (W : Watch) → AllPassed w cs

@@ -1,7 +1,7 @@
 -- A list without its repeats leaves the same watch: "again" is only an answer.
 use Prim.Native.Nat.{ℕ, _+_}
 use native.Mathlib.Omega.{arith}
-use mathlib.Core.Path.{_≡_, refl, sym, _∙_}
+use mathlib.Core.Path.{_≡_, refl, sym, ap, _∙_}
 use mathlib.Core.Bool.{Bool, true, false, cond, not, _||_}
 use mathlib.Core.List.{List, [], _∷_, _++_}
 use lib.Dec.{leb, eqb}
@@ -11,7 +11,7 @@ use Rattle.frontiers.specs.declared.Frontier.{Frontier}
 use Rattle.frontiers.specs.Bytes.{frontiers}
 use Rattle.records.specs.Record.{lineTotal, keptCount}
 use Rattle.refusals.specs.Refusals.{roomOf, badRecordLength, badWindowLength, badState}
-use Rattle.answers.specs.Answer.{Answer, turnedBack, again, found, stateOf}
+use Rattle.answers.specs.Answer.{Answer, turnedBack, state, nothingReady, held, again, found, absent, processClosed, stateOf}
 use Rattle.answers.specs.Turns.{by-test}
 use Rattle.call_open.specs.Open.{openCall, openTable}
 use Rattle.call_offer.specs.Offer.{offerCall}
@@ -22,7 +22,8 @@ use Rattle.call_find.specs.Find.{findFrom, findCall}
 use Rattle.call_close.specs.Close.{closeProcess, closeCall}
 use Rattle.call_close.specs.CloseCases as closing
 use Rattle.call_close.specs.CloseCases.{CloseCase, close-case}
-use Rattle.demands.specs.Run.{Call, offers, takes, finds, closes, Watch, offeredLedger, acceptedBy, after, run, opened}
+use Rattle.demands.specs.Mislent.{answerTo}
+use Rattle.demands.specs.Run.{Call, offers, takes, finds, closes, mislends, Watch, answeredBy, offeredLedger, acceptedBy, after, run, opened}
 use Rattle.demands.specs.calls.OpenLaws.{OpenCase, open-case, turned-back, opens}
 use Rattle.demands.specs.statements.Again.{isAgain, lastOf, withoutAgains, otherAnswers, SameButAgains, AgainsMakeNoDifference}
 
@@ -82,15 +83,8 @@ open-other w text k labels s window = go (open-case w text k labels s window)
 
 -- ---- Which leaves the watch
 
--- A watch with one answer more.
-abbrev pub answeredBy : Answer → Watch → Watch
-answeredBy a W = record {
-  bytes = W .bytes;
-  window = W .window;
-  ledger = W .ledger;
-  accepted = W .accepted;
-  answers = a ∷ W .answers;
-}
+never : false ≡ true → ⊥
+never x = let z : _≡_ {A = ℕ} 0 1 = cc in omega arith
 
 pub offer-idle : (w mask : ℕ) (clock labels : List ℕ) (W : Watch)
     → isAgain (offerCall w mask clock labels (W .bytes) .answer) ≡ true
@@ -98,13 +92,20 @@ pub offer-idle : (w mask : ℕ) (clock labels : List ℕ) (W : Watch)
 unfolding after offeredLedger acceptedBy
 offer-idle w mask clock labels W h = go (offer-case w mask clock labels (W .bytes))
   where
-    never : false ≡ true → ⊥
-    never x = let z : _≡_ {A = ℕ} 0 1 = cc in omega arith
-
     go : OfferCase w mask clock labels (W .bytes) → after w (offers mask clock labels) W ≡ answeredBy again W
     go (turned n some small other q) = absurd (never (rw q at h))
     go (repeats h7 r q) = rw q
     go (accepted h7 h8 h9 h42 h31 h32 h33 q) = absurd (never (rw q at h))
+
+only-again : (a : Answer) → isAgain a ≡ true → a ≡ again
+only-again again h = refl
+only-again (turnedBack n i) h = absurd (never h)
+only-again (state c t k) h = absurd (never h)
+only-again nothingReady h = absurd (never h)
+only-again (held n) h = absurd (never h)
+only-again (found i) h = absurd (never h)
+only-again absent h = absurd (never h)
+only-again (processClosed n) h = absurd (never h)
 
 idle : (w : ℕ) (c : Call) (W : Watch) → isAgain (lastOf (after w c W .answers)) ≡ true
     → after w c W ≡ answeredBy again W
@@ -116,6 +117,7 @@ idle w (takes cap more scratch) W h =
 idle w (finds line) W h =
     let z : _≡_ {A = Bool} true false = sym h ∙ find-other w line (W .bytes) (W .window) in
     let y : _≡_ {A = ℕ} 0 1 = cc in absurd (omega arith)
+idle w (mislends m) W h = ap (λ (a : Answer). answeredBy a W) (only-again (answerTo w m) h)
 idle w (closes p) W h =
     let z : _≡_ {A = Bool} true false = sym h ∙ close-other w p (W .bytes) (W .window) in
     let y : _≡_ {A = ℕ} 0 1 = cc in absurd (omega arith)
@@ -146,6 +148,13 @@ step w (finds line) Y Z S h = record {
   same-ledger = S .same-ledger;
   same-accepted = S .same-accepted;
   other-answers = rw (S .same-record, S .same-window, S .other-answers, h);
+}
+step w (mislends m) Y Z S h = record {
+  same-record = S .same-record;
+  same-window = S .same-window;
+  same-ledger = S .same-ledger;
+  same-accepted = S .same-accepted;
+  other-answers = rw (S .other-answers, h);
 }
 step w (closes p) Y Z S h = record {
   same-record = rw (S .same-record, S .same-window);

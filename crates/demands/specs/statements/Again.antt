@@ -14,7 +14,7 @@ use Rattle.numbers.specs.Refusal.{conflictNumber, takenNumber}
 use Rattle.answers.specs.Answer.{Answer, turnedBack, state, nothingReady, held, again, found, absent, processClosed}
 use Rattle.call_open.specs.Open.{openCall}
 use Rattle.call_offer.specs.Offer.{offeredEvent, offerCall}
-use Rattle.demands.specs.Run.{Call, offers, Passed, Watch, after, opened}
+use Rattle.demands.specs.Run.{Call, offers, Passed, Watch, answeredBy, after, opened}
 use Rattle.demands.specs.EveryList.{AfterEveryList, atEnd, NamesOpen}
 
 -- ---- The next offer
@@ -38,14 +38,7 @@ pub record AgainExact (w k : ℕ) (f : Formula) (start : Cut) (Z : Watch) : Type
       ↔ ((mask < 256) × List·Memᴰ (offeredEvent mask clock labels) (Z .ledger .pending))
   -- which changes nothing: the call is no more than an answer
   pub again-idle : (mask : ℕ) (clock labels : List ℕ) → offerCall w mask clock labels (Z .bytes) .answer ≡ again
-      → after w (offers mask clock labels) Z
-      ≡ record {
-        bytes = Z .bytes;
-        window = Z .window;
-        ledger = Z .ledger;
-        accepted = Z .accepted;
-        answers = again ∷ Z .answers;
-      }
+      → after w (offers mask clock labels) Z ≡ answeredBy again Z
   -- once the event is taken its repeat is 31, where its processes are open (statements/Close: 42 where one is closed)
   pub taken-again : (mask : ℕ) (clock labels : List ℕ) → Offerable w mask clock labels
       → In (offeredEvent mask clock labels) (Z .ledger .history) → NamesOpen Z (offeredEvent mask clock labels)

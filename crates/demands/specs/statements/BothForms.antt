@@ -7,13 +7,15 @@ use lib.ListN.{length}
 use Rattle.frontiers.specs.Bytes.{frontierLength}
 use Rattle.call_move.specs.Parts.{recordParts, windowParts}
 use Rattle.call_move.specs.Move.{moved}
-use Rattle.demands.specs.Run.{Call, offers, takes, finds, closes, Watch, run}
+use Rattle.demands.specs.Mislent.{Mislent, answerTo}
+use Rattle.demands.specs.Run.{Call, offers, takes, finds, closes, mislends, Watch, run}
 use Rattle.demands.specs.EveryList.{Accepts, EightBytes, AllPassed, atEnd}
 use Rattle.demands.specs.Written.{Written, movedTo}
 use Rattle.demands.specs.statements.Moves.{nextMove}
 
 -- A call for counts of v bytes and one for counts of w bytes: the same, but that what a take is lent, zeros and scratch,
--- has as many frontiers in the one form as in the other, and that the scratch may hold anything.
+-- has as many frontiers in the one form as in the other, and that the scratch may hold anything. Calls that were lent
+-- other buffers are of the same answer.
 abbrev pub SameCall : ℕ → ℕ → Call → Call → Type 0
 SameCall v w (offers mask clock labels) d = d ≡ offers mask clock labels
 SameCall v w (takes cap zeros scratch) d =
@@ -21,6 +23,7 @@ SameCall v w (takes cap zeros scratch) d =
     × (length scratch′ ≡ long * frontierLength w) × (d ≡ takes cap (more * frontierLength w) scratch′)
 SameCall v w (finds line) d = d ≡ finds line
 SameCall v w (closes p) d = d ≡ closes p
+SameCall v w (mislends m) d = (n : Mislent) × (d ≡ mislends n) × (answerTo v m ≡ answerTo w n)
 
 abbrev pub SameCalls : ℕ → ℕ → List Call → List Call → Type 0
 SameCalls v w [] ds = ds ≡ []
