@@ -53,6 +53,10 @@ SameClosed Y Z = (p : ℕ) → bit (Y .ledger .closed) p ≡ bit (Z .ledger .clo
 abbrev pub NamesOpen : Watch → Event → Type 0
 NamesOpen Z e = (p : ℕ) → involved e p ≡ true → Open (Z .ledger .closed) p
 
+-- Some process that takes part is closed.
+abbrev pub NamesClosed : (Z : Watch) (e : Event) → Type 0
+NamesClosed Z e = (p : ℕ) × (involved e p ≡ true) × (bit (Z .ledger .closed) p ≡ true)
+
 -- For every list of calls after an accepted open, with the formula f that the reader reads: P of the width of a count,
 -- the number of processes, f, the start labels and the watch at the list's end.
 abbrev pub AfterEveryList : (ℕ → ℕ → Formula → Cut → Watch → Type 0) → Type 0

@@ -15,3 +15,4 @@ pub mod TakeLowers
 pub mod AfterCall
 pub mod WindowRooms
 pub mod OfferByLedger
+pub mod Tests

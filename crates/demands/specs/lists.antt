@@ -19,6 +19,7 @@ pub mod Busiest
 pub mod Mislent
 pub mod WithoutAgains
 pub mod Again
+pub mod Offer
 pub mod Messages
 pub mod Earlier
 pub mod Close

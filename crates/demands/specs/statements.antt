@@ -5,6 +5,7 @@ pub mod TakeAnswers
 pub mod Balance
 pub mod Find
 pub mod Mislent
+pub mod Offer
 pub mod Again
 pub mod Messages
 pub mod Earlier

@@ -29,7 +29,8 @@ use Rattle.call_offer.specs.OfferCases.{named-case}
 use Rattle.demands.specs.Ledger.{Ledger}
 use Rattle.demands.specs.Run.{offers, closes, Passed, Watch, closedLedger, after}
 use Rattle.demands.specs.World.{Open, KeptNumber}
-use Rattle.demands.specs.statements.Close.{nextClose, RightWindow, Named, closedWith, NamesClosed, CloseExact, CloseIsExact}
+use Rattle.demands.specs.EveryList.{NamesClosed}
+use Rattle.demands.specs.statements.Close.{nextClose, RightWindow, Named, closedWith, CloseExact, CloseIsExact}
 use Rattle.demands.specs.calls.CloseLaws.{gs, closed-are, closed-represents, still-open, other-open}
 use Rattle.demands.specs.calls.KeptCutsLaws.{number-unique, represented-number}
 use Rattle.demands.specs.calls.OfferLaws.{offered-faultless}

@@ -12,6 +12,7 @@ use Rattle.window_laws.specs.Represents.{World, modelOf, wordOf, frontierOf}
 use Rattle.frontiers.specs.Bytes.{frontiers}
 use Rattle.rules.specs.Line.{linesAt}
 use Rattle.pactl.specs.Truth.{lineTruth}
+use Rattle.rules.specs.lines.LineLaws.{length-linesAt}
 use Rattle.rules.specs.lines.LinesMean.{rule-means}
 use Rattle.rules.specs.Formula.{Formula}
 use Rattle.clocks.specs.Event.{Cut}
@@ -64,8 +65,10 @@ module _ (w k : ℕ) (f : Formula) (start : Cut) (Z : Watch) (S : Sound w k f st
         no-more-bits = λ C i l.
             bit-above (wordOf (length table) (λ j. lineTruth (modelOf W ts) table j C)) (length table) i
             (wordOf-lt (length table) (λ j. lineTruth (modelOf W ts) table j C)) l;
-        rule-true = rule-means (modelOf W ts) f;
+        rule-true =
+            ap (λ (n : ℕ). lineTruth (modelOf W ts) table (n - 1)) (length-linesAt 0 f) ∙ rule-means (modelOf W ts) f;
         history-true = X .right .by-rule;
+        pending-formed = X .right .formed;
         pending-ordered = X .ordered;
         pending-apart = X .clear;
         closed-below = X .closed-below;

@@ -21,7 +21,7 @@ use Rattle.call_offer.specs.Offer.{offeredEvent, offerCall}
 use Rattle.demands.specs.Ledger.{Ledger}
 use Rattle.demands.specs.Run.{Call, offers, closes, Passed, Watch, after, run}
 use Rattle.demands.specs.World.{Open, Stays, KeptNumber}
-use Rattle.demands.specs.EveryList.{AllPassed, AfterEveryList}
+use Rattle.demands.specs.EveryList.{AllPassed, AfterEveryList, NamesClosed}
 
 -- ---- The next close
 
@@ -44,10 +44,6 @@ closedWith L p = record {
   falsified = L .falsified;
   closed = closing (L .closed) p;
 }
-
--- The event names a closed process.
-abbrev pub NamesClosed : Watch → Event → Type 0
-NamesClosed Z e = (p : ℕ) × (involved e p ≡ true) × (bit (Z .ledger .closed) p ≡ true)
 
 pub record CloseExact (w k : ℕ) (f : Formula) (start : Cut) (Z : Watch) : Type 0 where
   pub wrong-length : (p : ℕ)

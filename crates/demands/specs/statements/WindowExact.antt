@@ -9,13 +9,13 @@ use lib.ListN.{length}
 use Rattle.frontiers.specs.declared.Frontier.{Frontier}
 use Rattle.codec.specs.Bit.{bit}
 use Rattle.frontiers.specs.Bytes.{frontiers, windowBytes}
-use Rattle.rules.specs.Line.{lineCount, linesAt}
+use Rattle.rules.specs.Line.{linesAt}
 use Rattle.pactl.specs.Truth.{holds, lineTruth}
 use Rattle.rules.specs.Formula.{Formula, meaning}
 use Rattle.clocks.specs.declared.Event.{Event}
 use Rattle.clocks.specs.Event.{Cut}
 use Rattle.clocks.specs.History.{taken, Consistent}
-use Rattle.clocks.specs.Valid.{History}
+use Rattle.clocks.specs.Valid.{History, WellFormed}
 use Rattle.records.specs.Record.{keptCount}
 use Rattle.refusals.specs.Refusals.{badState}
 use Rattle.answers.specs.Answer.{turnedBack, nothingReady}
@@ -50,10 +50,13 @@ pub record WindowExact (w k : ℕ) (f : Formula) (start : Cut) (Z : Watch) : Typ
   pub no-more-bits : (S : Cut) (i : ℕ) → length (linesAt 0 f) ≤ i
       → bit (frontierAfter k f start (Z .ledger .history) S .values) i ≡ false
   -- the last line is the rule: the truth, by source 000, of the formula whose text was opened
-  pub rule-true : lineTruth (modelAfter k f start (Z .ledger .history)) (linesAt 0 f) (lineCount f - 1)
+  pub rule-true : lineTruth (modelAfter k f start (Z .ledger .history)) (linesAt 0 f)
+      (length (linesAt 0 f) - 1)
       ≡ holds (modelAfter k f start (Z .ledger .history)) (meaning f)
   -- the taken events are a history: each was ready and had a true clock when it was taken
   pub history-true : History k Valid (Z .ledger .history)
+  -- each pending event names processes that there are, and counts no other (MessagesExact: clock-exactly asks for it)
+  pub pending-formed : (e : Event) → List·Memᴰ e (Z .ledger .pending) → WellFormed k e
   -- the pending events stand in the order of lowest process and count, and no two have the same count at a common
   -- process
   pub pending-ordered : Ordered (Z .ledger .pending)
