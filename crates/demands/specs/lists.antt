@@ -4,6 +4,7 @@ pub mod Reports
 pub mod LedgerBalance
 pub mod AnswerCounts
 pub mod SoundRun
+pub mod VerdictsTrue
 pub mod Balance
 pub mod Delivery
 pub mod Examples

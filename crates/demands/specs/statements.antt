@@ -1,5 +1,6 @@
 -- What is stated of every list of calls, with no proofs.
 pub mod WindowExact
+pub mod Verdicts
 pub mod OrderIndependent
 pub mod TakeAnswers
 pub mod Balance
@@ -13,4 +14,6 @@ pub mod Close
 pub mod Page
 pub mod Busiest
 pub mod Moves
+pub mod EveryWatch
 pub mod BothForms
+pub mod Examples

@@ -1,4 +1,4 @@
--- Every watch that calls and moves alone wrote is sound, and so all that is proved of sound watches is true of it.
+-- Every watch that calls and moves alone wrote is sound; and what its next move answers.
 use Prim.Native.Nat.{ℕ, _<_}
 use native.Mathlib.Omega.{arith}
 use mathlib.Core.Path.{_≡_, refl, sym, _∙_}
@@ -16,26 +16,14 @@ use Rattle.refusals.specs.Refusals.{roomOf, badState, badWindowLength}
 use Rattle.call_move.specs.Move.{badLengths, overflows, moveCall}
 use Rattle.call_move.specs.MoveCases.{passes, number-6, number-43, number-0}
 use Rattle.call_move.specs.LengthLaws.{right-lengths}
-use Rattle.demands.specs.Run.{Call, Watch, after, run, opened}
-use Rattle.demands.specs.EveryList.{EightBytes, AllPassed, atEnd}
+use Rattle.demands.specs.Run.{Call, Watch, after, run}
+use Rattle.demands.specs.EveryList.{EightBytes, AllPassed}
 use Rattle.demands.specs.Written.{Written, movedTo, opens, calls, moves, OfEveryWatch}
 use Rattle.demands.specs.calls.MoveLaws.{rule-moved, moved-right, kept-within, no-overflow, all-fit, fit-all, fit-where, record-bytes, window-bytes}
 use Rattle.call_move.specs.MoveTheorem.{move-exact}
-use Rattle.call_open.specs.Open.{openCall}
 use Rattle.demands.specs.calls.WatchingLaws.{never-34}
-use Rattle.demands.specs.lists.WindowExact.{window-exact-of}
-use Rattle.demands.specs.lists.TakeAnswers.{take-exact-of}
-use Rattle.demands.specs.lists.Find.{find-exact-of}
-use Rattle.demands.specs.lists.Page.{page-shows-of}
-use Rattle.demands.specs.lists.Busiest.{busiest-kept-of}
-use Rattle.demands.specs.lists.Close.{close-exact-of}
-use Rattle.demands.specs.lists.Dropped.{stays-dropped-of}
-use Rattle.demands.specs.lists.Again.{again-exact-of}
-use Rattle.demands.specs.lists.Messages.{messages-exact-of}
-use Rattle.demands.specs.lists.Balance.{balanced-of}
 use Rattle.demands.specs.lists.SoundRun.{Sound, SoundAsRead, after-sound, sound-run}
-use Rattle.demands.specs.lists.OrderIndependent.{alike-as-read}
-use Rattle.demands.specs.statements.Moves.{nextMove, RightMove, CountsFit, MoveAnswers, WatchExact, EveryWatchIsExact, ExactAfterAMove, OrderIndependentWithMoves}
+use Rattle.demands.specs.statements.Moves.{nextMove, RightMove, CountsFit, MoveAnswers}
 
 -- ---- Soundness
 
@@ -171,37 +159,3 @@ module _ (v w k : ℕ) (f : Formula) (start : Cut) (Z : Watch) (S : Sound v k f 
       one-of (short n a) = inl a
       one-of (wide r n a) = inr (inl a)
       one-of (fine r c a) = inr (inr a)
-
--- ---- Theorem
-
-exact-of : (w k : ℕ) (f : Formula) (start : Cut) (Z : Watch) → Sound w k f start Z → WatchExact w k f start Z
-exact-of w k f start Z S = record {
-  window = window-exact-of w k f start Z S;
-  takes = take-exact-of w k f start Z S;
-  finds = find-exact-of w k f start Z S;
-  pages = page-shows-of w k f start Z S;
-  busiest = busiest-kept-of w k f start Z S;
-  closes = close-exact-of w k f start Z S;
-  dropped = stays-dropped-of w k f start Z S;
-  agains = again-exact-of w k f start Z S;
-  messages = messages-exact-of w k f start Z S;
-  moves = λ to t target. move-answers w to k f start Z S t target;
-  verdicts = S .reporting .truthful;
-  balance = balanced-of w k f start Z S;
-}
-
-pub every-watch-exact : EveryWatchIsExact
-every-watch-exact = every-watch _ exact-of
-
-pub exact-after-a-move : ExactAfterAMove
-exact-after-a-move v w pos pos′ text k labels eight s window a cs p t target q ds r =
-    let W = atEnd v text k labels s window cs in
-    every-watch-exact text k labels eight w (run w ds (movedTo (nextMove v w W t target) W))
-    (run-written text k labels w ds r (movedTo (nextMove v w W t target) W)
-    (moves v w pos′ W
-    (run-written text k labels v cs p (opened (openCall v text k labels s window)) (opens v pos s window a)) t target
-    q))
-
-pub order-independent-with-moves : OrderIndependentWithMoves
-order-independent-with-moves text k labels eight w Y Z y z =
-    alike-as-read w text k labels Y Z (written-sound text k labels eight w Y y) (written-sound text k labels eight w Z z)

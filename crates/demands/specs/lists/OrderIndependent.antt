@@ -47,8 +47,6 @@ use Rattle.frontiers.specs.WindowLaws.{length-framed}
 use Rattle.demands.specs.statements.OrderIndependent.{Alike, OrderIndependent}
 use Rattle.demands.specs.lists.WindowExact.{window-exact-of}
 use Rattle.demands.specs.lists.Find.{answered, searched}
-use Rattle.demands.specs.lists.Page.{printed, judged}
-use Rattle.call_page.specs.Page.{pageCall}
 use Rattle.demands.specs.calls.ValidRule.{valid-rule}
 
 -- ---- Proof
@@ -139,15 +137,6 @@ module _ (w k : ℕ) (f : Formula) (start : Cut) (Y Z : Watch) (S : Sound w k f 
       ∙ ap (λ (s : List ℕ). answered line s (frontiers w (Z .window) (keptCount (Z .bytes)))) bytes-alike
       ∙ sym (searched w k f start Z T′ h′ line)
 
-  -- and so are the rows of a page
-  pages-alike : badWindowLength w (length (Y .window)) ≡ false → badWindowLength w (length (Z .window)) ≡ false
-      → (page : List ℕ) → pageCall w (Y .bytes) (Y .window) page ≡ pageCall w (Z .bytes) (Z .window) page
-  pages-alike h h′ page =
-      judged w k f start Y S h page
-      ∙ ap (λ (fs : List Frontier). printed (Y .bytes) fs page) frontiers-alike
-      ∙ ap (λ (s : List ℕ). printed s (frontiers w (Z .window) (keptCount (Z .bytes))) page) bytes-alike
-      ∙ sym (judged w k f start Z T′ h′ page)
-
   -- a cut that both reported: PaCTL's truth there is the same in both histories
   verdict-alike : (counts : List ℕ) (t u : Bool) → TrueVerdict k f start (Y .ledger .history) counts t
       → TrueVerdict k f start (Z .ledger .history) counts u → t ≡ u
@@ -173,7 +162,6 @@ module _ (w k : ℕ) (f : Formula) (start : Cut) (Y Z : Watch) (S : Sound w k f 
     same-window = kept-bytes Y (S .right) ∙ ap (framed w) kept-alike ∙ sym (kept-bytes Z (T′ .right));
     same-frontiers = frontiers-alike;
     same-finds = finds-alike;
-    same-pages = pages-alike;
     first-exact = window-exact-of w k f start Y S;
     second-exact = window-exact-of w k f start Z T′;
     same-events-taken = λ e. (same .there e, same .back e);

@@ -1,6 +1,6 @@
 -- Independence of order (demand 3; 02 [5]): two lists of calls that accepted the same events, in whatever order, closed
--- the same processes, wherever in the lists, and both end with "nothing ready", end alike. Proved in
--- lists/OrderIndependent.
+-- the same processes, wherever in the lists, and both end with "nothing ready", end alike; and so with moves among the
+-- calls (02 [6]). Proved in lists/OrderIndependent and forms/EveryWatch.
 use Prim.Native.Nat.{ℕ, _*_, _<_}
 use mathlib.Core.Path.{_≡_}
 use mathlib.Core.Bool.{Bool, false}
@@ -19,11 +19,11 @@ use Rattle.records.specs.Record.{keptCount}
 use Rattle.refusals.specs.Refusals.{badWindowLength}
 use Rattle.answers.specs.Answer.{state}
 use Rattle.call_find.specs.Find.{findCall}
-use Rattle.call_page.specs.Page.{pageCall}
 use Rattle.demands.specs.Ledger.{Settled}
 use Rattle.demands.specs.Run.{Watch, Call}
 use Rattle.demands.specs.Verdict.{Truthful}
 use Rattle.demands.specs.EveryList.{Accepts, EightBytes, AllPassed, atEnd, EndsQuiet, SameAccepted, SameClosed}
+use Rattle.demands.specs.Written.{Written}
 use Rattle.demands.specs.statements.WindowExact.{WindowExact}
 
 -- What is shown of the two watches at the ends.
@@ -36,9 +36,6 @@ pub record Alike (w k : ℕ) (f : Formula) (start : Cut) (Y Z : Watch) : Type 0 
   -- so a find answers alike of every line, where both windows have right lengths (02 [4])
   pub same-finds : badWindowLength w (length (Y .window)) ≡ false → badWindowLength w (length (Z .window)) ≡ false
       → (line : ℕ) → findCall w line (Y .bytes) (Y .window) ≡ findCall w line (Z .bytes) (Z .window)
-  -- and a page, in a buffer of the same bytes, is the same (02 [7])
-  pub same-pages : badWindowLength w (length (Y .window)) ≡ false → badWindowLength w (length (Z .window)) ≡ false
-      → (page : List ℕ) → pageCall w (Y .bytes) (Y .window) page ≡ pageCall w (Z .bytes) (Z .window) page
   -- these are what demand 2 states
   pub first-exact : WindowExact w k f start Y
   pub second-exact : WindowExact w k f start Z
@@ -66,3 +63,12 @@ OrderIndependent =
     → SameClosed (atEnd w text k labels s window cs) (atEnd w text k labels s′ window′ cs′)
     → (f : Formula) × (i : ℕ) × (readRule text k ≡ formed i f) × (textOf f ≡ text)
     × Alike w k f (at labels) (atEnd w text k labels s window cs) (atEnd w text k labels s′ window′ cs′)
+
+-- Of two watches that come to one form: whatever moves stand among the calls of either, the same accepted
+-- events, the same closed processes and "nothing ready" at both ends make them alike.
+abbrev pub OrderIndependentWithMoves : Type 0
+OrderIndependentWithMoves =
+    (text : List ℕ) (k : ℕ) (labels : List ℕ) → EightBytes labels
+    → (w : ℕ) (Y Z : Watch) → Written text k labels w Y → Written text k labels w Z
+    → EndsQuiet Y → EndsQuiet Z → SameAccepted Y Z → SameClosed Y Z
+    → (f : Formula) × (i : ℕ) × (readRule text k ≡ formed i f) × (textOf f ≡ text) × Alike w k f (at labels) Y Z
