@@ -20,7 +20,8 @@ use Rattle.clocks.specs.stored.RefusalLaws.{mask-fine, fault-0}
 use Rattle.clocks.specs.stored.KeyLaws.{lowest-lt, lowest-involved}
 use Rattle.clocks.specs.stored.BoundedLaws.{and-l, and-r, all-e, any-i, any-of-i, any-of-e}
 use Rattle.clocks.specs.Counts.{at}
-use Rattle.clocks.specs.Refusal.{badMask, badClock, badLabels, eventFault}
+use Rattle.clocks.specs.Refusal.{badMask, badClock, badLabels}
+use Rattle.clocks.specs.RefusalCode.{eventFault}
 use Rattle.records.specs.Record.{processCount, pendingCount, closedMask, takenCounts, pendingAt, pendingEvents, inserted, recordLength}
 use Rattle.refusals.specs.Refusals.{badRecordLength, badState, namesClosed, alreadyTaken, conflicts, conflicting}
 use Rattle.answers.specs.Answer.{turnedBack, held, again, replyWord}

@@ -5,7 +5,7 @@ use mathlib.Core.List.{List}
 use lib.Dec.{leb, eqb}
 use lib.ListN.{length}
 use Rattle.clocks.specs.Counts.{at}
-use Rattle.clocks.specs.Refusal.{eventFault}
+use Rattle.clocks.specs.RefusalCode.{eventFault}
 use Rattle.records.specs.Record.{processCount, pendingCount, closedMask, takenCounts, pendingEvents}
 use Rattle.refusals.specs.Refusals.{badRecordLength, badState, namesClosed, alreadyTaken, conflicting}
 use Rattle.repeats.specs.Repeats.{repeated}

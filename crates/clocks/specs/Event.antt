@@ -1,5 +1,5 @@
 -- Events and cuts: when an event may be taken, and where it leads (01, Clocks and cuts).
-use Prim.Native.Nat.{ℕ, _+_, _-_, _≤_, max, min}
+use Prim.Native.Nat.{ℕ, _+_, _-_, _≤_}
 use mathlib.Core.Path.{_≡_}
 use mathlib.Core.Bool.{Bool, true, false}
 use lib.ListN.{getD}
@@ -49,14 +49,6 @@ less e S p = S p - one (involved e p)
 unfoldable pub lowered : Event → Cut
 lowered e = less e (count e)
 
--- ---- Cuts count by count
-
--- The cut of zeros; the larger and the smaller of two cuts.
+-- The cut of zeros.
 abbrev pub zeros : Cut
 zeros p = 0
-
-abbrev pub upper : Cut → Cut → Cut
-upper S R p = max (S p) (R p)
-
-abbrev pub lower : Cut → Cut → Cut
-lower S R p = min (S p) (R p)

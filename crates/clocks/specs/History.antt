@@ -7,7 +7,7 @@ use mathlib.Core.Option.{Option, none, some}
 use lib.Dec.{T, eqb}
 use lib.ListN.{getD}
 use Rattle.clocks.specs.declared.Event.{Event}
-use Rattle.clocks.specs.Event.{Cut, one, involved, count, Ready, apply, lowered}
+use Rattle.clocks.specs.Event.{Cut, one, involved, count, Ready, apply}
 
 -- How many of the events each process took part in (01: taken counts).
 unfoldable pub taken : List Event → Cut
@@ -69,14 +69,3 @@ pub record Precedes (ts : List Event) (S′ S : Cut) : Type 0 where
 -- Some process takes part.
 abbrev pub Occupied : Event → Type 0
 Occupied e = (p : ℕ) × T (involved e p)
-
--- The event may be taken after the history: it is ready, and what it knows of is a consistent cut.
-pub record Follows (ts : List Event) (e : Event) : Type 0 where
-  pub occupied : Occupied e
-  pub ready : Ready e (taken ts)
-  pub knows : Consistent ts (lowered e)
-
--- Each event of the history followed those before it. All that is true of cuts rests on this alone.
-abbrev pub Causal : List Event → Type 0
-Causal [] = Unit {0}
-Causal (e ∷ ts) = Follows ts e × Causal ts

@@ -1,24 +1,16 @@
 -- The join of clocks, and the rule for valid clocks that it gave before events knew of messages (01, Clocks and cuts:
 -- its clock is true). 02 [2] put another in its place; what this one grants is still granted (validity/JoinedClock).
 use Prim.Native.Nat.{ℕ, zero, suc, _+_, max}
-use mathlib.Core.Path.{_≡_}
 use mathlib.Core.Bool.{Bool, cond}
-use mathlib.Core.List.{List}
 use lib.Dec.{eqb}
 use Rattle.clocks.specs.declared.Event.{Event}
 use Rattle.clocks.specs.Event.{Cut, one, involved, count}
-use Rattle.clocks.specs.History.{lastClock}
 use Rattle.clocks.specs.Bounded.{allBelow}
 
 -- The largest, count by count, of the clocks of those of the first n processes that are members.
 unfoldable pub joinTo : ℕ → (ℕ → Bool) → (ℕ → Cut) → Cut
 joinTo zero member last q = 0
 joinTo (suc p) member last q = cond (member p) (max (last p q) (joinTo p member last q)) (joinTo p member last q)
-
--- The clock is the largest of the last clocks of the processes that take part, plus 1 at those processes. The processes
--- are the first n.
-pub record Joined (n : ℕ) (ts : List Event) (e : Event) : Type 0 where
-  pub each : (q : ℕ) → count e q ≡ joinTo n (involved e) (lastClock ts) q + one (involved e q)
 
 -- The same as a test, of last clocks that stand somewhere.
 unfoldable pub joinedBy : ℕ → Event → (ℕ → Cut) → Bool

@@ -1,16 +1,13 @@
--- Which cuts a window keeps (01, The window: dropped; 02 [5]), and the condition of source 000 that it is compared with.
-use Prim.Native.Nat.{ℕ, zero, suc, _<_}
+-- Which cuts a window keeps (01, The window: dropped; 02 [5]), as the laws of cuts have it.
+use Prim.Native.Nat.{ℕ, _<_}
 use mathlib.Core.Path.{_≡_}
-use mathlib.Core.Bool.{Bool, true, _&&_, _||_}
+use mathlib.Core.Bool.{Bool, true}
 use mathlib.Core.List.{List}
 use mathlib.Core.Logic.{_⊎_}
 use lib.Dec.{T}
-use lib.ListN.{length}
 use Rattle.clocks.specs.declared.Event.{Event}
 use Rattle.clocks.specs.History.{taken, Consistent}
-use Rattle.clocks.specs.Event.{Cut, involved, apply}
-use Rattle.clocks.specs.Bounded.{allBelow, anyOf}
-use Rattle.clocks.specs.Tested.{ready}
+use Rattle.clocks.specs.Event.{Cut}
 
 -- Some open process among the first k has all its taken events in the cut.
 abbrev pub Complete : ℕ → (ℕ → Bool) → List Event → Cut → Type 0
@@ -35,17 +32,3 @@ abbrev pub Dropped : ℕ → List Event → Cut → Type 0
 Dropped k ts S = (p : ℕ) → p < k → S p < taken ts p
 
 -- ---- Source 000, section 3
-
--- Each of the k processes takes part in a taken event that is enabled at the cut.
-unfoldable pub served : ℕ → List Event → Cut → Bool
-served k ts S = allBelow k (λ p. anyOf (λ f. involved f p && ready k f S) ts)
-
--- The source's sufficient condition for dropping, followed at most d events ahead: every process is served, or an
--- enabled event leads to a cut that meets the condition.
-unfoldable pub redundantWithin : ℕ → ℕ → List Event → Cut → Bool
-redundantWithin zero k ts S = served k ts S
-redundantWithin (suc d) k ts S = served k ts S || anyOf (λ f. ready k f S && redundantWithin d k ts (apply f S)) ts
-
--- ... as far ahead as there are events.
-unfoldable pub redundant : ℕ → List Event → Cut → Bool
-redundant k ts S = redundantWithin (length ts) k ts S

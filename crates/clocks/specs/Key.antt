@@ -1,7 +1,5 @@
 -- The order of the pending events: by lowest process, and then its count (01, The window: held events).
-use Prim.Native.Nat.{ℕ, _<_}
-use mathlib.Core.Path.{_≡_}
-use mathlib.Core.Logic.{_⊎_}
+use Prim.Native.Nat.{ℕ}
 use mathlib.Core.Bool.{Bool, _&&_, _||_}
 use lib.Dec.{ltb, eqb}
 use lib.Count.{trailingZeros}
@@ -22,7 +20,3 @@ keyOf e = record { process = lowest e; count = at (e .clock) (lowest e) }
 -- One key comes before another: a lower process, or the same one and a lower count.
 unfoldable pub keyBefore : Key → Key → Bool
 keyBefore a b = ltb (a .process) (b .process) || (eqb (a .process) (b .process) && ltb (a .count) (b .count))
-
--- The same, as a statement.
-abbrev pub Before : Key → Key → Type 0
-Before a b = (a .process < b .process) ⊎ ((a .process ≡ b .process) × (a .count < b .count))

@@ -2,7 +2,7 @@
 -- 8, 9).
 use Prim.Native.Nat.{ℕ, _<_}
 use mathlib.Core.Path.{_≡_}
-use mathlib.Core.Bool.{Bool, true, false, cond, not, _&&_, _||_}
+use mathlib.Core.Bool.{Bool, true, false, not, _&&_, _||_}
 use mathlib.Core.List.{List}
 use lib.Dec.{leb, eqb}
 use Rattle.codec.specs.Bit.{bit}
@@ -11,7 +11,6 @@ use Rattle.clocks.specs.Event.{involved, count}
 use Rattle.clocks.specs.Valid.{WellFormed}
 use Rattle.clocks.specs.Bounded.{anyBelow}
 use Rattle.clocks.specs.Counts.{at}
-use Rattle.numbers.specs.Refusal.{clockNumber, labelsNumber, maskNumber}
 
 -- 7: the mask, a word of 64 bits, is 0, or has a bit from k up.
 unfoldable pub badMask : ℕ → ℕ → Bool
@@ -39,10 +38,6 @@ badLabels m labels = anyBelow 8 (badLabel m labels)
 -- 9, at open: a label byte not 0 from process k up.
 unfoldable pub badStart : ℕ → List ℕ → Bool
 badStart k labels = anyBelow 8 (badStartLabel k labels)
-
--- The number that an event is turned back with, in their order; 0 for none (01: order of offer, 7, 8, 9).
-unfoldable pub eventFault : ℕ → ℕ → List ℕ → List ℕ → ℕ
-eventFault k m clock labels = cond (badMask k m) maskNumber (cond (badClock k m clock) clockNumber (cond (badLabels m labels) labelsNumber 0))
 
 -- An event that none of the three turns back, in plain words.
 pub record Faultless (k : ℕ) (e : Event) : Type 0 where

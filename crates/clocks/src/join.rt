@@ -3,7 +3,7 @@
 ghost use Prim.Native.Nat.{max};
 ghost use mathlib.Core.Path.{_≡_};
 ghost use Rattle.codec.specs.Bit.{bit};
-ghost use Rattle.clocks.specs.Event.{upper};
+ghost use Rattle.clocks.specs.Bounds.{upper};
 ghost use Rattle.clocks.specs.Joined.{joinTo};
 ghost use Rattle.clocks.specs.Counts.{at, listOf, rows};
 

@@ -7,7 +7,8 @@ ghost use Prim.Native.Nat.{_≤_};
 ghost use mathlib.Core.Path.{_≡_};
 ghost use mathlib.Core.Bool.{not, _&&_, _||_};
 ghost use lib.Dec.{eqb};
-ghost use Rattle.clocks.specs.Refusal.{badMask, badClock, badLabels, badStart, eventFault};
+ghost use Rattle.clocks.specs.Refusal.{badMask, badClock, badLabels, badStart};
+ghost use Rattle.clocks.specs.RefusalCode.{eventFault};
 
 // 7: the mask is 0, or has a bit from k up.
 pub fn bad_mask(k: u32, mask: u64) -> bool

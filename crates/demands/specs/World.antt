@@ -4,7 +4,7 @@ use Prim.Native.Nat.{ℕ, _<_}
 use mathlib.Core.List.{List, List·Memᴰ}
 use Rattle.pactl.specs.declared.Line.{Line}
 use Rattle.clocks.specs.declared.Event.{Event}
-use Rattle.window_laws.specs.Represents.{World, Sorted, modelOf, frontierOf}
+use Rattle.window_laws.specs.FrontierOf.{World, Sorted, modelOf, frontierOf}
 use Rattle.clocks.specs.Event.{Cut}
 use Rattle.clocks.specs.History.{taken, lastClock, Consistent}
 use Rattle.clocks.specs.Valid.{Known}

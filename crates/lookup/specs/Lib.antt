@@ -4,6 +4,7 @@
 pub mod Order
 pub mod Seek
 -- What is proved of them
+pub mod Ascending
 pub mod OrderLaws
 pub mod SeekLaws
 pub mod KeyLaws

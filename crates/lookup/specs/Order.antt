@@ -1,9 +1,8 @@
 -- The order of frontiers in a window: by counts, process 0 compared first (01, The window).
-use Prim.Native.Nat.{ℕ, _<_}
+use Prim.Native.Nat.{ℕ}
 use mathlib.Core.Bool.{Bool, true, false, _&&_, _||_}
 use mathlib.Core.List.{List, [], _∷_}
-use lib.Dec.{T, ltb, eqb}
-use lib.ListN.{length, getD}
+use lib.Dec.{ltb, eqb}
 
 -- A list of counts stands before another of the same length.
 unfoldable pub before : List ℕ → List ℕ → Bool
@@ -17,7 +16,3 @@ same [] [] = true
 same [] (y ∷ ys) = false
 same (x ∷ xs) [] = false
 same (x ∷ xs) (y ∷ ys) = eqb x y && same xs ys
-
--- Each list stands before all that follow it.
-abbrev pub Ascending : List (List ℕ) → Type 0
-Ascending xs = (i j : ℕ) → i < j → j < length xs → T (before (getD xs i []) (getD xs j []))

@@ -13,7 +13,8 @@ use Rattle.clocks.specs.cuts.EventLaws.{T-true}
 use Rattle.lookup.specs.Seek.{standing, standsTo, bisect, gallop, seek}
 use Rattle.lookup.specs.declared.Standing.{Standing}
 use Rattle.lookup.specs.declared.Standing.the-variants.{Before, Same, Behind}
-use Rattle.lookup.specs.Order.{Ascending, before, same}
+use Rattle.lookup.specs.Order.{before, same}
+use Rattle.lookup.specs.Ascending.{Ascending}
 use Rattle.lookup.specs.OrderLaws.{same-e, same-refl, before-asym, before-differ}
 use Rattle.frontiers.specs.ListLaws.{place-member, member-place}
 

@@ -5,14 +5,6 @@ use Prim.Native.Nat.{ℕ}
 abbrev pub mostFrontiers : ℕ
 mostFrontiers = 1024
 
--- Lines of a table.
-abbrev pub mostLines : ℕ
-mostLines = 64
-
--- Pending events of a record.
-abbrev pub mostPending : ℕ
-mostPending = 32
-
 -- Processes of a watch.
 abbrev pub mostProcesses : ℕ
 mostProcesses = 8

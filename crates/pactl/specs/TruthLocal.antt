@@ -9,7 +9,8 @@ use mathlib.Core.List.{List, [], _∷_, _++_}
 use lib.Dec.{T, eqb}
 use lib.ListN.{getD}
 use Rattle.clocks.specs.declared.Event.{Event}
-use Rattle.clocks.specs.History.{labelOf, Consistent, Agree, Causal}
+use Rattle.clocks.specs.History.{labelOf, Consistent, Agree}
+use Rattle.clocks.specs.Causal.{Causal}
 use Rattle.clocks.specs.Event.{Cut}
 use Rattle.clocks.specs.validity.ClockRule.{history-causal}
 use Rattle.clocks.specs.Bounded.{anyOf}

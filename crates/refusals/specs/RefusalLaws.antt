@@ -15,7 +15,8 @@ use Rattle.clocks.specs.Bounded.{anyBelow}
 use Rattle.pactl.specs.Table.{goodTable}
 use Rattle.frontiers.specs.Bytes.{frontierLength}
 use Rattle.records.specs.Record.{processCount, lineTotal, pendingCount, keptCount, tableLines, recordLength}
-use Rattle.refusals.specs.Refusals.{badProcesses, badState, badRecordLength, badWindowLength, badNumbers, roomOf, namesClosed}
+use Rattle.refusals.specs.Refusals.{badProcesses, badState, badRecordLength, badWindowLength, roomOf, namesClosed}
+use Rattle.refusals.specs.RefusalCode.{badNumbers}
 use Rattle.clocks.specs.stored.BoundedLaws.{or-false-e}
 use Rattle.clocks.specs.stored.BoundedTurns.{any-false-i, any-false-e}
 use native.Mathlib.Decide.{decLt}

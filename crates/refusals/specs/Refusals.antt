@@ -64,8 +64,3 @@ namedBy p es = anyOf (λ e. involved e p) es
 -- 42, of an offer: the event names a closed process (02 [5]).
 unfoldable pub namesClosed : ℕ → Event → Bool
 namesClosed closed e = anyBelow 8 (λ p. involved e p && bit closed p)
-
--- The record's numbers: k not 1 to 8, more than 32 pending, lines not 1 to 64, kept not 1 to 1,024 or above the room.
-unfoldable pub badNumbers : ℕ → ℕ → ℕ → ℕ → ℕ → Bool
-badNumbers k pending lines kept room =
-    badProcesses k || (ltb 32 pending || (eqb lines 0 || (ltb 64 lines || (eqb kept 0 || (ltb 1024 kept || ltb room kept)))))

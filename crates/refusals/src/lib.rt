@@ -22,7 +22,8 @@ ghost use lib.ListN.{length};
 ghost use Rattle.clocks.specs.Counts.{at};
 ghost use Rattle.frontiers.specs.Width.{Width};
 ghost use Rattle.records.specs.Record.{recordLength};
-ghost use Rattle.refusals.specs.Refusals.{badRecordLength, badWindowLength, roomOf, badProcesses, badState, alreadyTaken, namesClosed, badNumbers};
+ghost use Rattle.refusals.specs.Refusals.{badRecordLength, badWindowLength, roomOf, badProcesses, badState, alreadyTaken, namesClosed};
+ghost use Rattle.refusals.specs.RefusalCode.{badNumbers};
 ghost use Rattle.refusals.specs.RefusalCode.{watchFault};
 ghost use Rattle.refusals.specs.Refusals as conditions;
 

@@ -19,7 +19,8 @@ use Rattle.pactl.specs.Table.{tableBytes}
 use Rattle.rules.specs.Text.{byteAt}
 use Rattle.rules.specs.Laying.{lay, Laid, hasTrue, closeRead, LaidDown, Done}
 use Rattle.rules.specs.Formula.{Formula}
-use Rattle.rules.specs.Reader.{expect, closeAt, readOf, formed, refused}
+use Rattle.rules.specs.Reader.{expect, closeAt, formed, refused}
+use Rattle.rules.specs.ReaderCode.{readOf}
 
 pub length-lay : (bytes : List ℕ) (n : ℕ) (ls : List Line) → length (lay bytes n ls) ≡ length bytes
 unfolding lay

@@ -16,7 +16,8 @@ use Rattle.rules.specs.declared.DigitRead.the-variants.{Digit, NoDigit}
 use Rattle.rules.specs.Line.{linesAt}
 use Rattle.pactl.specs.Table.{tableBytes}
 use Rattle.rules.specs.Text.{byteAt}
-use Rattle.rules.specs.Reader.{Reading, formed, refused, readOf}
+use Rattle.rules.specs.Reader.{Reading, formed, refused}
+use Rattle.rules.specs.ReaderCode.{readOf}
 
 -- A table's bytes with lines laid down from line n on.
 unfoldable pub lay : List ℕ → ℕ → List Line → List ℕ

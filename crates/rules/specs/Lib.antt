@@ -9,6 +9,7 @@ pub mod Fault
 pub mod RuleTable
 -- What the reader's functions' contracts cite
 pub mod Laying
+pub mod ReaderCode
 -- What is proved
 pub mod lines
 pub mod reading

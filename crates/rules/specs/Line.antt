@@ -1,8 +1,6 @@
 -- The lines laid down for a form.
 use Prim.Native.Nat.{ℕ, _+_, _-_}
-use mathlib.Core.Bool.{cond, _||_}
 use mathlib.Core.List.{List, [], _∷_, _++_}
-use lib.Dec.{eqb}
 use lib.ListN.{length}
 use Rattle.pactl.specs.declared.Line.{Line}
 use Rattle.rules.specs.declared.Constant.{Constant}
@@ -12,7 +10,7 @@ use Rattle.rules.specs.declared.Unary.the-variants.{Not, Ey, Ep, Ap, Ay,
 use Rattle.rules.specs.declared.Binary.{Binary}
 use Rattle.rules.specs.declared.Binary.the-variants.{And, Es, As, Or}
 use Rattle.rules.specs.Formula.{Formula, atom, constant, unary, binary}
-use Rattle.pactl.specs.Line.{line, propositionLine, notLine, andLine, eyLine, esLine, asLine}
+use Rattle.pactl.specs.Line.{propositionLine, notLine, andLine, eyLine, esLine, asLine}
 
 -- The lines of true from line n on: proposition 0 of process 0, not, and of those two, not.
 unfoldable pub trueLines : ℕ → List Line
@@ -99,10 +97,3 @@ linesAt n (binary w f g) =
     let a = lastLine n f in
     let m = n + lineCount f + length (linesBetween w a) in
     linesAt n f ++ linesBetween w a ++ linesAt m g ++ linesAfterBoth w a (lastLine m g)
-
--- A line with every line that it names raised by n.
-unfoldable pub raised : ℕ → Line → Line
-raised n l =
-    cond (eqb (l .kind) 0) l
-    (cond (eqb (l .kind) 1 || eqb (l .kind) 3) (line (l .kind) (n + l .a) (l .b))
-    (line (l .kind) (n + l .a) (n + l .b)))

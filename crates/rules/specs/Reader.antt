@@ -11,8 +11,6 @@ use Rattle.rules.specs.declared.Binary.{Binary}
 use Rattle.rules.specs.declared.Binary.the-variants.{And, Es, As, Or}
 use Rattle.rules.specs.declared.WordRead.{WordRead}
 use Rattle.rules.specs.declared.WordRead.the-variants.{AtWord, ConstantWord, UnaryWord, BinaryWord, NoWord}
-use Rattle.rules.specs.declared.Read.{Read}
-use Rattle.rules.specs.declared.Read.the-variants.{Form, Refused}
 use Rattle.rules.specs.Formula.{Formula, atom, constant, unary, binary}
 use Rattle.rules.specs.Line.{lineCount}
 use Rattle.rules.specs.Text.{byteAt}
@@ -124,9 +122,3 @@ formAt (suc a) s k closed i = expect s i 40 (bodyWith (formAt a s k) s k closed 
 unfoldable pub readRule : List ℕ → ℕ → Reading
 readRule s k =
     andThen (formAt 32 s k 0 0) (λ i f. cond (ltb i (length s)) (refused 1 i) (formed i f))
-
--- A reading in the numbers that the code answers with, where `laid` lines were laid down and `closed` closed before the
--- form.
-unfoldable pub readOf : ℕ → ℕ → Reading → Read
-readOf laid closed (formed i f) = Form i (laid + lineCount f) (closed + lineCount f)
-readOf laid closed (refused n i) = Refused n i

@@ -12,7 +12,8 @@ use mathlib.Core.Option.{some}
 use Rattle.clocks.specs.declared.Event.{Event}
 use lib.ListN.{length}
 use Rattle.clocks.specs.Event.{Cut, one, involved, count}
-use Rattle.clocks.specs.History.{taken, event, clockOf, Consistent, Causal}
+use Rattle.clocks.specs.History.{taken, event, clockOf, Consistent}
+use Rattle.clocks.specs.Causal.{Causal}
 use Rattle.clocks.specs.Valid.{History}
 use Rattle.clocks.specs.Counts.{listOf}
 use Rattle.clocks.specs.stored.CountsLaws.{listOf-same}

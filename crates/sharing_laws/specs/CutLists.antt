@@ -13,7 +13,7 @@ use Rattle.clocks.specs.Event.{Cut, zeros}
 use Rattle.clocks.specs.Counts.{at, listOf}
 use Rattle.lookup.specs.Order.{before}
 use Rattle.lookup.specs.OrderLaws.{before-less, before-tail}
-use Rattle.window_laws.specs.Represents.{SortedBy, Sorted}
+use Rattle.window_laws.specs.FrontierOf.{SortedBy, Sorted}
 use Rattle.call_busiest.specs.Sharing.{product, sharingKeeps}
 use Rattle.call_busiest.specs.SharingLaws.{kept-sum, kept-first}
 

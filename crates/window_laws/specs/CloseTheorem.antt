@@ -18,7 +18,8 @@ use Rattle.clocks.specs.validity.ClockRule.{taken-silent, consistent-silent}
 use Rattle.frontiers.specs.declared.Frontier.{Frontier}
 use Rattle.window.specs.Step.{keptBy, filtered}
 use Rattle.window.specs.Lists.{filtered-e, filtered-i, filtered-map}
-use Rattle.window_laws.specs.Represents.{World, openIn, frontierOf, Proper, KeptIn, Represents}
+use Rattle.window_laws.specs.Represents.{openIn, Proper, KeptIn, Represents}
+use Rattle.window_laws.specs.FrontierOf.{World, frontierOf}
 use Rattle.window_laws.specs.KeptTest.{SilentFrom, kept-test}
 use Rattle.window_laws.specs.MergeLaws.{sorted-filtered}
 

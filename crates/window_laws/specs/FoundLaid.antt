@@ -10,8 +10,8 @@ use Rattle.clocks.specs.Counts.{listOf, at}
 use Rattle.frontiers.specs.declared.Frontier.{Frontier}
 use Rattle.lookup.specs.Seek.{seek, keysOf}
 use Rattle.window.specs.Step.{valuesAt}
-use Rattle.window_laws.specs.Represents.{World, frontierOf, Sorted}
-use Rattle.lookup.specs.Order.{Ascending}
+use Rattle.window_laws.specs.FrontierOf.{World, frontierOf, Sorted}
+use Rattle.lookup.specs.Ascending.{Ascending}
 use Rattle.window.specs.Lists.{map-map, getD-mapped}
 use Rattle.lookup.specs.SeekLaws.{seek-finds, seek-ends}
 use Rattle.frontiers.specs.ListLaws.{place-member, member-place}

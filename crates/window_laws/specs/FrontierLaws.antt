@@ -24,7 +24,8 @@ use Rattle.clocks.specs.stored.CountsLaws.{getD-listOf, listOf-same, at-listOf}
 use Rattle.clocks.specs.Valid.{History, ClockRule}
 use Rattle.frontiers.specs.declared.Frontier.{Frontier}
 use Rattle.window.specs.Step.{advanced}
-use Rattle.window_laws.specs.Represents.{World, modelOf, wordOf, frontierOf, settingOf}
+use Rattle.window_laws.specs.Represents.{settingOf}
+use Rattle.window_laws.specs.FrontierOf.{World, modelOf, wordOf, frontierOf}
 
 -- ---- value words
 pub wordOf-lt : (n : ℕ) (t : ℕ → Bool) → wordOf n t < 2 ^ n

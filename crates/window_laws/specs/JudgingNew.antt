@@ -14,7 +14,8 @@ use borrow.Author.Tests.{eq-eqb, ne-eqb}
 use Rattle.clocks.specs.declared.Event.{Event}
 use Rattle.pactl.specs.ModelCuts.{Ruled, Leads}
 use Rattle.pactl.specs.Truth.{Model, lineTruth}
-use Rattle.clocks.specs.History.{maskOf, Consistent, Follows, Causal, ofEvent, taken, event, labelOf}
+use Rattle.clocks.specs.History.{maskOf, Consistent, ofEvent, taken, event, labelOf}
+use Rattle.clocks.specs.Causal.{Follows, Causal}
 use Rattle.clocks.specs.Event.{Cut, involved, Ready, apply, minus, less}
 use Rattle.clocks.specs.validity.ClockRule.{history-causal, consistent-silent}
 use Rattle.clocks.specs.cuts.PrecedingStep.{origin-precedes, precedes-new}
@@ -38,7 +39,8 @@ use Rattle.frontiers.specs.declared.Frontier.{Frontier}
 use Rattle.window_laws.specs.FrontierLaws.{advanced-counts, advanced-masks, bit-wordOf, frontier-agree, word-is, advanced-labels}
 use Rattle.window.specs.Step.{Setting, advanced, sought, withoutLast, Gathered, consider, gathered, valuesAt, judgedBy}
 use Rattle.lookup.specs.Seek.{keysOf, seek}
-use Rattle.window_laws.specs.Represents.{World, modelOf, openIn, KeptIn, frontierOf, Sorted, settingOf, Proper, wordOf}
+use Rattle.window_laws.specs.Represents.{openIn, KeptIn, settingOf, Proper}
+use Rattle.window_laws.specs.FrontierOf.{World, modelOf, frontierOf, Sorted, wordOf}
 use Rattle.window_laws.specs.FoundLaid.{found-e, found-i}
 use Rattle.window_laws.specs.OrderCuts.{before-pointwise}
 use Rattle.window_laws.specs.StoredCuts.{listOf-injective, first-process}

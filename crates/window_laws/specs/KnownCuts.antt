@@ -10,7 +10,8 @@ use mathlib.Core.Logic.{_↔_}
 use lib.Dec.{T}
 use Rattle.clocks.specs.declared.Event.{Event}
 use Rattle.clocks.specs.Event.{Cut, involved, Ready, lowered}
-use Rattle.clocks.specs.History.{taken, Consistent, Follows}
+use Rattle.clocks.specs.History.{taken, Consistent}
+use Rattle.clocks.specs.Causal.{Follows}
 use Rattle.clocks.specs.Valid.{WellFormed}
 use Rattle.clocks.specs.Counts.{listOf}
 use Rattle.clocks.specs.Bounded.{anyOf}
@@ -24,7 +25,8 @@ use Rattle.frontiers.specs.declared.Frontier.{Frontier}
 use Rattle.lookup.specs.Order.{same}
 use Rattle.lookup.specs.OrderLaws.{same-e, same-refl}
 use Rattle.window.specs.Lists.{mapped-e, mapped-i}
-use Rattle.window_laws.specs.Represents.{World, openIn, frontierOf, Proper, KeptIn, Represents}
+use Rattle.window_laws.specs.Represents.{openIn, Proper, KeptIn, Represents}
+use Rattle.window_laws.specs.FrontierOf.{World, frontierOf}
 use Rattle.window_laws.specs.StoredCuts.{listOf-injective}
 
 module _ (W : World) (valid : List Event → Event → Type 0) (ts : List Event) (P : Proper W valid ts)

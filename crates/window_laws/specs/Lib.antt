@@ -1,6 +1,8 @@
 -- A window holds exactly the kept cuts, each line true exactly by PaCTL; a step and a close keep it so.
 
--- What a reader has to believe: what a window holds, and the theorems
+-- What a reader has to believe
+pub mod FrontierOf
+-- What a window holds, and the theorems
 pub mod Represents
 pub mod StartTheorem
 pub mod StepTheorem

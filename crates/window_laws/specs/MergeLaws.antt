@@ -7,7 +7,7 @@ use mathlib.Core.Logic.{_⊎_, inl, inr, ⊎-elim}
 use lib.Dec.{T}
 use Rattle.clocks.specs.cuts.EventLaws.{true-T}
 use Rattle.window.specs.Step.{filtered, mergeInto, merge}
-use Rattle.window_laws.specs.Represents.{SortedBy}
+use Rattle.window_laws.specs.FrontierOf.{SortedBy}
 use Rattle.lookup.specs.Order.{before}
 use Rattle.lookup.specs.OrderLaws.{before-trans}
 use Rattle.window.specs.Lists.{filtered-e, mapped-e}

@@ -20,7 +20,8 @@ use Rattle.clocks.specs.Counts.{listOf}
 use Rattle.clocks.specs.cuts.Lattice.{zeros-consistent}
 use Rattle.clocks.specs.stored.CountsLaws.{getD-listOf}
 use Rattle.pactl.specs.JudgeLaws.{judge-above}
-use Rattle.window_laws.specs.Represents.{World, modelOf, Proper, wordOf, frontierOf, Represents}
+use Rattle.window_laws.specs.Represents.{Proper, Represents}
+use Rattle.window_laws.specs.FrontierOf.{World, modelOf, wordOf, frontierOf}
 use Rattle.frontiers.specs.declared.Frontier.{Frontier}
 use Rattle.window_laws.specs.FrontierLaws.{word-is}
 use Rattle.window.specs.Start.{startFrontier}

@@ -11,7 +11,8 @@ use lib.Dec.{T}
 use lib.ListN.{getD, replicate}
 use lib.Seq.{append-snoc}
 use Rattle.clocks.specs.declared.Event.{Event}
-use Rattle.clocks.specs.History.{taken, Consistent, Follows, Causal}
+use Rattle.clocks.specs.History.{taken, Consistent}
+use Rattle.clocks.specs.Causal.{Follows, Causal}
 use Rattle.clocks.specs.Event.{Cut, involved, Ready, apply, one}
 use Rattle.clocks.specs.validity.ClockRule.{history-causal, taken-silent, consistent-silent}
 use Rattle.clocks.specs.Kept.{Kept}
@@ -24,7 +25,8 @@ use Rattle.clocks.specs.cuts.Agree.{agree-old}
 use Rattle.clocks.specs.cuts.KeptStep.{new-kept, kept-step}
 use Rattle.clocks.specs.cuts.Step.{consistent-old, consistent-new}
 use Rattle.window.specs.Step.{Setting, keptBy, stays, enabledAt, advanced, Slot, slotCounts, lay, staying, fresh, Gathered, gathered, judgedBy, filtered, merge, slots, stepped}
-use Rattle.window_laws.specs.Represents.{World, openIn, frontierOf, settingOf, Proper, KeptIn, Sorted, SortedBy, Represents}
+use Rattle.window_laws.specs.Represents.{openIn, settingOf, Proper, KeptIn, Represents}
+use Rattle.window_laws.specs.FrontierOf.{World, frontierOf, Sorted, SortedBy}
 use Rattle.frontiers.specs.declared.Frontier.{Frontier}
 use Rattle.window_laws.specs.KeptTest.{kept-test}
 use Rattle.window_laws.specs.FrontierLaws.{frontier-agree, advanced-counts}

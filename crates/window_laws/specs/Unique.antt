@@ -6,14 +6,16 @@ use mathlib.Core.List.{List, [], _∷_, map, List·Memᴰ, List·Memᴰ·head, L
 use mathlib.Core.Logic.{_⊎_, ⊎-elim}
 use lib.Dec.{T}
 use Rattle.clocks.specs.declared.Event.{Event}
-use Rattle.clocks.specs.History.{Agree, Causal}
+use Rattle.clocks.specs.History.{Agree}
+use Rattle.clocks.specs.Causal.{Causal}
 use Rattle.clocks.specs.Event.{Cut}
 use Rattle.clocks.specs.validity.ClockRule.{history-causal}
 use Rattle.clocks.specs.Counts.{listOf}
 use Rattle.clocks.specs.cuts.SameEvents.{Same, same-sym, same-taken, same-agree, same-consistent}
 use Rattle.frontiers.specs.declared.Frontier.{Frontier}
 use Rattle.window_laws.specs.FrontierLaws.{frontier-agree}
-use Rattle.window_laws.specs.Represents.{World, openIn, KeptIn, frontierOf, SortedBy, Represents, Proper}
+use Rattle.window_laws.specs.Represents.{openIn, KeptIn, Represents, Proper}
+use Rattle.window_laws.specs.FrontierOf.{World, frontierOf, SortedBy}
 use Rattle.lookup.specs.Order.{before}
 use Rattle.lookup.specs.OrderLaws.{before-irrefl, before-trans}
 

@@ -9,14 +9,16 @@ use lib.ListN.{length, getD, length-map}
 use Rattle.clocks.specs.declared.Event.{Event}
 use Rattle.codec.specs.Bit.{bit}
 use Rattle.pactl.specs.Truth.{lineTruth}
-use Rattle.clocks.specs.History.{taken, Consistent, Causal}
+use Rattle.clocks.specs.History.{taken, Consistent}
+use Rattle.clocks.specs.Causal.{Causal}
 use Rattle.clocks.specs.Event.{Cut}
 use Rattle.clocks.specs.validity.ClockRule.{history-causal, consistent-silent}
 use Rattle.clocks.specs.Counts.{listOf}
 use Rattle.clocks.specs.cuts.Lattice.{taken-consistent}
 use Rattle.frontiers.specs.declared.Frontier.{Frontier}
 use Rattle.window_laws.specs.FrontierLaws.{bit-wordOf}
-use Rattle.window_laws.specs.Represents.{World, modelOf, KeptIn, frontierOf, Sorted, Represents, Proper}
+use Rattle.window_laws.specs.Represents.{KeptIn, Represents, Proper}
+use Rattle.window_laws.specs.FrontierOf.{World, modelOf, frontierOf, Sorted}
 use Rattle.lookup.specs.Order.{before}
 use Rattle.window_laws.specs.OrderCuts.{before-above}
 

@@ -11,7 +11,7 @@ use borrow.Author.Needs.{needs}
 use borrow.Author.Tests.{eq-eqb, ne-eqb}
 use denote.Ref.{now}
 use Rattle.clocks.specs.Counts.{at}
-use Rattle.clocks.specs.Refusal.{eventFault}
+use Rattle.clocks.specs.RefusalCode.{eventFault}
 use Rattle.clocks.specs.declared.Event.{Event}
 use Rattle.call_offer.proofs.unaccepted_word.Statement.{statement}
 use Rattle.refusals.specs.RefusalLaws.{right-length, state-within}

@@ -3,7 +3,8 @@ use Prim.Native.Nat.{ℕ, suc, _+_}
 use native.Mathlib.Numerals.{add-one}
 use mathlib.Core.Path.{_≡_}
 use mathlib.Core.Bool.{Bool, true, false}
-use Rattle.clocks.specs.Event.{Cut, upper}
+use Rattle.clocks.specs.Event.{Cut}
+use Rattle.clocks.specs.Bounds.{upper}
 use Rattle.clocks.specs.Counts.{at, listOf}
 use Rattle.clocks.specs.stored.CountsLaws.{listOf-same, at-listOf}
 use Rattle.clocks.specs.Joined.{joinTo}

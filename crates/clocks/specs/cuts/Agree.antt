@@ -9,7 +9,8 @@ use mathlib.Core.List.{List, _∷_}
 use Rattle.clocks.specs.declared.Event.{Event}
 use Rattle.clocks.specs.Event.{Cut, involved}
 use Rattle.clocks.specs.cuts.EventLaws.{apply-up}
-use Rattle.clocks.specs.History.{taken, Consistent, In, Precedes, Causal, Agree}
+use Rattle.clocks.specs.History.{taken, Consistent, In, Precedes, Agree}
+use Rattle.clocks.specs.Causal.{Causal}
 use Rattle.clocks.specs.cuts.HistoryLaws.{event-exists, event-numbered, event-old}
 use Rattle.clocks.specs.cuts.CausalLaws.{clock-same, in-occupied}
 use Rattle.clocks.specs.cuts.Preceding.{precedes-last}

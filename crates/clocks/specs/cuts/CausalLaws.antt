@@ -9,7 +9,8 @@ use mathlib.Core.Option.{Option, none, some}
 use Rattle.clocks.specs.declared.Event.{Event}
 use Rattle.clocks.specs.Event.{involved, count, apply}
 use Rattle.clocks.specs.cuts.EventLaws.{T-true, ready-next, count-apply}
-use Rattle.clocks.specs.History.{taken, event, ofEvent, clockOf, maskOf, In, Causal}
+use Rattle.clocks.specs.History.{taken, event, ofEvent, clockOf, maskOf, In}
+use Rattle.clocks.specs.Causal.{Causal}
 use Rattle.clocks.specs.cuts.HistoryLaws.{taken-up, event-next, event-old, After, new, old, after, event-numbered}
 
 -- ---- the clock of an event that is there, or missing

@@ -11,7 +11,8 @@ use mathlib.Core.List.{List, [], _∷_, _++_}
 use mathlib.Core.Logic.{_⊎_, inl, inr, ⊎-elim, _↔_}
 use lib.Dec.{T}
 use Rattle.clocks.specs.declared.Event.{Event}
-use Rattle.clocks.specs.History.{taken, Consistent, Follows, Causal}
+use Rattle.clocks.specs.History.{taken, Consistent}
+use Rattle.clocks.specs.Causal.{Follows, Causal}
 use Rattle.clocks.specs.Event.{Cut, involved, Ready, apply}
 use Rattle.clocks.specs.Kept.{Kept, allOpen, KeptCut, Dropped}
 use Rattle.clocks.specs.cuts.EventLaws.{T-true, ready-same, apply-next}

@@ -9,9 +9,11 @@ use mathlib.Core.List.{List, [], _∷_}
 use mathlib.Core.Logic.{_⊎_, inl, inr}
 use mathlib.Core.Option.{Option, none, some}
 use Rattle.clocks.specs.declared.Event.{Event}
-use Rattle.clocks.specs.Event.{Cut, involved, count, Ready, apply, less, lowered, zeros, upper, lower}
+use Rattle.clocks.specs.Event.{Cut, involved, count, Ready, apply, less, lowered, zeros}
+use Rattle.clocks.specs.Bounds.{upper, lower}
 use Rattle.clocks.specs.cuts.EventLaws.{ready-i, ready-next, lowered-next, less-next, less-other, apply-less, lowered-count}
-use Rattle.clocks.specs.History.{taken, event, clockOf, Consistent, Follows, Causal}
+use Rattle.clocks.specs.History.{taken, event, clockOf, Consistent}
+use Rattle.clocks.specs.Causal.{Follows, Causal}
 use Rattle.clocks.specs.cuts.HistoryLaws.{After, new, old, after, event-zero, event-next, taken-cases}
 use Rattle.clocks.specs.cuts.CausalLaws.{clock-some, clock-none, clock-within}
 use Rattle.clocks.specs.cuts.Step.{clock-old, consistent-old, consistent-new}

@@ -10,7 +10,8 @@ use mathlib.Core.Option.{some}
 use Rattle.clocks.specs.declared.Event.{Event}
 use Rattle.clocks.specs.Event.{Cut, involved, count, apply, minus, less}
 use Rattle.clocks.specs.cuts.EventLaws.{either, ready-i, ready-next, count-apply, apply-next, apply-other, apply-up, apply-less, less-apply, less-next, less-other, less-minus}
-use Rattle.clocks.specs.History.{taken, event, clockOf, maskOf, Consistent, Precedes, Causal}
+use Rattle.clocks.specs.History.{taken, event, clockOf, maskOf, Consistent, Precedes}
+use Rattle.clocks.specs.Causal.{Causal}
 use Rattle.clocks.specs.cuts.HistoryLaws.{event-exists, event-numbered}
 use Rattle.clocks.specs.cuts.CausalLaws.{clock-some, mask-some, count-within, count-number, number-of, count-positive}
 use Rattle.clocks.specs.cuts.Lattice.{clock-grows}

@@ -9,7 +9,8 @@ use mathlib.Core.Logic.{_⊎_, inl, inr, _↔_}
 use Rattle.clocks.specs.declared.Event.{Event}
 use Rattle.clocks.specs.Event.{Cut, involved, Ready, apply}
 use Rattle.clocks.specs.cuts.EventLaws.{T-true, ready-next, apply-next, apply-injective}
-use Rattle.clocks.specs.History.{taken, Consistent, In, Precedes, Follows, Causal, Agree}
+use Rattle.clocks.specs.History.{taken, Consistent, In, Precedes, Agree}
+use Rattle.clocks.specs.Causal.{Follows, Causal}
 use Rattle.clocks.specs.cuts.Step.{Advanced, step, consistent-old}
 use Rattle.clocks.specs.cuts.Preceding.{precedes-consistent}
 use Rattle.clocks.specs.cuts.Agree.{agree-old, agree-sym, agree-precedes}

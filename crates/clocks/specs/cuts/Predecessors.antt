@@ -10,7 +10,8 @@ use mathlib.Core.Logic.{_⊎_, inl, inr, _↔_}
 use lib.Dec.{T, leb, eqb, leb→le, eqb→eq}
 use borrow.Author.Tests.{le-leb, eq-eqb}
 use Rattle.clocks.specs.declared.Event.{Event}
-use Rattle.clocks.specs.History.{In, Precedes, Causal}
+use Rattle.clocks.specs.History.{In, Precedes}
+use Rattle.clocks.specs.Causal.{Causal}
 use Rattle.clocks.specs.Event.{Cut, involved, count, less}
 use Rattle.clocks.specs.validity.ClockRule.{history-causal}
 use Rattle.clocks.specs.cuts.EventLaws.{either, true-T, T-true, ready-next, ready-known, ready-i, apply-next, apply-other, less-next, less-other, apply-less}

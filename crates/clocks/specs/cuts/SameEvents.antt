@@ -8,7 +8,8 @@ use mathlib.Core.List.{List}
 use mathlib.Core.Option.{Option, none, some}
 use Rattle.clocks.specs.declared.Event.{Event}
 use Rattle.clocks.specs.Event.{Cut}
-use Rattle.clocks.specs.History.{taken, event, clockOf, lastClock, Consistent, In, Agree, Precedes, Causal}
+use Rattle.clocks.specs.History.{taken, event, clockOf, lastClock, Consistent, In, Agree, Precedes}
+use Rattle.clocks.specs.Causal.{Causal}
 use Rattle.clocks.specs.cuts.HistoryLaws.{event-exists, event-numbered, Numbered}
 use Rattle.clocks.specs.cuts.CausalLaws.{clock-same, count-number, number-of}
 use Rattle.clocks.specs.cuts.Agree.{agree-consistent, agree-precedes}

@@ -13,7 +13,8 @@ use Rattle.clocks.specs.declared.Event.{Event}
 use Rattle.clocks.specs.History.{taken, In}
 use Rattle.clocks.specs.Event.{Cut, involved, apply}
 use Rattle.clocks.specs.validity.ClockRule.{history-causal}
-use Rattle.clocks.specs.Kept.{Dropped, served, redundantWithin, redundant}
+use Rattle.clocks.specs.Kept.{Dropped}
+use Rattle.clocks.specs.Redundant.{served, redundantWithin, redundant}
 use Rattle.clocks.specs.Bounded.{anyOf}
 use Rattle.clocks.specs.cuts.EventLaws.{T-true, ready-next, apply-up}
 use Rattle.clocks.specs.stored.TestedLaws.{in-takeable, ready-test}

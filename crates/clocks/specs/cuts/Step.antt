@@ -10,7 +10,8 @@ use mathlib.Core.Logic.{_⊎_, inl, inr, ⊎-elim, _↔_}
 use Rattle.clocks.specs.declared.Event.{Event}
 use Rattle.clocks.specs.Event.{Cut, involved, count, Ready, apply, less, lowered}
 use Rattle.clocks.specs.cuts.EventLaws.{either, T-true, ready-next, ready-same, count-apply, lowered-ready, lowered-next, apply-next, apply-other, apply-up, less-next, less-other, apply-less, ready-i}
-use Rattle.clocks.specs.History.{taken, clockOf, Consistent, Follows, Causal}
+use Rattle.clocks.specs.History.{taken, clockOf, Consistent}
+use Rattle.clocks.specs.Causal.{Follows, Causal}
 use Rattle.clocks.specs.cuts.HistoryLaws.{taken-next, taken-other, taken-up, taken-cases, event-next, event-old}
 use Rattle.clocks.specs.cuts.CausalLaws.{clock-some, clock-same, clock-within}
 

@@ -16,7 +16,8 @@ use Rattle.clocks.specs.declared.Key.{Key}
 use Rattle.clocks.specs.Event.{involved}
 use Rattle.clocks.specs.cuts.EventLaws.{true-T}
 use Rattle.clocks.specs.stored.BoundedLaws.{and-i, and-l, and-r, or-l, or-r, or-e}
-use Rattle.clocks.specs.Key.{lowest, keyBefore, Before, keyOf}
+use Rattle.clocks.specs.Key.{lowest, keyBefore, keyOf}
+use Rattle.clocks.specs.KeyOrder.{Before}
 use Rattle.clocks.specs.Counts.{at}
 use Rattle.clocks.specs.stored.CountsLaws.{at-beyond}
 

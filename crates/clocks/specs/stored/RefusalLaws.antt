@@ -20,7 +20,8 @@ use Rattle.clocks.specs.cuts.EventLaws.{either, true-T}
 use Rattle.clocks.specs.Bounded.{anyBelow}
 use Rattle.clocks.specs.stored.BoundedTurns.{any-false-i, any-false-e}
 use Rattle.clocks.specs.stored.CountsLaws.{at-beyond}
-use Rattle.clocks.specs.Refusal.{badMask, badCount, badClock, badLabels, badStart, eventFault, Faultless}
+use Rattle.clocks.specs.Refusal.{badMask, badCount, badClock, badLabels, badStart, Faultless}
+use Rattle.clocks.specs.RefusalCode.{eventFault}
 use Rattle.clocks.specs.Counts.{at}
 
 -- ---- Two tests together, both ways

@@ -5,7 +5,8 @@ use native.Mathlib.Omega.{arith}
 use mathlib.Core.Path.{_≡_, refl}
 use mathlib.Core.List.{List, [], _∷_}
 use Rattle.clocks.specs.declared.Event.{Event}
-use Rattle.clocks.specs.History.{taken, Consistent, Follows, Causal}
+use Rattle.clocks.specs.History.{taken, Consistent}
+use Rattle.clocks.specs.Causal.{Follows, Causal}
 use Rattle.clocks.specs.Event.{Cut}
 use Rattle.clocks.specs.Valid.{Takeable, History, ClockRule}
 

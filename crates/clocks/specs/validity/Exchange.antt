@@ -11,7 +11,8 @@ use mathlib.Core.List.{List, [], _∷_, _++_, List·Memᴰ·head, List·Memᴰ·
 use mathlib.Core.Logic.{_⊎_, inl, inr, ⊎-elim, _↔_}
 use Rattle.clocks.specs.declared.Event.{Event}
 use Rattle.clocks.specs.Apart.{Apart, Counts, NeitherCounts}
-use Rattle.clocks.specs.History.{taken, In, Causal}
+use Rattle.clocks.specs.History.{taken, In}
+use Rattle.clocks.specs.Causal.{Causal}
 use Rattle.clocks.specs.Event.{involved, count, Ready, lowered}
 use Rattle.clocks.specs.Valid.{Takeable, History, ClockRule}
 use Rattle.clocks.specs.cuts.EventLaws.{either, ready-next, ready-known, ready-i, lowered-ready}

@@ -9,10 +9,13 @@ use mathlib.Core.Bool.{Bool, false, true}
 use mathlib.Core.List.{List}
 use mathlib.Core.Logic.{_⊎_, inl, inr}
 use Rattle.clocks.specs.declared.Event.{Event}
-use Rattle.clocks.specs.History.{taken, lastClock, Consistent, Causal}
-use Rattle.clocks.specs.Event.{involved, less, lowered, upper}
+use Rattle.clocks.specs.History.{taken, lastClock, Consistent}
+use Rattle.clocks.specs.Causal.{Causal}
+use Rattle.clocks.specs.Event.{involved, less, lowered}
+use Rattle.clocks.specs.Bounds.{upper}
 use Rattle.clocks.specs.Valid.{Known}
-use Rattle.clocks.specs.Joined.{joinTo, Joined}
+use Rattle.clocks.specs.Joined.{joinTo}
+use Rattle.clocks.specs.JoinedRule.{Joined}
 use Rattle.clocks.specs.cuts.EventLaws.{either}
 use Rattle.clocks.specs.cuts.Lattice.{zeros-consistent, clock-consistent, upper-consistent}
 

@@ -18,7 +18,8 @@ use Rattle.clocks.specs.cuts.CausalLaws.{clock-cases}
 use Rattle.clocks.specs.stored.TestedLaws.{in-takeable}
 use Rattle.clocks.specs.validity.JoinLaws.{join-least, join-same}
 use Rattle.clocks.specs.Valid.{WellFormed, History}
-use Rattle.clocks.specs.Joined.{joinTo, Joined, joinedBy}
+use Rattle.clocks.specs.Joined.{joinTo, joinedBy}
+use Rattle.clocks.specs.JoinedRule.{Joined}
 
 -- ---- The last clocks count no process from k up, and so their join does not
 last-silent : (k : ℕ) (valid : List Event → Event → Type 0) (ts : List Event) → History k valid ts → (p q : ℕ) → k ≤ q

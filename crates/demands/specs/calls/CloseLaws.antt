@@ -24,7 +24,8 @@ use Rattle.frontiers.specs.Shaped.{AllShaped}
 use Rattle.frontiers.specs.WindowLaws.{length-windowBytes, replaced-windowBytes}
 use Rattle.window.specs.Step.{keptBy, filtered}
 use Rattle.window.specs.Lists.{length-filtered}
-use Rattle.window_laws.specs.Represents.{World, openIn, Represents}
+use Rattle.window_laws.specs.Represents.{openIn, Represents}
+use Rattle.window_laws.specs.FrontierOf.{World}
 use Rattle.window_laws.specs.CloseTheorem.{staysIn, close-represents}
 use Rattle.records.specs.Record.{processCount, closedMask, keptCount, pendingEvents, closedSet}
 use Rattle.refusals.specs.Refusals.{notOpen, namedBy}

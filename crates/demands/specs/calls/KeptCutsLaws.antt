@@ -11,7 +11,8 @@ use Rattle.pactl.specs.declared.Line.{Line}
 use Rattle.clocks.specs.declared.Event.{Event}
 use Rattle.codec.specs.Bit.{bit}
 use Rattle.codec.specs.BitLaws.{bit-zero}
-use Rattle.window_laws.specs.Represents.{Represents, frontierOf}
+use Rattle.window_laws.specs.Represents.{Represents}
+use Rattle.window_laws.specs.FrontierOf.{frontierOf}
 use Rattle.window_laws.specs.Unique.{sorted-unique}
 use Rattle.clocks.specs.Event.{Cut}
 use Rattle.clocks.specs.History.{taken}

@@ -13,9 +13,11 @@ use Rattle.frontiers.specs.declared.Frontier.{Frontier}
 use Rattle.pactl.specs.declared.Line.{Line}
 use Rattle.clocks.specs.declared.Event.{Event}
 use Rattle.codec.specs.LittleLaws.{pow-256-pos}
-use Rattle.window_laws.specs.Represents.{World, Represents, Proper, modelOf, frontierOf}
+use Rattle.window_laws.specs.Represents.{Represents, Proper}
+use Rattle.window_laws.specs.FrontierOf.{World, modelOf, frontierOf}
 use Rattle.clocks.specs.Event.{count, Cut}
-use Rattle.clocks.specs.History.{taken, clockOf, lastClock, Causal, event, ofEvent, maskOf, labelOf, Consistent, In}
+use Rattle.clocks.specs.History.{taken, clockOf, lastClock, event, ofEvent, maskOf, labelOf, Consistent, In}
+use Rattle.clocks.specs.Causal.{Causal}
 use Rattle.clocks.specs.validity.ClockRule.{history-causal}
 use Rattle.clocks.specs.cuts.HistoryLaws.{event-exists, event-numbered}
 use Rattle.clocks.specs.Valid.{History}

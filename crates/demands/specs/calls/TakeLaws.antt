@@ -9,10 +9,12 @@ use lib.ListN.{length, getD}
 use Rattle.pactl.specs.declared.Line.{Line}
 use Rattle.clocks.specs.declared.Event.{Event}
 use Rattle.frontiers.specs.WindowLaws.{length-windowBytes, replaced-windowBytes}
-use Rattle.window_laws.specs.Represents.{World, Proper, Represents, settingOf}
+use Rattle.window_laws.specs.Represents.{Proper, Represents, settingOf}
+use Rattle.window_laws.specs.FrontierOf.{World}
 use Rattle.frontiers.specs.ListLaws.{place-member}
 use Rattle.frontiers.specs.Bytes.{windowBytes, replaced, frontierLength}
-use Rattle.clocks.specs.History.{taken, clockOf, lastClock, In, Causal}
+use Rattle.clocks.specs.History.{taken, clockOf, lastClock, In}
+use Rattle.clocks.specs.Causal.{Causal}
 use Rattle.clocks.specs.Event.{Cut, Ready, count, involved, apply}
 use Rattle.clocks.specs.Valid.{Takeable, History}
 use Rattle.frontiers.specs.declared.Frontier.{Frontier}

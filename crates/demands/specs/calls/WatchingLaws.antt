@@ -12,7 +12,8 @@ use borrow.Author.Tests.{le-ltb, ne-eqb}
 use Rattle.pactl.specs.declared.Line.{Line}
 use Rattle.clocks.specs.declared.Event.{Event}
 use Rattle.window_laws.specs.Verdict.{some-frontier}
-use Rattle.window_laws.specs.Represents.{World, Proper, settingOf}
+use Rattle.window_laws.specs.Represents.{Proper, settingOf}
+use Rattle.window_laws.specs.FrontierOf.{World}
 use Rattle.window_laws.specs.KnownCuts.{known-among}
 use Rattle.clocks.specs.History.{taken, lastClock}
 use Rattle.clocks.specs.Event.{Cut, Ready, apply, involved}
@@ -20,7 +21,8 @@ use Rattle.clocks.specs.validity.ClockRule.{taken-silent}
 use Rattle.clocks.specs.Counts.{at, listOf, rows}
 use Rattle.clocks.specs.stored.CountsLaws.{getD-listOf, at-listOf, at-listOf-all}
 use Rattle.clocks.specs.Valid.{History, WellFormed}
-use Rattle.clocks.specs.Joined.{Joined, joinedBy}
+use Rattle.clocks.specs.Joined.{joinedBy}
+use Rattle.clocks.specs.JoinedRule.{Joined}
 use Rattle.clocks.specs.validity.JoinedTest.{joined-same, joined-test}
 use Rattle.clocks.specs.stored.TestedLaws.{ready-test}
 use Rattle.frontiers.specs.WindowLaws.{frontiers-windowBytes}

@@ -8,7 +8,8 @@ use Rattle.pactl.specs.declared.Line.{Line}
 use Rattle.clocks.specs.Event.{Cut}
 use Rattle.frontiers.specs.declared.Frontier.{Frontier}
 use Rattle.frontiers.specs.Bytes.{frontierLength, windowBytes}
-use Rattle.window_laws.specs.Represents.{Represents, frontierOf}
+use Rattle.window_laws.specs.Represents.{Represents}
+use Rattle.window_laws.specs.FrontierOf.{frontierOf}
 use Rattle.rules.specs.Formula.{Formula}
 use Rattle.rules.specs.Line.{linesAt}
 use Rattle.refusals.specs.Refusals.{roomOf}

@@ -8,7 +8,8 @@ use mathlib.Core.Logic.{_↔_, ⊎-elim}
 use lib.ListN.{length}
 use Rattle.clocks.specs.declared.Event.{Event}
 use Rattle.clocks.specs.Event.{Cut, Ready}
-use Rattle.clocks.specs.History.{taken, Consistent, Causal, In}
+use Rattle.clocks.specs.History.{taken, Consistent, In}
+use Rattle.clocks.specs.Causal.{Causal}
 use Rattle.clocks.specs.Valid.{History}
 use Rattle.clocks.specs.Counts.{at, listOf}
 use Rattle.clocks.specs.cuts.SameEvents.{Same, same-taken}

@@ -11,7 +11,8 @@ use mathlib.Core.Logic.{⊎-elim, _⊎_, inl, inr, _↔_}
 use mathlib.Core.Option.{some}
 use lib.Seq.{append-snoc}
 use Rattle.clocks.specs.declared.Event.{Event}
-use Rattle.clocks.specs.History.{taken, event, In, Causal}
+use Rattle.clocks.specs.History.{taken, event, In}
+use Rattle.clocks.specs.Causal.{Causal}
 use Rattle.clocks.specs.Event.{one, Ready, lowered, Cut}
 use Rattle.clocks.specs.validity.ClockRule.{history-causal}
 use Rattle.clocks.specs.SameEvent.{sameEvent}

@@ -7,7 +7,7 @@ use mathlib.Core.List.{List, [], _∷_, _++_, append-assoc}
 use lib.Dec.{T, eqb}
 use Rattle.codec.specs.Bit.{bit}
 use Rattle.clocks.specs.declared.Event.{Event}
-use Rattle.clocks.specs.History.{Causal}
+use Rattle.clocks.specs.Causal.{Causal}
 use Rattle.clocks.specs.Kept.{Kept}
 use Rattle.clocks.specs.cuts.KeptStep.{dropped-stays}
 use Rattle.clocks.specs.Event.{Cut}

@@ -9,7 +9,7 @@ use lib.ListN.{length, replicate}
 use Rattle.clocks.specs.declared.Event.{Event}
 use Rattle.clocks.specs.Event.{Cut}
 use Rattle.clocks.specs.Counts.{at}
-use Rattle.clocks.specs.History.{Causal}
+use Rattle.clocks.specs.Causal.{Causal}
 use Rattle.clocks.specs.validity.ClockRule.{history-causal}
 use Rattle.clocks.specs.validity.JoinedClock.{joined-known}
 use Rattle.frontiers.specs.declared.Frontier.{Frontier}

@@ -1,25 +1,20 @@
 -- The starred examples of 01, computed from the calls' definitions.
-use Prim.Native.Nat.{ℕ, zero, suc}
 use mathlib.Core.Path.{_≡_, refl, sym, ap, _∙_}
-use mathlib.Core.Bool.{true, false, not, _&&_}
-use mathlib.Core.List.{List, [], _∷_, map, _++_}
-use lib.ListN.{replicate}
+use mathlib.Core.List.{List, [], _∷_, _++_}
 use lib.Count.{trailingZeros}
-use Rattle.clocks.specs.declared.Event.{Event}
 use Rattle.frontiers.specs.declared.Frontier.{Frontier}
 use Rattle.codec.specs.Bit.{bit}
 use Rattle.codec.specs.Little.{bytesOf, valueOf, number, put}
 use Rattle.clocks.specs.Event.{involved, count, apply, minus, less, lowered}
 use Rattle.clocks.specs.History.{taken, isNumber, event, clockOf}
-use Rattle.clocks.specs.Counts.{at, listOf}
+use Rattle.clocks.specs.Counts.{listOf}
 use Rattle.clocks.specs.Bounded.{allBelow, anyBelow, anyOf}
 use Rattle.clocks.specs.Tested.{ready, consistent}
-use Rattle.clocks.specs.Kept.{served, redundantWithin, redundant}
+use Rattle.clocks.specs.Redundant.{served, redundantWithin, redundant}
 use Rattle.clocks.specs.Key.{lowest, keyOf, keyBefore}
 use Rattle.clocks.specs.Refusal.{badMask, badClock, badLabels, badStart}
 use Rattle.clocks.specs.SameEvent.{sameEvent}
 use Rattle.repeats.specs.Repeats.{repeated}
-use Rattle.codec.specs.Ascii.{ascii}
 use Rattle.rules.specs.Reader.{restAt, aWordAt, eWordAt, wordAt, andThen, expect, expectDigit, closeAt, atomAt, innerWith, unaryWith, binaryWith, bodyWith, formAt, readRule}
 use Rattle.rules.specs.Line.{trueLines, constantLines, linesBefore, linesAfter, linesBetween, linesAfterBoth, constantWeight, unaryWeight, binaryWeight, lineCount, linesAt}
 use Rattle.pactl.specs.Table.{tableBytes, goodLine, goodFrom}
@@ -30,8 +25,8 @@ use Rattle.lookup.specs.Seek.{standing, bisect, gallop, seek}
 use Rattle.window.specs.Step.{stays, enabledAt, advanced, filtered, slotCounts, mergeInto, merge, slots, sought, withoutLast, consider, gathered, judgedBy, lay, stepped, keptAfter, fits}
 use Rattle.window.specs.Start.{startFrontier}
 use Rattle.frontiers.specs.Bytes.{frontierLength, countBytes, frontierBytes, frontierFrom, frontierAt, frontiers, framed, windowBytes, replaced}
-use Rattle.answers.specs.Answer.{Answer, turnedBack, state, held, again, processClosed, stateOf}
-use Rattle.records.specs.Record.{keptCount, takenCounts, lastClocks, tableLines, pendingAt, pendingEvents, eventBytes, inserted, removed, clocksSet, closedSet, counted, readyIn}
+use Rattle.answers.specs.Answer.{stateOf}
+use Rattle.records.specs.Record.{takenCounts, lastClocks, tableLines, pendingAt, pendingEvents, eventBytes, inserted, removed, clocksSet, closedSet, counted, readyIn}
 use Rattle.refusals.specs.Refusals.{badRecordLength, badWindowLength, roomOf, badProcesses, badState, namesClosed, alreadyTaken, conflicts, conflicting, notOpen, namedBy}
 use Rattle.call_open.specs.Open.{firstRecord, openTable, openRead, openCall}
 use Rattle.call_offer.specs.Offer.{placeAmong, offerCall}
@@ -39,8 +34,8 @@ use Rattle.trial.specs.Trial.{validAmong, settingIn, tried}
 use Rattle.call_take.specs.Take.{decided, takeWithin, takeCapped}
 use Rattle.call_close.specs.Close.{remaining, closeProcess, closeCall}
 use Rattle.demands.specs.Status.{insertAt, removeAt}
-use Rattle.demands.specs.Run.{Call, offers, takes, Watch, trialOf, stoppedAt, takenLedger, offeredLedger, closedLedger, closes, after, run}
-use Rattle.demands.specs.statements.Examples.{eight, watch, keptCuts, truths, comes, someOrder, a1, a2, b1, first, second, headed, vectors, sourceKeeps, StarredExamples}
+use Rattle.demands.specs.Run.{trialOf, stoppedAt, takenLedger, offeredLedger, closedLedger, after, run}
+use Rattle.demands.specs.statements.Examples.{eight, watch, comes, someOrder, a1, a2, b1, first, second, headed, vectors, sourceKeeps, StarredExamples}
 
 -- ---- Theorem
 

@@ -17,7 +17,7 @@ use Rattle.codec.specs.Bit.{bit}
 use Rattle.frontiers.specs.Bytes.{frontiers}
 use Rattle.frontiers.specs.ListLaws.{place-member, member-place}
 use Rattle.window.specs.Lists.{getD-mapped}
-use Rattle.window_laws.specs.Represents.{frontierOf}
+use Rattle.window_laws.specs.FrontierOf.{frontierOf}
 use Rattle.rules.specs.Line.{linesAt}
 use Rattle.rules.specs.Formula.{Formula}
 use Rattle.pactl.specs.Truth.{Property}

@@ -9,7 +9,7 @@ use borrow.Author.Tests.{eq-eqb}
 use Rattle.codec.specs.Bit.{bit}
 use Rattle.frontiers.specs.Bytes.{frontiers}
 use Rattle.window_laws.specs.FrontierLaws.{bit-wordOf}
-use Rattle.window_laws.specs.Represents.{modelOf, frontierOf}
+use Rattle.window_laws.specs.FrontierOf.{modelOf, frontierOf}
 use Rattle.rules.specs.Line.{linesAt}
 use Rattle.rules.specs.Formula.{Formula}
 use Rattle.pactl.specs.Truth.{lineTruth}

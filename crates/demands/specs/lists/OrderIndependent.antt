@@ -10,15 +10,16 @@ use Rattle.pactl.specs.declared.Line.{Line}
 use Rattle.clocks.specs.declared.Event.{Event}
 use Rattle.codec.specs.BitLaws.{bits-equal}
 use Rattle.window_laws.specs.StoredCuts.{listOf-injective}
-use Rattle.window_laws.specs.Represents.{World, modelOf, Represents, Proper}
-use Rattle.frontiers.specs.declared.Frontier.{Frontier}
+use Rattle.window_laws.specs.Represents.{Represents, Proper}
+use Rattle.window_laws.specs.FrontierOf.{World, modelOf}
 use Rattle.frontiers.specs.Bytes.{frontiers, frontierLength, framed, windowBytes}
 use Rattle.window_laws.specs.Unique.{window-unique}
 use Rattle.rules.specs.Line.{linesAt}
 use Rattle.pactl.specs.Truth.{holds}
 use Rattle.pactl.specs.TruthLocal.{holds-local}
 use Rattle.rules.specs.Formula.{Formula, meaning}
-use Rattle.clocks.specs.History.{taken, lastClock, Consistent, Causal}
+use Rattle.clocks.specs.History.{taken, lastClock, Consistent}
+use Rattle.clocks.specs.Causal.{Causal}
 use Rattle.clocks.specs.Event.{Cut}
 use Rattle.clocks.specs.validity.ClockRule.{consistent-silent}
 use Rattle.clocks.specs.cuts.SameEvents.{Same, same-taken, same-last, same-agree}

@@ -16,7 +16,7 @@ use Rattle.clocks.specs.declared.Event.{Event}
 use Rattle.clocks.specs.Event.{Cut}
 use Rattle.frontiers.specs.declared.Frontier.{Frontier}
 use Rattle.frontiers.specs.Bytes.{frontierAt, frontiers}
-use Rattle.window_laws.specs.Represents.{frontierOf}
+use Rattle.window_laws.specs.FrontierOf.{frontierOf}
 use Rattle.pactl.specs.declared.Line.{Line}
 use Rattle.pactl.specs.Truth.{Property, lineTruth, holds}
 use Rattle.rules.specs.Line.{linesAt}

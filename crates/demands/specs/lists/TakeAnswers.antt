@@ -9,7 +9,7 @@ use lib.Dec.{eqb}
 use lib.ListN.{length}
 use borrow.Author.Tests.{eq-eqb, eqb-true, not-false}
 use Rattle.clocks.specs.declared.Event.{Event}
-use Rattle.window_laws.specs.Represents.{modelOf}
+use Rattle.window_laws.specs.FrontierOf.{modelOf}
 use Rattle.clocks.specs.History.{taken}
 use Rattle.clocks.specs.Event.{Cut}
 use Rattle.clocks.specs.Counts.{listOf}

@@ -11,7 +11,8 @@ use Rattle.clocks.specs.declared.Event.{Event}
 use Rattle.codec.specs.Bit.{bit}
 use Rattle.window.specs.Lists.{getD-mapped}
 use Rattle.window_laws.specs.Verdict.{some-frontier, verdict-right}
-use Rattle.window_laws.specs.Represents.{World, modelOf, frontierOf, Represents, Proper}
+use Rattle.window_laws.specs.Represents.{Represents, Proper}
+use Rattle.window_laws.specs.FrontierOf.{World, modelOf, frontierOf}
 use Rattle.rules.specs.Line.{linesAt}
 use Rattle.pactl.specs.Truth.{Property, lineTruth, holds}
 use Rattle.rules.specs.lines.LinesMean.{rule-means}

@@ -8,7 +8,7 @@ use lib.ListN.{length}
 use Rattle.clocks.specs.declared.Event.{Event}
 use Rattle.codec.specs.BitLaws.{bit-above}
 use Rattle.window_laws.specs.FrontierLaws.{wordOf-lt, bit-wordOf}
-use Rattle.window_laws.specs.Represents.{World, modelOf, wordOf, frontierOf}
+use Rattle.window_laws.specs.FrontierOf.{World, modelOf, wordOf, frontierOf}
 use Rattle.frontiers.specs.Bytes.{frontiers}
 use Rattle.rules.specs.Line.{linesAt}
 use Rattle.pactl.specs.Truth.{lineTruth}

@@ -11,7 +11,7 @@ use Rattle.clocks.specs.declared.Event.{Event}
 use Rattle.clocks.specs.History.{taken}
 use Rattle.clocks.specs.Counts.{at, listOf}
 use Rattle.clocks.specs.Tested.{consistent}
-use Rattle.clocks.specs.Kept.{redundant}
+use Rattle.clocks.specs.Redundant.{redundant}
 use Rattle.window.specs.Step.{filtered}
 use Rattle.frontiers.specs.Bytes.{frontiers}
 use Rattle.records.specs.Record.{keptCount}

@@ -4,7 +4,7 @@ use mathlib.Core.Path.{sym, _∙_}
 use borrow.Author.Needs.{needs}
 use borrow.Author.Tests.{lt-ltb, le-ltb, eq-eqb, ne-eqb}
 use Rattle.refusals.proofs.bad_numbers.Statement.{statement}
-use Rattle.refusals.specs.Refusals.{badNumbers}
+use Rattle.refusals.specs.RefusalCode.{badNumbers}
 
 bad-processes-requires : tie.Need-bad-processes-requires
 bad-processes-requires c κs = search needs

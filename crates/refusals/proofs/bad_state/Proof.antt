@@ -8,7 +8,7 @@ use denote.Ref.{now}
 use Rattle.refusals.proofs.bad_state.Statement.{statement}
 use Rattle.refusals.specs.RefusalLaws.{state-parts, numbers-within}
 use Rattle.records.specs.Record.{processCount, lineTotal, pendingCount, keptCount}
-use Rattle.refusals.specs.Refusals.{badNumbers}
+use Rattle.refusals.specs.RefusalCode.{badNumbers}
 use Rattle.refusals.proofs.RefusalSteps.{lent-table}
 
 process-count-requires : tie.Need-process-count-requires

@@ -17,7 +17,8 @@ use Rattle.rules.specs.declared.Unary.the-variants.{Not, Ey, Ep, Ap, Ay,
 use Rattle.rules.specs.declared.Binary.{Binary}
 use Rattle.rules.specs.declared.Binary.the-variants.{And, Es, As, Or}
 use Rattle.rules.specs.Formula.{Formula, atom, constant, unary, binary, Atoms, AtomsBelow}
-use Rattle.rules.specs.Line.{trueLines, constantLines, linesBefore, linesAfter, linesBetween, linesAfterBoth, constantWeight, unaryWeight, binaryWeight, lineCount, lastLine, linesAt, raised}
+use Rattle.rules.specs.Line.{trueLines, constantLines, linesBefore, linesAfter, linesBetween, linesAfterBoth, constantWeight, unaryWeight, binaryWeight, lineCount, lastLine, linesAt}
+use Rattle.rules.specs.lines.Raised.{raised}
 use Rattle.pactl.specs.Table.{goodLine, goodFrom}
 use Rattle.pactl.specs.Line.{propositionLine, notLine, andLine, eyLine, esLine, asLine}
 

@@ -11,7 +11,7 @@ use Rattle.clocks.specs.Joined.{joinTo}
 use Rattle.clocks.proofs.join.JoinSteps.{join-next, join-skip}
 use Rattle.clocks.proofs.join.join.Statement.{statement}
 use Rattle.clocks.proofs.join.join.Tie as tie
-use Rattle.clocks.specs.Event.{upper}
+use Rattle.clocks.specs.Bounds.{upper}
 
 abbrev Inv-loop : tie.InvT-loop
 Inv-loop mask last word out₀ p₀ out p = (p ≤ 8) × (out ≡ listOf 8 (joinTo p (bit mask) (rows last)))

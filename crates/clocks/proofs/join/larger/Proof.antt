@@ -7,7 +7,7 @@ use Rattle.clocks.specs.Counts.{at}
 use Rattle.clocks.specs.stored.CountsLaws.{filled, fill-next}
 use Rattle.clocks.proofs.join.larger.Statement.{statement}
 use Rattle.clocks.proofs.join.larger.Tie as tie
-use Rattle.clocks.specs.Event.{upper}
+use Rattle.clocks.specs.Bounds.{upper}
 
 abbrev Inv-loop : tie.InvT-loop
 Inv-loop a b out₀ i₀ out i = (i ≤ 8) × (length out ≡ 8) × ((q : ℕ) → q < i → getD out q 0 ≡ upper (at a) (at b) q)
