@@ -25,12 +25,12 @@ pub data Answer : Type 0 where
   processClosed : ℕ → Answer
 
 -- 1 for true.
-abbrev pub flag : Bool → ℕ
+abbrev pub flag : (b : Bool) → ℕ
 flag true = 1
 flag false = 0
 
 -- The reply word: number + 256 flag + 65,536 value + 2 ^ 32 place.
-unfoldable pub replyWord : Answer → ℕ
+unfoldable pub replyWord : (a : Answer) → ℕ
 replyWord (turnedBack n place) = n + 4294967296 * place
 replyWord (state counts truth kept) = 256 * flag truth + 65536 * kept
 replyWord nothingReady = 0
@@ -41,5 +41,5 @@ replyWord absent = 0
 replyWord (processClosed n) = 65536 * n
 
 -- The answer of an event taken: the counts, the last line at the last frontier, the frontiers kept.
-unfoldable pub stateOf : ℕ → List ℕ → List Frontier → Answer
+unfoldable pub stateOf : (lines : ℕ) (counts : List ℕ) (fs : List Frontier) → Answer
 stateOf lines counts fs = state counts (bit (getD (map (λ f. f .values) fs) (length fs - 1) 0) (lines - 1)) (length fs)

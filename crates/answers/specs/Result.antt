@@ -8,6 +8,6 @@ pub data Result : Type 0 where
   gives : ℕ → Result
 
 -- The reply word, as replyWord has it: number + 65,536 value; flag and place are 0.
-unfoldable pub resultWord : Result → ℕ
+unfoldable pub resultWord : (r : Result) → ℕ
 resultWord (refused n) = n
 resultWord (gives n) = 65536 * n

@@ -17,33 +17,33 @@ use Rattle.call_busiest.specs.Sharing.{share, shares, sharingKeeps}
 -- ---- The events
 
 -- Process p's event number n: of p alone, knowing of no other process; no proposition holds after it.
-unfoldable pub single : ℕ → ℕ → Event
+unfoldable pub single : (p n : ℕ) → Event
 single p n = record { mask = 2 ^ p; clock = listOf 8 (λ q. cond (eqb q p) n 0); labels = replicate 8 0 }
 
 -- The first n of them, counts rising.
-unfoldable pub singles : ℕ → ℕ → List Event
+unfoldable pub singles : (p n : ℕ) → List Event
 singles p n = listOf n (λ i. single p (suc i))
 
 -- Those of the first k processes, process by process, of which p has f p.
-unfoldable pub day : (ℕ → ℕ) → ℕ → List Event
+unfoldable pub day : (f : ℕ → ℕ) (n : ℕ) → List Event
 day f zero = []
 day f (suc p) = day f p ++ singles p (f p)
 
-abbrev pub busiestDay : ℕ → ℕ → List Event
+abbrev pub busiestDay : (k n : ℕ) → List Event
 busiestDay k n = day (share k n) k
 
 -- ---- The call
 
 -- 45: k is not 1 to 8, or n is above 65,535.
-unfoldable pub badDay : ℕ → ℕ → Bool
+unfoldable pub badDay : (k n : ℕ) → Bool
 badDay k n = badProcesses k || ltb mostDayEvents n
 
 -- 46: the day keeps over 1,024 frontiers.
-unfoldable pub tooBusy : ℕ → ℕ → Bool
+unfoldable pub tooBusy : (k n : ℕ) → Bool
 tooBusy k n = ltb mostFrontiers (sharingKeeps (shares k n))
 
 -- 6: a list of so many bytes is not one of n events.
-unfoldable pub badListLength : ℕ → ℕ → ℕ → Bool
+unfoldable pub badListLength : (w n bytes : ℕ) → Bool
 badListLength w n bytes = not (eqb bytes (n * eventLength w))
 
 -- What the call answers, and leaves in the list.
@@ -52,14 +52,14 @@ pub record Listed : Type 0 where
   pub events : List ℕ
 
 -- Turned back by a number; and with the day's events in the list.
-abbrev pub unwritten : List ℕ → ℕ → Listed
-unwritten events m = record { answer = refused m; events = events }
+abbrev pub dayTurnedBack : (events : List ℕ) (m : ℕ) → Listed
+dayTurnedBack events m = record { answer = refused m; events = events }
 
-abbrev pub written : ℕ → ℕ → ℕ → Listed
-written w k n = record { answer = gives (sharingKeeps (shares k n)); events = eventsBytes w (busiestDay k n) }
+abbrev pub dayWritten : (w k n : ℕ) → Listed
+dayWritten w k n = record { answer = gives (sharingKeeps (shares k n)); events = eventsBytes w (busiestDay k n) }
 
-unfoldable pub busiestCall : ℕ → ℕ → ℕ → List ℕ → Listed
+unfoldable pub busiestCall : (w k n : ℕ) (events : List ℕ) → Listed
 busiestCall w k n events =
-    cond (badDay k n) (unwritten events dayNumber)
-    (cond (tooBusy k n) (unwritten events busyNumber)
-    (cond (badListLength w n (length events)) (unwritten events lengthNumber) (written w k n)))
+    cond (badDay k n) (dayTurnedBack events dayNumber)
+    (cond (tooBusy k n) (dayTurnedBack events busyNumber)
+    (cond (badListLength w n (length events)) (dayTurnedBack events lengthNumber) (dayWritten w k n)))

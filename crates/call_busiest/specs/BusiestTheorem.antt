@@ -18,7 +18,7 @@ use Rattle.answers.specs.ToldLaws.{not-both, refused-told, gives-told}
 use Rattle.call_busiest.specs.Sharing.{share, shares, sharingKeeps}
 use Rattle.call_busiest.specs.SharingLaws.{total-shares}
 use Rattle.call_busiest.specs.DayBytes.{length-day}
-use Rattle.call_busiest.specs.Busiest.{Listed, unwritten, written, busiestCall}
+use Rattle.call_busiest.specs.Busiest.{Listed, dayTurnedBack, dayWritten, busiestCall}
 use Rattle.call_busiest.specs.BusiestLaws.{processes-turned, events-turned, busy-turned, length-turned, all-written}
 use Rattle.call_busiest.specs.BusiestExact.{Day, Exact, BusiestIsExact}
 
@@ -33,10 +33,10 @@ module _ (w k n : ℕ) (events : List ℕ) where
   NoDay = (k ≡ 0) ⊎ ((8 < k) ⊎ (65535 < n))
 
   data Way : Type 0 where
-    no-day : NoDay → call ≡ unwritten events 45 → Way
-    busy : Day k n → 1024 < K → call ≡ unwritten events 46 → Way
-    length-wrong : Day k n → K ≤ 1024 → length events ≢ n * eventLength w → call ≡ unwritten events 6 → Way
-    whole : Day k n → K ≤ 1024 → length events ≡ n * eventLength w → call ≡ written w k n → Way
+    no-day : NoDay → call ≡ dayTurnedBack events 45 → Way
+    busy : Day k n → 1024 < K → call ≡ dayTurnedBack events 46 → Way
+    length-wrong : Day k n → K ≤ 1024 → length events ≢ n * eventLength w → call ≡ dayTurnedBack events 6 → Way
+    whole : Day k n → K ≤ 1024 → length events ≡ n * eventLength w → call ≡ dayWritten w k n → Way
 
   bad-processes : badProcesses k ≡ true → NoDay
   unfolding badProcesses
@@ -85,44 +85,44 @@ module _ (w k n : ℕ) (events : List ℕ) where
   leaves L e = ap (λ (M : Listed). M .events) e
 
   -- Turned back by one number, it is not by another, and gives nothing.
-  other-number : (a b : ℕ) → call ≡ unwritten events a → call .answer ≡ refused b → a ≡ b
-  other-number a b e q = let same : refused a ≡ refused b = sym (answers (unwritten events a) e) ∙ q in cc
+  other-number : (a b : ℕ) → call ≡ dayTurnedBack events a → call .answer ≡ refused b → a ≡ b
+  other-number a b e q = let same : refused a ≡ refused b = sym (answers (dayTurnedBack events a) e) ∙ q in cc
 
-  gives-none : (a m : ℕ) → call ≡ unwritten events a → call .answer ≡ gives m → ⊥
-  gives-none a m e q = not-both a m (sym (answers (unwritten events a) e) ∙ q)
+  gives-none : (a m : ℕ) → call ≡ dayTurnedBack events a → call .answer ≡ gives m → ⊥
+  gives-none a m e q = not-both a m (sym (answers (dayTurnedBack events a) e) ∙ q)
 
-  turned-told : (a : ℕ) → 0 < a → a < 256 → call ≡ unwritten events a → Told (call .answer)
-  turned-told a some small e = rw (answers (unwritten events a) e) (refused-told a some small)
+  turned-told : (a : ℕ) → 0 < a → a < 256 → call ≡ dayTurnedBack events a → Told (call .answer)
+  turned-told a some small e = rw (answers (dayTurnedBack events a) e) (refused-told a some small)
 
   exact : Way → Exact w k n events call
   exact (no-day x e) = record {
-    no-day = (λ q. x, λ y. answers (unwritten events 45) e);
+    no-day = (λ q. x, λ y. answers (dayTurnedBack events 45) e);
     too-busy = (λ q. absurd (omega (arith, other-number 45 46 e q)), λ h. absurd (no-day-day x (h .0)));
     wrong-length = (λ q. absurd (omega (arith, other-number 45 6 e q)), λ h. absurd (no-day-day x (h .0)));
     given = λ m. (λ q. absurd (gives-none 45 m e q), λ h. absurd (no-day-day x (h .0)));
-    refused-leaves = λ m q. leaves (unwritten events 45) e;
+    refused-leaves = λ m q. leaves (dayTurnedBack events 45) e;
     given-writes = λ m q. absurd (gives-none 45 m e q);
-    same-length = ap length (leaves (unwritten events 45) e);
+    same-length = ap length (leaves (dayTurnedBack events 45) e);
     told = turned-told 45 (lit< tt) (lit< tt) e;
   }
   exact (busy d l e) = record {
     no-day = (λ q. absurd (omega (arith, other-number 46 45 e q)), λ x. absurd (no-day-day x d));
-    too-busy = (λ q. (d, l), λ h. answers (unwritten events 46) e);
+    too-busy = (λ q. (d, l), λ h. answers (dayTurnedBack events 46) e);
     wrong-length = (λ q. absurd (omega (arith, other-number 46 6 e q)), λ h. absurd (omega (arith, h .1)));
     given = λ m. (λ q. absurd (gives-none 46 m e q), λ h. absurd (omega (arith, h .1)));
-    refused-leaves = λ m q. leaves (unwritten events 46) e;
+    refused-leaves = λ m q. leaves (dayTurnedBack events 46) e;
     given-writes = λ m q. absurd (gives-none 46 m e q);
-    same-length = ap length (leaves (unwritten events 46) e);
+    same-length = ap length (leaves (dayTurnedBack events 46) e);
     told = turned-told 46 (lit< tt) (lit< tt) e;
   }
   exact (length-wrong d l o e) = record {
     no-day = (λ q. absurd (omega (arith, other-number 6 45 e q)), λ x. absurd (no-day-day x d));
     too-busy = (λ q. absurd (omega (arith, other-number 6 46 e q)), λ h. absurd (omega (arith, h .1)));
-    wrong-length = (λ q. (d, l, o), λ h. answers (unwritten events 6) e);
+    wrong-length = (λ q. (d, l, o), λ h. answers (dayTurnedBack events 6) e);
     given = λ m. (λ q. absurd (gives-none 6 m e q), λ h. absurd (o (h .2)));
-    refused-leaves = λ m q. leaves (unwritten events 6) e;
+    refused-leaves = λ m q. leaves (dayTurnedBack events 6) e;
     given-writes = λ m q. absurd (gives-none 6 m e q);
-    same-length = ap length (leaves (unwritten events 6) e);
+    same-length = ap length (leaves (dayTurnedBack events 6) e);
     told = turned-told 6 (lit< tt) (lit< tt) e;
   }
   exact (whole d l s e) = record {
@@ -131,15 +131,15 @@ module _ (w k n : ℕ) (events : List ℕ) where
     wrong-length = (λ q. absurd (not-both 6 K (sym q ∙ given)), λ h. absurd (h .2 s));
     given = λ m. (λ q. (d, l, s, value m q), λ h. rw (h .3) given);
     refused-leaves = λ m q. absurd (not-both m K (sym q ∙ given));
-    given-writes = λ m q. leaves (written w k n) e;
+    given-writes = λ m q. leaves (dayWritten w k n) e;
     same-length =
-        ap length (leaves (written w k n) e) ∙ length-day w (share k n) k
+        ap length (leaves (dayWritten w k n) e) ∙ length-day w (share k n) k
         ∙ ap (λ (m : ℕ). m * eventLength w) (total-shares k n (d .some-process)) ∙ sym s;
     told = rw given (gives-told K (omega arith));
   }
     where
       given : call .answer ≡ gives K
-      given = answers (written w k n) e
+      given = answers (dayWritten w k n) e
 
       value : (m : ℕ) → call .answer ≡ gives m → m ≡ K
       value m q = let same : gives K ≡ gives m = sym given ∙ q in let z : K ≡ m = cc in sym z

@@ -21,16 +21,16 @@ pub record Closed : Type 0 where
   pub window : List ℕ
 
 -- The mask of the closed processes with process p.
-abbrev pub closing : ℕ → ℕ → ℕ
+abbrev pub closing : (closed p : ℕ) → ℕ
 closing closed p = bitOr closed (2 ^ p)
 
 -- The frontiers that stay where these processes are closed, in their order. (In a watch that calls alone wrote the
 -- largest is always among them; in other bytes it may be that none is.)
-unfoldable pub remaining : ℕ → List ℕ → ℕ → List Frontier → List Frontier
+unfoldable pub remaining : (w : ℕ) (s : List ℕ) (closed : ℕ) (fs : List Frontier) → List Frontier
 remaining w s closed fs = filtered (λ f. keptBy 8 (processCount s) closed (at (takenCounts w s)) (at (f .counts))) fs
 
 -- Process p is closed.
-unfoldable pub closeProcess : ℕ → ℕ → List ℕ → List ℕ → Closed
+unfoldable pub closeProcess : (w p : ℕ) (s window : List ℕ) → Closed
 closeProcess w p s window =
     let closed = closing (closedMask s) p in
     let fs = frontiers w window (keptCount s) in
@@ -41,7 +41,7 @@ closeProcess w p s window =
       window = replaced w window (length fs) gs;
     }
 
-unfoldable pub closeCall : ℕ → ℕ → List ℕ → List ℕ → Closed
+unfoldable pub closeCall : (w p : ℕ) (s window : List ℕ) → Closed
 closeCall w p s window =
     let turned : ℕ → Closed = λ n. record { answer = turnedBack n 0; bytes = s; window = window } in
     cond (badRecordLength w (length s) || badWindowLength w (length window)) (turned lengthNumber)

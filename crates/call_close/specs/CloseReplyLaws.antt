@@ -17,9 +17,9 @@ use Rattle.refusals.specs.RefusalLaws.{state-within}
 use Rattle.answers.specs.Answer.{turnedBack, processClosed, replyWord}
 use Rattle.answers.specs.Turns.{by-test}
 use Rattle.call_close.specs.Close.{Closed, closing, remaining, closeProcess, closeCall}
-use Rattle.call_close.specs.CloseReplies.{Told, RepliesTell}
+use Rattle.call_close.specs.CloseReplies.{CloseTold, CloseTells}
 
-turned-told : (n : ℕ) → 0 < n → n < 256 → Told (turnedBack n 0)
+turned-told : (n : ℕ) → 0 < n → n < 256 → CloseTold (turnedBack n 0)
 unfolding replyWord
 turned-told n some small = record {
   closed-exactly = λ m. (λ x. let z : _≡_ {A = ℕ} 0 1 = cc in absurd (omega arith), λ x. absurd (omega (arith, x .0)));
@@ -27,7 +27,7 @@ turned-told n some small = record {
       (λ x. let z : n ≡ m = cc in (omega arith, omega arith), λ x. let z : n ≡ m = omega (arith, x .1) in rw z);
 }
 
-closed-told : (n : ℕ) → n < 65536 → Told (processClosed n)
+closed-told : (n : ℕ) → n < 65536 → CloseTold (processClosed n)
 unfolding replyWord
 closed-told n small = record {
   closed-exactly = λ m.
@@ -45,17 +45,17 @@ few-remain w s closed window n =
     omega (arith, length-filtered stay (frontiers w window n), length-frontiers w window n)
 
 process-told : (w p : ℕ) (s window : List ℕ) → badState w (roomOf w (length window)) s ≡ false
-    → Told (closeProcess w p s window .answer)
+    → CloseTold (closeProcess w p s window .answer)
 unfolding closeProcess
 process-told w p s window good =
     let few = few-remain w s (closing (closedMask s) p) window (keptCount s) in
     closed-told _ (omega (arith, few, state-within w (roomOf w (length window)) s good .3))
 
-pub replies-tell : RepliesTell
+pub replies-tell : CloseTells
 unfolding closeCall
 replies-tell w p s window =
     let back : (n : ℕ) → Closed = λ n. record { answer = turnedBack n 0; bytes = s; window = window } in
-    let P : Closed → Type 0 = λ c. Told (c .answer) in
+    let P : Closed → Type 0 = λ c. CloseTold (c .answer) in
     let told : (n : ℕ) → 0 < n → n < 256 → P (back n) = λ n some small. turned-told n some small in
     let six = badRecordLength w (length s) || badWindowLength w (length window) in
     by-test P six (back 6) _ (λ _. told 6 (omega arith) (omega arith)) λ _.

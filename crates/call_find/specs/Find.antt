@@ -13,11 +13,11 @@ use Rattle.answers.specs.Answer.{Answer, turnedBack, found, absent}
 use Rattle.numbers.specs.Refusal.{lengthNumber, noLineNumber, stateNumber}
 
 -- The place, from i on, of the first frontier at which the line holds; none if there is none.
-unfoldable pub findFrom : ℕ → ℕ → List Frontier → Answer
+unfoldable pub findFrom : (line i : ℕ) (fs : List Frontier) → Answer
 findFrom line i [] = absent
 findFrom line i (f ∷ fs) = cond (bit (f .values) line) (found i) (findFrom line (i + 1) fs)
 
-unfoldable pub findCall : ℕ → ℕ → List ℕ → List ℕ → Answer
+unfoldable pub findCall : (w line : ℕ) (s window : List ℕ) → Answer
 findCall w line s window =
     cond (badRecordLength w (length s) || badWindowLength w (length window)) (turnedBack lengthNumber 0)
     (cond (badState w (roomOf w (length window)) s) (turnedBack stateNumber 0)

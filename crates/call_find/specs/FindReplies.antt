@@ -6,7 +6,7 @@ use mathlib.Core.Logic.{_↔_}
 use Rattle.answers.specs.Answer.{Answer, turnedBack, found, absent, replyWord}
 use Rattle.call_find.specs.Find.{findCall}
 
-pub record Told (a : Answer) : Type 0 where
+pub record FindTold (a : Answer) : Type 0 where
   -- found exactly if the word's flag is 1: its value is then the place
   pub found-exactly : (i : ℕ) → (a ≡ found i) ↔ ((replyWord a / 256 % 256 ≡ 1) × (replyWord a / 65536 % 65536 ≡ i))
   -- turned back exactly if its number is not 0
@@ -14,5 +14,5 @@ pub record Told (a : Answer) : Type 0 where
   -- none exactly if it is 0
   pub absent-exactly : (a ≡ absent) ↔ (replyWord a ≡ 0)
 
-abbrev pub RepliesTell : Type 0
-RepliesTell = (w line : ℕ) (s window : List ℕ) → Told (findCall w line s window)
+abbrev pub FindTells : Type 0
+FindTells = (w line : ℕ) (s window : List ℕ) → FindTold (findCall w line s window)

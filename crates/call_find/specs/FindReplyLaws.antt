@@ -16,9 +16,9 @@ use Rattle.answers.specs.Answer.{Answer, turnedBack, found, absent, replyWord}
 use Rattle.answers.specs.Turns.{by-test}
 use Rattle.call_find.specs.Find.{findFrom, findCall}
 use Rattle.call_find.specs.FindLaws.{Finding, finding, first, nowhere}
-use Rattle.call_find.specs.FindReplies.{Told, RepliesTell}
+use Rattle.call_find.specs.FindReplies.{FindTold, FindTells}
 
-turned-told : (n : ℕ) → 0 < n → n < 256 → Told (turnedBack n 0)
+turned-told : (n : ℕ) → 0 < n → n < 256 → FindTold (turnedBack n 0)
 unfolding replyWord
 turned-told n some small = record {
   found-exactly = λ i. (λ x. let z : _≡_ {A = ℕ} 0 1 = cc in absurd (omega arith), λ x. absurd (omega (arith, x .0)));
@@ -27,7 +27,7 @@ turned-told n some small = record {
   absent-exactly = (λ x. let z : _≡_ {A = ℕ} 0 1 = cc in absurd (omega arith), λ x. absurd (omega (arith, x)));
 }
 
-found-told : (i : ℕ) → i < 65536 → Told (found i)
+found-told : (i : ℕ) → i < 65536 → FindTold (found i)
 unfolding replyWord
 found-told i small = record {
   found-exactly = λ j.
@@ -37,7 +37,7 @@ found-told i small = record {
   absent-exactly = (λ x. let z : _≡_ {A = ℕ} 0 1 = cc in absurd (omega arith), λ x. absurd (omega (arith, x)));
 }
 
-absent-told : Told absent
+absent-told : FindTold absent
 unfolding replyWord
 absent-told = record {
   found-exactly = λ i. (λ x. let z : _≡_ {A = ℕ} 0 1 = cc in absurd (omega arith), λ x. absurd (omega (arith, x .0)));
@@ -46,10 +46,10 @@ absent-told = record {
   absent-exactly = (λ x. refl, λ x. refl);
 }
 
-search-told : (line : ℕ) (fs : List Frontier) (d : Frontier) → length fs ≤ 1024 → Told (findFrom line 0 fs)
+search-told : (line : ℕ) (fs : List Frontier) (d : Frontier) → length fs ≤ 1024 → FindTold (findFrom line 0 fs)
 search-told line fs d few = go (finding line 0 fs d)
   where
-    go : Finding line 0 fs d → Told (findFrom line 0 fs)
+    go : Finding line 0 fs d → FindTold (findFrom line 0 fs)
     go (first j l q t n) = rw q (found-told (0 + j) (omega arith))
     go (nowhere q n) = rw q absent-told
 
@@ -59,13 +59,13 @@ unfolding frontiers
 few w s window good =
     rw (length-listOf (keptCount s) (frontierAt w window)) (state-within w (roomOf w (length window)) s good .3)
 
-pub replies-tell : RepliesTell
+pub replies-tell : FindTells
 unfolding findCall
 replies-tell w line s window =
     let back : (n : ℕ) → Answer = λ n. turnedBack n 0 in
     let six = badRecordLength w (length s) || badWindowLength w (length window) in
-    by-test Told six (back 6) _ (λ _. turned-told 6 (omega arith) (omega arith)) λ _.
-    by-test Told (badState w (roomOf w (length window)) s) (back 34) _ (λ _. turned-told 34 (omega arith) (omega arith))
+    by-test FindTold six (back 6) _ (λ _. turned-told 6 (omega arith) (omega arith)) λ _.
+    by-test FindTold (badState w (roomOf w (length window)) s) (back 34) _ (λ _. turned-told 34 (omega arith) (omega arith))
     λ good.
-    by-test Told (leb (lineTotal s) line) (back 11) _ (λ _. turned-told 11 (omega arith) (omega arith)) λ _.
+    by-test FindTold (leb (lineTotal s) line) (back 11) _ (λ _. turned-told 11 (omega arith) (omega arith)) λ _.
     search-told line (frontiers w window (keptCount s)) (frontierAt w window 0) (few w s window good)

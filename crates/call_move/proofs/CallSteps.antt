@@ -13,7 +13,7 @@ use Rattle.frontiers.specs.Bytes.{frontierLength}
 use Rattle.refusals.specs.Refusals.{roomOf, badState}
 use Rattle.answers.specs.Turns.{chosen-by, passed, end, turn}
 use Rattle.call_move.specs.Parts.{lengthOf, recordParts, windowParts}
-use Rattle.call_move.specs.Move.{Moved, moved, someTooLarge, badLengths, overflows, moveCall}
+use Rattle.call_move.specs.Move.{Moved, moved, someTooLarge, badMoveLengths, overflows, moveCall}
 use Rattle.call_move.specs.MoveCode.{moveFault}
 use Rattle.call_move.specs.PartLaws.{length-windowParts}
 use Rattle.call_move.specs.LengthLaws.{Lengths, right-lengths}
@@ -41,7 +41,7 @@ module _ (v w : ℕ) (s window t target : List ℕ) where
   unfolding moveCall moveFault turned whole
   move-by =
       chosen-by
-      (turn (badLengths v w (length s) (length window) (length t) (length target)) 6
+      (turn (badMoveLengths v w (length s) (length window) (length t) (length target)) 6
       (turn (badState v room s) 34
       (turn (overflows v w s window) 43 end)))
       turned whole (lit< tt, (lit< tt, (lit< tt, tt)))
@@ -58,14 +58,14 @@ module _ (v w : ℕ) (s window t target : List ℕ) where
   pub move-right : fault ≡ 0 → Lengths v w (length s) (length window) (length t) (length target)
   unfolding moveFault
   move-right h =
-      let lengths = passed (badLengths v w (length s) (length window) (length t) (length target)) 6 _ (lit< tt) h in
+      let lengths = passed (badMoveLengths v w (length s) (length window) (length t) (length target)) 6 _ (lit< tt) h in
       right-lengths v w (length s) (length window) (length t) (length target) (lengths .0)
 
   pub move-fits : fault ≡ 0
       → (someTooLarge v w recordParts s ≡ false) × (someTooLarge v w (windowParts room) window ≡ false)
   unfolding moveFault overflows
   move-fits h =
-      let lengths = passed (badLengths v w (length s) (length window) (length t) (length target)) 6 _ (lit< tt) h in
+      let lengths = passed (badMoveLengths v w (length s) (length window) (length t) (length target)) 6 _ (lit< tt) h in
       let state = passed (badState v room s) 34 _ (lit< tt) (lengths .1) in
       or-false-e (someTooLarge v w recordParts s) (someTooLarge v w (windowParts room) window)
       (passed (overflows v w s window) 43 _ (lit< tt) (state .1) .0)

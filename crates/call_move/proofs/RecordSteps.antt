@@ -10,7 +10,7 @@ use Rattle.codec.specs.SetsLaws.{sets-sets}
 use Rattle.clocks.specs.stored.BoundedLaws.{or-false-e}
 use Rattle.frontiers.specs.Bytes.{countBytes}
 use Rattle.records.specs.Record.{eventLength, tablePlace, pendingPlace}
-use Rattle.call_move.specs.Parts.{Part, partLength, lengthOf, repeated, eventParts, recordParts}
+use Rattle.call_move.specs.Parts.{Part, partLength, lengthOf, manyOf, eventParts, recordParts}
 use Rattle.call_move.specs.Move.{countsFrom, moved, someTooLarge}
 use Rattle.call_move.specs.MoveCode.{anyTooLarge, frontParts, partsTo}
 use Rattle.call_move.specs.PartLaws.{lengthOf-append, lengthOf-repeated, length-eventParts, repeated-more, someTooLarge-append}
@@ -22,14 +22,14 @@ use Rattle.call_move.proofs.PartSteps.{length-counts, stored-behind, pa
 pub parts-place : (w i : ℕ) → pendingPlace w i ≡ lengthOf w (partsTo i)
 unfolding lengthOf partLength frontParts partsTo
 parts-place w i =
-    rw (lengthOf-append w frontParts (repeated i eventParts), lengthOf-repeated w i eventParts, length-eventParts w)
+    rw (lengthOf-append w frontParts (manyOf i eventParts), lengthOf-repeated w i eventParts, length-eventParts w)
     (omega arith)
 
 parts-next : (i : ℕ) → partsTo (i + 1) ≡ partsTo i ++ eventParts
 unfolding partsTo
 parts-next i =
     ap (λ (l : List Part). frontParts ++ l) (repeated-more i eventParts)
-    ∙ sym (append-assoc frontParts (repeated i eventParts) eventParts)
+    ∙ sym (append-assoc frontParts (manyOf i eventParts) eventParts)
 
 -- All of them are the record's.
 pub parts-all : partsTo 32 ≡ recordParts
@@ -40,7 +40,7 @@ parts-all = refl
 
 pub front-looked : (v w : ℕ) (s : List ℕ)
     → (anyTooLarge v w 64 (drop (8 + 8 * v) s) || anyTooLarge v w 8 (drop 8 s)) ≡ someTooLarge v w (partsTo 0) s
-unfolding someTooLarge anyTooLarge repeated partsTo frontParts
+unfolding someTooLarge anyTooLarge manyOf partsTo frontParts
 front-looked v w s =
     or-comm (anyTooLarge v w 64 (drop (8 + 8 * v) s)) (anyTooLarge v w 8 (drop 8 s))
     ∙ rw (← drop-drop (8 * v) 8 s, or-false)
@@ -64,7 +64,7 @@ pub front-fits : (v w : ℕ) (s : List ℕ) → someTooLarge v w recordParts s �
 unfolding partsTo
 front-fits v w s h =
     or-false-e (someTooLarge v w frontParts s) _
-    (sym (someTooLarge-append v w frontParts (repeated 32 eventParts) s)
+    (sym (someTooLarge-append v w frontParts (manyOf 32 eventParts) s)
     ∙ ap (λ (l : List Part). someTooLarge v w l s) parts-all ∙ h) .0
 
 pub event-fits : (v w i : ℕ) (s : List ℕ) (place : ℕ) → place ≡ pendingPlace v i → i < 32
@@ -148,7 +148,7 @@ front-written v w s t t₁ t₂ t₃ t₄ from to e f h e₁ e₂ e₃ e₄ =
 -- Once more over what is written, nothing changes.
 pub front-begins : (v w : ℕ) (s t u : List ℕ) → u ≡ sets t 0 (moved v w frontParts s)
     → u ≡ sets u 0 (moved v w (partsTo 0) s)
-unfolding partsTo repeated
+unfolding partsTo manyOf
 front-begins v w s t u e =
     let front : List ℕ = moved v w frontParts s in
     rw (append-nil, e) (sym (sets-sets t 0 front front refl))

@@ -7,7 +7,7 @@ use mathlib.Core.List.{List, [], append-nil}
 use lib.ListN.{length, take, drop}
 use lib.Seq.{sets, drop-drop}
 use Rattle.frontiers.specs.Bytes.{countBytes, frontierLength}
-use Rattle.call_move.specs.Parts.{repeated, frontierParts, windowParts}
+use Rattle.call_move.specs.Parts.{manyOf, frontierParts, windowParts}
 use Rattle.call_move.specs.Move.{countsFrom, moved, someTooLarge}
 use Rattle.call_move.specs.MoveCode.{anyTooLarge}
 use Rattle.call_move.specs.PartLaws.{length-windowParts, repeated-more}
@@ -60,9 +60,9 @@ frontiers-written v w i s from t to e f h =
     (f ∙ sym (length-windowParts w i)) h)
 
 pub none-looked : (v w : ℕ) (s : List ℕ) → false ≡ someTooLarge v w (windowParts 0) s
-unfolding someTooLarge repeated
+unfolding someTooLarge manyOf
 none-looked v w s = refl
 
 pub none-written : (v w : ℕ) (s t : List ℕ) → t ≡ sets t 0 (moved v w (windowParts 0) s)
-unfolding moved repeated
+unfolding moved manyOf
 none-written v w s t = refl

@@ -11,7 +11,7 @@ use Rattle.frontiers.specs.Bytes.{frontierLength}
 use Rattle.records.specs.Record.{recordLength}
 use Rattle.refusals.specs.Refusals.{badRecordLength, badWindowLength, roomOf}
 use Rattle.refusals.specs.RefusalLaws.{right-length, room-few}
-use Rattle.call_move.specs.Move.{badLengths}
+use Rattle.call_move.specs.Move.{badMoveLengths}
 
 -- A window of a right length is as long as the frontiers that it has room for.
 pub window-whole : (w n : ℕ) → badWindowLength w n ≡ false → n ≡ roomOf w n * frontierLength w
@@ -39,8 +39,8 @@ pub record Lengths (v w record-length window-length target-length target-window-
   pub target-whole : target-window-length ≡ roomOf v window-length * frontierLength w
   pub few : roomOf v window-length ≤ 1024
 
-pub right-lengths : (v w a b c d : ℕ) → badLengths v w a b c d ≡ false → Lengths v w a b c d
-unfolding badLengths
+pub right-lengths : (v w a b c d : ℕ) → badMoveLengths v w a b c d ≡ false → Lengths v w a b c d
+unfolding badMoveLengths
 right-lengths v w a b c d h =
     let first = or-false-e (badRecordLength v a) _ h in
     let second = or-false-e (badWindowLength v b) _ (first .1) in
@@ -59,8 +59,8 @@ right-lengths v w a b c d h =
     }
 
 pub none-wrong : (v w a b c d : ℕ) → a ≡ recordLength v → badWindowLength v b ≡ false → c ≡ recordLength w
-    → badWindowLength w d ≡ false → roomOf v b ≡ roomOf w d → badLengths v w a b c d ≡ false
-unfolding badLengths badRecordLength
+    → badWindowLength w d ≡ false → roomOf v b ≡ roomOf w d → badMoveLengths v w a b c d ≡ false
+unfolding badMoveLengths badRecordLength
 none-wrong v w a b c d source window target target-window rooms =
     rw (
       eq-eqb a (recordLength v) source,

@@ -16,21 +16,21 @@ use Rattle.call_move.specs.Parts.{Part, plain, counts, recordParts, wind
 -- ---- Bytes moved
 
 -- The first n counts of v bytes.
-unfoldable pub countsFrom : ℕ → ℕ → List ℕ → List ℕ
+unfoldable pub countsFrom : (v n : ℕ) (s : List ℕ) → List ℕ
 countsFrom v n s = listOf n (λ i. number s (i * v) v)
 
 -- Parts moved: bytes as they are, counts of v bytes written with w bytes.
-unfoldable pub moved : ℕ → ℕ → List Part → List ℕ → List ℕ
+unfoldable pub moved : (v w : ℕ) → (parts : List Part) → (s : List ℕ) → List ℕ
 moved v w [] s = []
 moved v w (plain n ∷ ps) s = take n s ++ moved v w ps (drop n s)
 moved v w (counts n ∷ ps) s = countBytes w (countsFrom v n s) ++ moved v w ps (drop (n * v) s)
 
 -- A count has no place in w bytes.
-unfoldable pub tooLarge : ℕ → ℕ → Bool
+unfoldable pub tooLarge : (w c : ℕ) → Bool
 tooLarge w c = leb (256 ^ w) c
 
 -- Some count of the parts has none.
-unfoldable pub someTooLarge : ℕ → ℕ → List Part → List ℕ → Bool
+unfoldable pub someTooLarge : (v w : ℕ) → (parts : List Part) → (s : List ℕ) → Bool
 someTooLarge v w [] s = false
 someTooLarge v w (plain n ∷ ps) s = someTooLarge v w ps (drop n s)
 someTooLarge v w (counts n ∷ ps) s =
@@ -39,8 +39,8 @@ someTooLarge v w (counts n ∷ ps) s =
 -- ---- The call
 
 -- 6: one of the four lengths is wrong for its form, or the windows are not of as many frontiers.
-unfoldable pub badLengths : ℕ → ℕ → ℕ → ℕ → ℕ → ℕ → Bool
-badLengths v w record-length window-length target-length target-window-length =
+unfoldable pub badMoveLengths : (v w record-length window-length target-length target-window-length : ℕ) → Bool
+badMoveLengths v w record-length window-length target-length target-window-length =
     badRecordLength v record-length
     || (badWindowLength v window-length
     || (badRecordLength w target-length
@@ -49,7 +49,7 @@ badLengths v w record-length window-length target-length target-window-length =
 
 -- 43: some count of the record or of the window, in an unused place too, is too large for w bytes. (From 2 bytes to 4
 -- none is.)
-unfoldable pub overflows : ℕ → ℕ → List ℕ → List ℕ → Bool
+unfoldable pub overflows : (v w : ℕ) (s window : List ℕ) → Bool
 overflows v w s window =
     someTooLarge v w recordParts s || someTooLarge v w (windowParts (roomOf v (length window))) window
 
@@ -61,10 +61,10 @@ pub record Moved : Type 0 where
   pub window : List ℕ
 
 -- The watch of record s and window `window`, moved to a record t and a window `target`.
-unfoldable pub moveCall : ℕ → ℕ → List ℕ → List ℕ → List ℕ → List ℕ → Moved
+unfoldable pub moveCall : (v w : ℕ) (s window t target : List ℕ) → Moved
 moveCall v w s window t target =
     let turned : ℕ → Moved = λ n. record { number = n; bytes = t; window = target } in
-    cond (badLengths v w (length s) (length window) (length t) (length target)) (turned lengthNumber)
+    cond (badMoveLengths v w (length s) (length window) (length t) (length target)) (turned lengthNumber)
     (cond (badState v (roomOf v (length window)) s) (turned stateNumber)
     (cond (overflows v w s window) (turned tooLargeNumber)
     (record {

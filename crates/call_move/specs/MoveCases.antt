@@ -10,10 +10,10 @@ use Rattle.refusals.specs.Refusals.{roomOf, badState}
 use Rattle.call_move.specs.Parts.{recordParts, windowParts}
 use Rattle.call_move.specs.PartLaws.{length-windowParts, length-moved}
 use Rattle.call_move.specs.LengthLaws.{right-lengths}
-use Rattle.call_move.specs.Move.{moved, badLengths, overflows, moveCall}
+use Rattle.call_move.specs.Move.{moved, badMoveLengths, overflows, moveCall}
 
 pub record Passes (v w : ℕ) (s window t target : List ℕ) : Type 0 where
-  pub lengths : badLengths v w (length s) (length window) (length t) (length target) ≡ false
+  pub lengths : badMoveLengths v w (length s) (length window) (length t) (length target) ≡ false
   pub state : badState v (roomOf v (length window)) s ≡ false
   pub fits : overflows v w s window ≡ false
   pub moves : moveCall v w s window t target ≡ record {
@@ -26,10 +26,10 @@ pub passes : (v w : ℕ) (s window t target : List ℕ) → moveCall v w s windo
     → Passes v w s window t target
 unfolding moveCall
 passes v w s window t target q =
-    go (badLengths v w (length s) (length window) (length t) (length target)) refl
+    go (badMoveLengths v w (length s) (length window) (length t) (length target)) refl
     (badState v (roomOf v (length window)) s) refl (overflows v w s window) refl
   where
-    go : (a : Bool) → badLengths v w (length s) (length window) (length t) (length target) ≡ a
+    go : (a : Bool) → badMoveLengths v w (length s) (length window) (length t) (length target) ≡ a
         → (b : Bool) → badState v (roomOf v (length window)) s ≡ b → (c : Bool) → overflows v w s window ≡ c
         → Passes v w s window t target
     go true h b i c j = let z : _≡_ {A = ℕ} 6 0 = rw h at q in absurd (omega arith)
@@ -51,10 +51,10 @@ pub too-large : (v w : ℕ) (s window t target : List ℕ) → moveCall v w s wi
     → overflows v w s window ≡ true
 unfolding moveCall
 too-large v w s window t target q =
-    go (badLengths v w (length s) (length window) (length t) (length target)) refl
+    go (badMoveLengths v w (length s) (length window) (length t) (length target)) refl
     (badState v (roomOf v (length window)) s) refl (overflows v w s window) refl
   where
-    go : (a : Bool) → badLengths v w (length s) (length window) (length t) (length target) ≡ a
+    go : (a : Bool) → badMoveLengths v w (length s) (length window) (length t) (length target) ≡ a
         → (b : Bool) → badState v (roomOf v (length window)) s ≡ b → (c : Bool) → overflows v w s window ≡ c
         → overflows v w s window ≡ true
     go true h b i c j = let z : _≡_ {A = ℕ} 6 43 = rw h at q in absurd (omega arith)
@@ -64,18 +64,18 @@ too-large v w s window t target q =
 
 -- The number by the conditions.
 module _ (v w : ℕ) (s window t target : List ℕ) where
-  pub number-6 : badLengths v w (length s) (length window) (length t) (length target) ≡ true
+  pub number-6 : badMoveLengths v w (length s) (length window) (length t) (length target) ≡ true
       → moveCall v w s window t target .number ≡ 6
   unfolding moveCall
   number-6 h = rw h
 
-  pub number-43 : badLengths v w (length s) (length window) (length t) (length target) ≡ false
+  pub number-43 : badMoveLengths v w (length s) (length window) (length t) (length target) ≡ false
       → badState v (roomOf v (length window)) s ≡ false → overflows v w s window ≡ true
       → moveCall v w s window t target .number ≡ 43
   unfolding moveCall
   number-43 h i j = rw (h, i, j)
 
-  pub number-0 : badLengths v w (length s) (length window) (length t) (length target) ≡ false
+  pub number-0 : badMoveLengths v w (length s) (length window) (length t) (length target) ≡ false
       → badState v (roomOf v (length window)) s ≡ false → overflows v w s window ≡ false
       → moveCall v w s window t target .number ≡ 0
   unfolding moveCall

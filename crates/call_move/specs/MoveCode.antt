@@ -7,8 +7,8 @@ use lib.ListN.{length}
 use Rattle.codec.specs.Little.{number}
 use Rattle.clocks.specs.Bounded.{anyBelow}
 use Rattle.refusals.specs.Refusals.{roomOf, badState}
-use Rattle.call_move.specs.Parts.{Part, plain, counts, repeated, eventParts}
-use Rattle.call_move.specs.Move.{tooLarge, badLengths, overflows}
+use Rattle.call_move.specs.Parts.{Part, plain, counts, manyOf, eventParts}
+use Rattle.call_move.specs.Move.{tooLarge, badMoveLengths, overflows}
 
 -- One of the first n counts of v bytes has no place in w bytes.
 unfoldable pub anyTooLarge : ℕ → ℕ → ℕ → List ℕ → Bool
@@ -19,10 +19,10 @@ unfoldable pub frontParts : List Part
 frontParts = plain 8 ∷ counts 8 ∷ counts 64 ∷ plain 192 ∷ []
 
 unfoldable pub partsTo : ℕ → List Part
-partsTo i = frontParts ++ repeated i eventParts
+partsTo i = frontParts ++ manyOf i eventParts
 
 -- The number that a move is turned back with, by the lengths of the buffers that it writes; 0 for none.
 unfoldable pub moveFault : ℕ → ℕ → List ℕ → List ℕ → ℕ → ℕ → ℕ
 moveFault v w s window t target =
-    cond (badLengths v w (length s) (length window) t target) 6
+    cond (badMoveLengths v w (length s) (length window) t target) 6
     (cond (badState v (roomOf v (length window)) s) 34 (cond (overflows v w s window) 43 0))

@@ -11,7 +11,7 @@ use Rattle.frontiers.specs.Bytes.{frontierAt}
 use Rattle.records.specs.Record.{processCount, lineTotal, pendingCount, closedMask, keptCount, takenCounts, lastClocks, tableLines, pendingAt}
 use Rattle.refusals.specs.Refusals.{roomOf, badState}
 use Rattle.numbers.specs.Refusal.{tooLargeNumber}
-use Rattle.call_move.specs.Move.{Moved, badLengths, moveCall}
+use Rattle.call_move.specs.Move.{Moved, badMoveLengths, moveCall}
 
 -- A record t with counts of w bytes says in every field what s says with counts of v bytes.
 pub record SameFields (v w : ℕ) (s t : List ℕ) : Type 0 where
@@ -54,7 +54,7 @@ WidenNever43 =
 abbrev pub ThereAndBack : Type 0
 ThereAndBack =
     (v w : ℕ) → v ≤ w → (s window t target : List ℕ) → Bytes s → Bytes window
-    → badLengths v w (length s) (length window) (length t) (length target) ≡ false
+    → badMoveLengths v w (length s) (length window) (length t) (length target) ≡ false
     → badState v (roomOf v (length window)) s ≡ false
     → (u away : List ℕ) → length u ≡ length s → length away ≡ length window
     → let m = moveCall v w s window t target in

@@ -20,7 +20,7 @@ use Rattle.call_move.specs.FieldLaws.{record-same, frontier-moved}
 use Rattle.call_move.specs.LengthLaws.{Lengths, right-lengths, none-wrong}
 use Rattle.call_move.specs.MoveCases.{Passes, passes, window-written, too-large, number-0}
 use Rattle.call_move.specs.MoveExact.{SameFields, MoveExact, WidenNever43, ThereAndBack}
-use Rattle.call_move.specs.Move.{moved, someTooLarge, badLengths, overflows, moveCall}
+use Rattle.call_move.specs.Move.{moved, someTooLarge, badMoveLengths, overflows, moveCall}
 
 module _ (v w : ℕ) (s window t target : List ℕ) (b : Bytes s) (c : Bytes window)
     (p : Passes v w s window t target) where
@@ -63,7 +63,7 @@ module _ (v w : ℕ) (s window t target : List ℕ) (b : Bytes s) (c : Bytes win
 
   -- ---- the way back
   module _ (u away : List ℕ) (lu : length u ≡ length s) (la : length away ≡ length window) where
-    lengths-back : badLengths w v (length t′) (length target′) (length u) (length away) ≡ false
+    lengths-back : badMoveLengths w v (length t′) (length target′) (length u) (length away) ≡ false
     lengths-back =
         none-wrong w v (length t′) (length target′) (length u) (length away) length-record
         (rw window-as-lent (long .target-window)) (lu ∙ long .source) (rw la (long .window))

@@ -11,7 +11,7 @@ use Rattle.clocks.specs.stored.CountsLaws.{length-listOf}
 use Rattle.frontiers.specs.Bytes.{frontierLength}
 use Rattle.frontiers.specs.BytesLaws.{length-countBytes}
 use Rattle.records.specs.Record.{recordLength, eventLength}
-use Rattle.call_move.specs.Parts.{Part, plain, counts, partLength, lengthOf, repeated, eventParts, recordParts, frontierParts, windowParts}
+use Rattle.call_move.specs.Parts.{Part, plain, counts, partLength, lengthOf, manyOf, eventParts, recordParts, frontierParts, windowParts}
 use Rattle.call_move.specs.Move.{countsFrom, moved, someTooLarge}
 
 -- ---- Lengths
@@ -21,11 +21,11 @@ unfolding lengthOf
 lengthOf-append w [] qs = omega arith
 lengthOf-append w (p ∷ ps) qs = rw (lengthOf-append w ps qs) (omega arith)
 
-pub lengthOf-repeated : (w n : ℕ) (ps : List Part) → lengthOf w (repeated n ps) ≡ n * lengthOf w ps
-unfolding lengthOf repeated
+pub lengthOf-repeated : (w n : ℕ) (ps : List Part) → lengthOf w (manyOf n ps) ≡ n * lengthOf w ps
+unfolding lengthOf manyOf
 lengthOf-repeated w zero ps = sym (zero-mul (lengthOf w ps))
 lengthOf-repeated w (suc n) ps =
-    rw (lengthOf-append w ps (repeated n ps), lengthOf-repeated w n ps, suc-mul) (omega arith)
+    rw (lengthOf-append w ps (manyOf n ps), lengthOf-repeated w n ps, suc-mul) (omega arith)
 
 pub length-eventParts : (w : ℕ) → lengthOf w eventParts ≡ eventLength w
 unfolding lengthOf partLength
@@ -44,16 +44,16 @@ length-windowParts w n = rw (lengthOf-repeated w n frontierParts, length-frontie
 
 -- ---- One more at the end
 
-pub repeated-more : (n : ℕ) (ps : List Part) → repeated (n + 1) ps ≡ repeated n ps ++ ps
-unfolding repeated
+pub repeated-more : (n : ℕ) (ps : List Part) → manyOf (n + 1) ps ≡ manyOf n ps ++ ps
+unfolding manyOf
 repeated-more n ps = rw (one-more n) (go n)
   where
     one-more : (m : ℕ) → m + 1 ≡ suc m
     one-more m = omega arith
 
-    go : (m : ℕ) → repeated (suc m) ps ≡ repeated m ps ++ ps
+    go : (m : ℕ) → manyOf (suc m) ps ≡ manyOf m ps ++ ps
     go zero = append-nil ps
-    go (suc m) = ap (λ (l : List Part). ps ++ l) (go m) ∙ sym (append-assoc ps (repeated m ps) ps)
+    go (suc m) = ap (λ (l : List Part). ps ++ l) (go m) ∙ sym (append-assoc ps (manyOf m ps) ps)
 
 -- ---- Parts apart
 

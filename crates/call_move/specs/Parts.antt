@@ -10,18 +10,18 @@ pub data Part : Type 0 where
   counts : ℕ → Part
 
 -- The length of a part, and of parts one behind the other.
-unfoldable pub partLength : ℕ → Part → ℕ
+unfoldable pub partLength : (w : ℕ) → (part : Part) → ℕ
 partLength w (plain n) = n
 partLength w (counts n) = n * w
 
-unfoldable pub lengthOf : ℕ → List Part → ℕ
+unfoldable pub lengthOf : (w : ℕ) → (parts : List Part) → ℕ
 lengthOf w [] = 0
 lengthOf w (p ∷ ps) = partLength w p + lengthOf w ps
 
 -- The parts of so many things of one kind, one behind the other.
-unfoldable pub repeated : ℕ → List Part → List Part
-repeated zero ps = []
-repeated (suc n) ps = ps ++ repeated n ps
+unfoldable pub manyOf : (n : ℕ) (ps : List Part) → List Part
+manyOf zero ps = []
+manyOf (suc n) ps = ps ++ manyOf n ps
 
 -- A pending event: its mask and seven bytes, its clock, its labels.
 abbrev pub eventParts : List Part
@@ -29,12 +29,12 @@ eventParts = plain 8 ∷ counts 8 ∷ plain 8 ∷ []
 
 -- A record: its first eight bytes, the taken counts, each process's last clock, the table, 32 pending events.
 abbrev pub recordParts : List Part
-recordParts = plain 8 ∷ counts 8 ∷ counts 64 ∷ plain 192 ∷ repeated 32 eventParts
+recordParts = plain 8 ∷ counts 8 ∷ counts 64 ∷ plain 192 ∷ manyOf 32 eventParts
 
 -- A frontier: its counts; its labels, masks and values.
 abbrev pub frontierParts : List Part
 frontierParts = counts 8 ∷ plain 24 ∷ []
 
 -- A window that has room for so many frontiers.
-abbrev pub windowParts : ℕ → List Part
-windowParts n = repeated n frontierParts
+abbrev pub windowParts : (n : ℕ) → List Part
+windowParts n = manyOf n frontierParts

@@ -11,15 +11,15 @@ use Rattle.codec.specs.Little.{number}
 use Rattle.codec.specs.PutLaws.{number-drop}
 use Rattle.frontiers.specs.ListLaws.{part-alike}
 use Rattle.clocks.specs.stored.BoundedLaws.{or-false-e}
-use Rattle.call_move.specs.Parts.{Part, plain, counts, partLength, lengthOf, repeated}
+use Rattle.call_move.specs.Parts.{Part, plain, counts, partLength, lengthOf, manyOf}
 use Rattle.call_move.specs.PartLaws.{lengthOf-append, moved-append, someTooLarge-append, length-moved}
 use Rattle.call_move.specs.CountLaws.{counts-fit}
 use Rattle.call_move.specs.BackLaws.{number-again}
 use Rattle.call_move.specs.Move.{moved, someTooLarge}
 
 -- Things of one kind: some, one, and the others.
-pub repeated-apart : (i j : ℕ) (ps : List Part) → repeated (i + suc j) ps ≡ repeated i ps ++ (ps ++ repeated j ps)
-unfolding repeated
+pub repeated-apart : (i j : ℕ) (ps : List Part) → manyOf (i + suc j) ps ≡ manyOf i ps ++ (ps ++ manyOf j ps)
+unfolding manyOf
 repeated-apart zero j ps = rw zero-add
 repeated-apart (suc i) j ps = rw (suc-add, repeated-apart i j ps, append-assoc)
 
@@ -39,16 +39,16 @@ module _ (v w : ℕ) (ps qs : List Part) (s : List ℕ) where
 
 -- Where no count is too large, none is in number i of the things of one kind.
 pub none-in-each : (v w : ℕ) (ps qs : List Part) (s : List ℕ) (n i : ℕ) → i < n
-    → someTooLarge v w (ps ++ repeated n qs) s ≡ false
-    → someTooLarge v w qs (drop (lengthOf v (ps ++ repeated i qs)) s) ≡ false
+    → someTooLarge v w (ps ++ manyOf n qs) s ≡ false
+    → someTooLarge v w qs (drop (lengthOf v (ps ++ manyOf i qs)) s) ≡ false
 none-in-each v w ps qs s n i l h =
-    let front = ps ++ repeated i qs in
-    let rest = repeated (n - suc i) qs in
+    let front = ps ++ manyOf i qs in
+    let rest = manyOf (n - suc i) qs in
     let tail = drop (lengthOf v front) s in
     let all : n ≡ i + suc (n - suc i) = omega arith in
-    let apart : ps ++ repeated n qs ≡ front ++ (qs ++ rest) =
-    ap (λ (m : ℕ). ps ++ repeated m qs) all ∙ ap (λ (l : List Part). ps ++ l) (repeated-apart i (n - suc i) qs)
-    ∙ sym (append-assoc ps (repeated i qs) (qs ++ rest)) in
+    let apart : ps ++ manyOf n qs ≡ front ++ (qs ++ rest) =
+    ap (λ (m : ℕ). ps ++ manyOf m qs) all ∙ ap (λ (l : List Part). ps ++ l) (repeated-apart i (n - suc i) qs)
+    ∙ sym (append-assoc ps (manyOf i qs) (qs ++ rest)) in
     or-false-e (someTooLarge v w qs tail) (someTooLarge v w rest (drop (lengthOf v qs) tail))
     (sym (someTooLarge-append v w qs rest tail)
     ∙ fit-behind v w front (qs ++ rest) s (subst (λ (l : List Part). someTooLarge v w l s ≡ false) apart h))

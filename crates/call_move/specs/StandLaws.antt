@@ -5,7 +5,7 @@ use mathlib.Core.Path.{_≡_, refl, ap, _∙_}
 use mathlib.Core.List.{List, [], _∷_, _++_, append-assoc}
 use Rattle.frontiers.specs.Bytes.{frontierLength}
 use Rattle.records.specs.Record.{clocksPlace, tablePlace, pendingPlace}
-use Rattle.call_move.specs.Parts.{Part, plain, counts, partLength, lengthOf, repeated, eventParts, recordParts, frontierParts, windowParts}
+use Rattle.call_move.specs.Parts.{Part, plain, counts, partLength, lengthOf, manyOf, eventParts, recordParts, frontierParts, windowParts}
 use Rattle.call_move.specs.PartLaws.{lengthOf-append, lengthOf-repeated, length-eventParts, length-frontierParts}
 use Rattle.call_move.specs.PlaceLaws.{repeated-apart, Stands, stands-at}
 
@@ -38,18 +38,18 @@ module _ (v w : ℕ) where
   -- One of some things of a kind, and one of its parts.
   module _ (first : List Part) (n : ℕ) (kind : List Part) (i : ℕ) (l : i < n) (earlier : List Part) (p : Part)
       (later : List Part) (kind-is : kind ≡ earlier ++ (p ∷ later)) where
-    one-stands : Stands v w (first ++ repeated n kind) p
+    one-stands : Stands v w (first ++ manyOf n kind) p
         (lengthOf v first + i * lengthOf v kind + lengthOf v earlier)
         (lengthOf w first + i * lengthOf w kind + lengthOf w earlier)
     one-stands = record {
-      before = first ++ (repeated i kind ++ earlier);
-      after = later ++ repeated (n - suc i) kind;
+      before = first ++ (manyOf i kind ++ earlier);
+      after = later ++ manyOf (n - suc i) kind;
       parts =
           let whole : n ≡ i + suc (n - suc i) = omega arith in
-          ap (λ (m : ℕ). first ++ repeated m kind) whole
+          ap (λ (m : ℕ). first ++ manyOf m kind) whole
           ∙ ap (λ (ps : List Part). first ++ ps) (repeated-apart i (n - suc i) kind)
-          ∙ ap (λ (ps : List Part). first ++ (repeated i kind ++ (ps ++ repeated (n - suc i) kind))) kind-is
-          ∙ apart first (repeated i kind) earlier later (repeated (n - suc i) kind);
+          ∙ ap (λ (ps : List Part). first ++ (manyOf i kind ++ (ps ++ manyOf (n - suc i) kind))) kind-is
+          ∙ apart first (manyOf i kind) earlier later (manyOf (n - suc i) kind);
       from = place v;
       to = place w;
     }
@@ -58,12 +58,12 @@ module _ (v w : ℕ) where
         apart a b c d e = simp append-assoc
 
         place : (u : ℕ)
-            → lengthOf u (first ++ (repeated i kind ++ earlier))
+            → lengthOf u (first ++ (manyOf i kind ++ earlier))
             ≡ lengthOf u first + i * lengthOf u kind + lengthOf u earlier
         place u =
             rw (
-              lengthOf-append u first (repeated i kind ++ earlier),
-              lengthOf-append u (repeated i kind) earlier,
+              lengthOf-append u first (manyOf i kind ++ earlier),
+              lengthOf-append u (manyOf i kind) earlier,
               lengthOf-repeated u i kind,
             )
             (omega arith)

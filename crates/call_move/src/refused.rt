@@ -11,7 +11,7 @@ use refusals::bad_window_length;
 use refusals::room_of;
 ghost use mathlib.Core.Path.{_≡_};
 ghost use Rattle.frontiers.specs.Width.{Width};
-ghost use Rattle.call_move.specs.Move.{badLengths};
+ghost use Rattle.call_move.specs.Move.{badMoveLengths};
 ghost use Rattle.call_move.specs.MoveCode.{moveFault};
 
 // 6: a wrong length, or windows not of as many frontiers.
@@ -25,7 +25,7 @@ fn bad_lengths(
 ) -> bool
     requires { ⌜ Width v ⌝ }
     requires { ⌜ Width w ⌝ }
-    ensures { λ r. ⌜ r ≡ badLengths v w «record_len» «window_len» «target_len» «target_window_len» ⌝ }
+    ensures { λ r. ⌜ r ≡ badMoveLengths v w «record_len» «window_len» «target_len» «target_window_len» ⌝ }
 {
     if bad_record_length(v, record_len) {
         return true;

@@ -21,15 +21,15 @@ pub record Offered : Type 0 where
   pub bytes : List ℕ
 
 -- The place of an event among the pending ones: behind those whose key is before its own.
-unfoldable pub placeAmong : Event → List Event → ℕ
+unfoldable pub placeAmong : (e : Event) (es : List Event) → ℕ
 placeAmong e [] = 0
 placeAmong e (f ∷ fs) = cond (keyBefore (keyOf f) (keyOf e)) (suc (placeAmong e fs)) 0
 
 -- The event that an offer brings: of its mask's word the eight bits that can be set.
-abbrev pub offeredEvent : ℕ → List ℕ → List ℕ → Event
+abbrev pub offeredEvent : (mask : ℕ) (clock labels : List ℕ) → Event
 offeredEvent mask clock labels = record { mask = mask % 256; clock = clock; labels = labels }
 
-unfoldable pub offerCall : ℕ → ℕ → List ℕ → List ℕ → List ℕ → Offered
+unfoldable pub offerCall : (w mask : ℕ) (clock labels s : List ℕ) → Offered
 offerCall w mask clock labels s =
     let e = offeredEvent mask clock labels in
     let turned : ℕ → Offered = λ n. record { answer = turnedBack n 0; bytes = s } in

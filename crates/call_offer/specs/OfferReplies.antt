@@ -6,7 +6,7 @@ use mathlib.Core.Logic.{_↔_}
 use Rattle.answers.specs.Answer.{turnedBack, held, again, replyWord}
 use Rattle.call_offer.specs.Offer.{offerCall}
 
-pub record Told (w mask : ℕ) (clock labels s : List ℕ) : Type 0 where
+pub record OfferTold (w mask : ℕ) (clock labels s : List ℕ) : Type 0 where
   -- accepted exactly if the word's value is above 0: it is the number of pending events
   pub accepted-exactly : (n : ℕ) → (offerCall w mask clock labels s .answer ≡ held n)
       ↔ ((0 < n) × (replyWord (offerCall w mask clock labels s .answer) / 65536 % 65536 ≡ n))
@@ -17,5 +17,5 @@ pub record Told (w mask : ℕ) (clock labels s : List ℕ) : Type 0 where
   pub again-exactly : (offerCall w mask clock labels s .answer ≡ again)
       ↔ (replyWord (offerCall w mask clock labels s .answer) ≡ 256)
 
-abbrev pub RepliesTell : Type 0
-RepliesTell = (w mask : ℕ) (clock labels s : List ℕ) → Told w mask clock labels s
+abbrev pub OfferTells : Type 0
+OfferTells = (w mask : ℕ) (clock labels s : List ℕ) → OfferTold w mask clock labels s

@@ -8,7 +8,7 @@ use Rattle.records.specs.Record.{pendingCount}
 use Rattle.answers.specs.Answer.{Answer, turnedBack, held, again, replyWord}
 use Rattle.call_offer.specs.Offer.{Offered, offerCall}
 use Rattle.call_offer.specs.OfferCases.{Case, offer-case, turned, repeats, accepted}
-use Rattle.call_offer.specs.OfferReplies.{RepliesTell}
+use Rattle.call_offer.specs.OfferReplies.{OfferTells}
 
 -- What is told of an answer.
 record Tells (a : Answer) : Type 0 where
@@ -46,7 +46,7 @@ held-tells n some small = record {
   again-exactly = (λ x. let z : _≡_ {A = ℕ} 0 1 = cc in absurd (omega arith), λ x. absurd (omega (arith, x)));
 }
 
-pub replies-tell : RepliesTell
+pub replies-tell : OfferTells
 replies-tell w mask clock labels s =
     let t = go (offerCall w mask clock labels s) (offer-case w mask clock labels s) in
     record {

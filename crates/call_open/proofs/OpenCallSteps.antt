@@ -18,7 +18,7 @@ use Rattle.rules.specs.reading.ReaderLaws.{formAt-formed}
 use Rattle.rules.specs.Formula.{Formula}
 use Rattle.rules.specs.reading.PlaceLaws.{fault-place}
 use Rattle.rules.specs.lines.LineLaws.{lineCount-pos}
-use Rattle.rules.specs.Reader.{Reading, readRule, formed, refused}
+use Rattle.rules.specs.Reader.{Reading, readRule, formed, faulty}
 use Rattle.clocks.specs.Refusal.{badStart}
 use Rattle.pactl.specs.declared.Line.{Line}
 use Rattle.refusals.specs.RefusalLaws.{right-length, processes-within, window-holds}
@@ -42,13 +42,13 @@ record Read (text : List ℕ) (k lines : ℕ) (table : List ℕ) : Type 0 where
   bytes : table ≡ tableOf form
 
 module _ (text : List ℕ) (k : ℕ) (lent : List ℕ) (long : length lent ≡ 192) where
-  read-refused : (n i : ℕ) → Refused n i ≡ ruleAnswer text k lent → readRule text k ≡ refused n i
+  read-refused : (n i : ℕ) → Refused n i ≡ ruleAnswer text k lent → readRule text k ≡ faulty n i
   unfolding ruleAnswer answerOf
   read-refused n i e = go (readRule text k) (e ∙ rw (eq-eqb (length lent) 192 long))
     where
-      go : (r : Reading) → Refused n i ≡ answerOf r → r ≡ refused n i
+      go : (r : Reading) → Refused n i ≡ answerOf r → r ≡ faulty n i
       go (formed j f) h = let z : _≡_ {A = ℕ} 0 1 = cc in absurd (omega arith)
-      go (refused m j) h = cc
+      go (faulty m j) h = cc
 
   read-accepted : (lines : ℕ) (table : List ℕ) → Accepted lines ≡ ruleAnswer text k lent → table ≡ ruleTable text k lent → Read text k lines table
   unfolding ruleAnswer ruleTable answerOf tableAfter
@@ -59,7 +59,7 @@ module _ (text : List ℕ) (k : ℕ) (lent : List ℕ) (long : length lent ≡ 1
       go (formed j f) q h u =
           let x = formAt-formed text k 32 0 0 j f (accepted text k j f q .start) in
           record { place = j; form = f; read = q; count = cc; short = omega (arith, x .short); bytes = u }
-      go (refused m j) q h u = let z : _≡_ {A = ℕ} 0 1 = cc in absurd (omega arith)
+      go (faulty m j) q h u = let z : _≡_ {A = ℕ} 0 1 = cc in absurd (omega arith)
 
 -- ---- The refusals before the text
 
@@ -103,8 +103,8 @@ module _ (w : ℕ) (text : List ℕ) (k : ℕ) (labels s window : List ℕ) wher
       × (s ≡ openCall w text k labels s window .bytes) × (window ≡ openCall w text k labels s window .window)
   unfolding replyWord openRead
   open-refused h lent long n i e =
-      let read : readRule text k ≡ refused n i = read-refused text k lent long n i e in
-      let whole : openCall w text k labels s window ≡ openRead w k labels s window (refused n i) = open-reads h ∙ ap (openRead w k labels s window) read in
+      let read : readRule text k ≡ faulty n i = read-refused text k lent long n i e in
+      let whole : openCall w text k labels s window ≡ openRead w k labels s window (faulty n i) = open-reads h ∙ ap (openRead w k labels s window) read in
       (fault-place text k n i read, rw whole, rw whole, rw whole)
 
   pub open-accepted : fault ≡ 0 → (lent : List ℕ) → length lent ≡ 192 → (lines : ℕ) (table : List ℕ) → Accepted lines ≡ ruleAnswer text k lent → table ≡ ruleTable text k lent

@@ -10,7 +10,7 @@ use Rattle.window.specs.Start.{startFrontier}
 use Rattle.frontiers.specs.Bytes.{windowBytes}
 use Rattle.rules.specs.Line.{linesAt}
 use Rattle.pactl.specs.Table.{tableBytes}
-use Rattle.rules.specs.Reader.{Reading, readRule, formed, refused}
+use Rattle.rules.specs.Reader.{Reading, readRule, formed, faulty}
 use Rattle.clocks.specs.Refusal.{badStart}
 use Rattle.records.specs.Record.{eventLength}
 use Rattle.refusals.specs.Refusals.{badRecordLength, badWindowLength, badProcesses}
@@ -24,13 +24,13 @@ pub record Opened : Type 0 where
   pub window : List ℕ
 
 -- The record of a new watch: the number of processes, the table, one frontier kept; the rest 0.
-unfoldable pub firstRecord : ℕ → ℕ → List Line → List ℕ
+unfoldable pub firstRecord : (w k : ℕ) (table : List Line) → List ℕ
 firstRecord w k table =
     let filled = tableBytes table in
     k ∷ length table ∷ 0 ∷ 0 ∷ bytesOf 4 1 ++ replicate (72 * w) 0 ++ filled ++ replicate (192 - length filled) 0 ++ replicate (32 * eventLength w) 0
 
 -- Opening with a table, apart from reading a text.
-unfoldable pub openTable : ℕ → List Line → ℕ → List ℕ → ℕ → Opened
+unfoldable pub openTable : (w : ℕ) (table : List Line) (k : ℕ) (labels : List ℕ) (windowLength : ℕ) → Opened
 openTable w table k labels windowLength =
     let fs = startFrontier 8 labels table ∷ [] in
     record {
@@ -40,11 +40,11 @@ openTable w table k labels windowLength =
     }
 
 -- What a text read to a form or a fault leads to.
-unfoldable pub openRead : ℕ → ℕ → List ℕ → List ℕ → List ℕ → Reading → Opened
+unfoldable pub openRead : (w k : ℕ) (labels s window : List ℕ) (r : Reading) → Opened
 openRead w k labels s window (formed i f) = openTable w (linesAt 0 f) k labels (length window)
-openRead w k labels s window (refused n i) = record { answer = turnedBack n i; bytes = s; window = window }
+openRead w k labels s window (faulty n i) = record { answer = turnedBack n i; bytes = s; window = window }
 
-unfoldable pub openCall : ℕ → List ℕ → ℕ → List ℕ → List ℕ → List ℕ → Opened
+unfoldable pub openCall : (w : ℕ) (text : List ℕ) (k : ℕ) (labels s window : List ℕ) → Opened
 openCall w text k labels s window =
     let turned : ℕ → Opened = λ n. record { answer = turnedBack n 0; bytes = s; window = window } in
     cond (badRecordLength w (length s) || badWindowLength w (length window)) (turned lengthNumber)

@@ -21,7 +21,7 @@ use Rattle.refusals.specs.RefusalCode.{watchFault}
 use Rattle.refusals.specs.FaultLaws.{Good, fault-first, fault-passed, tests-good}
 use Rattle.answers.specs.Result.{resultWord}
 use Rattle.answers.specs.Turns.{chosen-by, passed as passed-turn, end, turn}
-use Rattle.call_page.specs.Page.{row, rows, shortPage, Paged, unwritten, written, pageCall}
+use Rattle.call_page.specs.Page.{row, rows, shortPage, Paged, pageTurnedBack, pageWritten, pageCall}
 use Rattle.call_page.specs.PageCode.{pageFault}
 use Rattle.call_page.specs.RowLaws.{rowAt, rows-more, length-rows}
 
@@ -81,10 +81,10 @@ module _ (w : ℕ) (s window page : List ℕ) where
   text = rows (processCount s) (lineTotal s - 1) (frontiers w window (keptCount s))
 
   abbrev turned : ℕ → Paged
-  turned n = unwritten page n
+  turned n = pageTurnedBack page n
 
   abbrev whole : Paged
-  whole = written s (frontiers w window (keptCount s)) page
+  whole = pageWritten s (frontiers w window (keptCount s)) page
 
   page-by : pageCall w s window page ≡ cond (eqb fault 0) whole (turned fault)
   unfolding pageCall pageFault

@@ -21,14 +21,14 @@ use Rattle.call_page.specs.Page.{rowLength, Paged, pageCall}
 -- ---- What a reader of a page sees
 
 -- The characters of column p in row i; those behind the columns, with the line feed.
-abbrev pub columnAt : List ℕ → ℕ → ℕ → List ℕ
+abbrev pub columnAt : (page : List ℕ) (i p : ℕ) → List ℕ
 columnAt page i p = take 11 (drop (rowLength * i + 11 * p) page)
 
-abbrev pub endAt : List ℕ → ℕ → List ℕ
+abbrev pub endAt : (page : List ℕ) (i : ℕ) → List ℕ
 endAt page i = take 5 (drop (rowLength * i + 88) page)
 
 -- A text without the blanks that it begins with.
-unfoldable pub withoutBlanks : List ℕ → List ℕ
+unfoldable pub withoutBlanks : (xs : List ℕ) → List ℕ
 withoutBlanks [] = []
 withoutBlanks (c ∷ s) = cond (eqb c 32) (withoutBlanks s) (c ∷ s)
 

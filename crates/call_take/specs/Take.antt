@@ -24,7 +24,7 @@ pub record Taken : Type 0 where
   pub scratch : List ℕ
 
 -- What a decision leads to. The scratch is all 0 afterwards.
-unfoldable pub decided : ℕ → List ℕ → List ℕ → List Frontier → Decision → Taken
+unfoldable pub decided : (w : ℕ) (s window : List ℕ) (fs : List Frontier) (d : Decision) → Taken
 decided w s window fs (undecided seen) = record { answer = cond seen (turnedBack noRoomNumber 0) nothingReady; bytes = s; window = window; scratch = replicate (length window) 0 }
 decided w s window fs (false-clock i) = record { answer = turnedBack falseClockNumber 0; bytes = removed w s i; window = window; scratch = replicate (length window) 0 }
 decided w s window fs (chosen i) =
@@ -38,21 +38,21 @@ decided w s window fs (chosen i) =
     }
 
 -- Take, where at most so many frontiers of the lent window may be used.
-unfoldable pub takeWithin : ℕ → ℕ → List ℕ → List ℕ → Taken
+unfoldable pub takeWithin : (w allowed : ℕ) (s window : List ℕ) → Taken
 takeWithin w allowed s window =
     let fs = frontiers w window (keptCount s) in
     decided w s window fs (trial w s allowed fs)
 
 -- 6: the record, the window or the scratch, by their lengths in this order, has a wrong one.
-abbrev pub badLengths : ℕ → ℕ → ℕ → ℕ → Bool
+abbrev pub badLengths : (w s window scratch : ℕ) → Bool
 badLengths w s window scratch = badRecordLength w s || (badWindowLength w window || not (eqb scratch window))
 
 -- How many frontiers a take may use: no more than the cap, and no more than the lent window has room for.
-abbrev pub allowedOf : ℕ → ℕ → List ℕ → ℕ
+abbrev pub allowedOf : (w cap : ℕ) (window : List ℕ) → ℕ
 allowedOf w cap window = min cap (roomOf w (length window))
 
 -- Take under a cap.
-unfoldable pub takeCapped : ℕ → ℕ → List ℕ → List ℕ → List ℕ → Taken
+unfoldable pub takeCapped : (w cap : ℕ) (s window scratch : List ℕ) → Taken
 takeCapped w cap s window scratch =
     let turned : ℕ → Taken = λ n. record { answer = turnedBack n 0; bytes = s; window = window; scratch = scratch } in
     cond (badLengths w (length s) (length window) (length scratch)) (turned lengthNumber)
@@ -60,5 +60,5 @@ takeCapped w cap s window scratch =
     (takeWithin w (allowedOf w cap window) s window))
 
 -- The call of 01 has the cap 1,024: no window has room for more.
-abbrev pub takeCall : ℕ → List ℕ → List ℕ → List ℕ → Taken
+abbrev pub takeCall : (w : ℕ) (s window scratch : List ℕ) → Taken
 takeCall w s window scratch = takeCapped w 1024 s window scratch

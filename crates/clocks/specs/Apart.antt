@@ -10,9 +10,9 @@ pub record Apart (e f : Event) : Type 0 where
   pub none-common : (p : ℕ) → involved e p ≡ true → involved f p ≡ false
 
 -- The clock of f counts e: it has reached e's count at a process of e.
-abbrev pub Counts : Event → Event → Type 0
+abbrev pub Counts : (f e : Event) → Type 0
 Counts f e = (p : ℕ) × (involved e p ≡ true) × (count e p ≤ count f p)
 
 -- Neither's clock counts the other.
-abbrev pub NeitherCounts : Event → Event → Type 0
+abbrev pub NeitherCounts : (e f : Event) → Type 0
 NeitherCounts e f = (Counts e f → ⊥) × (Counts f e → ⊥)

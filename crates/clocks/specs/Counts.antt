@@ -6,15 +6,15 @@ use Rattle.clocks.specs.Event.{Cut}
 
 -- The cut of a list of counts: process p's is the p-th, and 0 past the end (01, Clocks and cuts: a clock of eight
 -- counts; the taken counts).
-abbrev pub at : List ℕ → Cut
+abbrev pub at : (l : List ℕ) → Cut
 at l p = getD l p 0
 
 -- The first n values of a function, in a list: a cut as it is stored.
-unfoldable pub listOf : {A : Type 0} → ℕ → (ℕ → A) → List A
+unfoldable pub listOf : {A : Type 0} → (n : ℕ) (f : ℕ → A) → List A
 listOf zero f = []
 listOf (suc n) f = f 0 ∷ listOf n (λ p. f (suc p))
 
 -- One clock for each process, as a list of lists of counts (01, Clocks and cuts: the clock of each process's last
 -- event, eight counts for each of eight).
-abbrev pub rows : List (List ℕ) → ℕ → Cut
-rows ls p = at (getD ls p [])
+abbrev pub clockRows : (ls : List (List ℕ)) (p : ℕ) → Cut
+clockRows ls p = at (getD ls p [])

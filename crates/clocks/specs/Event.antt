@@ -11,20 +11,20 @@ abbrev pub Cut : Type 0
 Cut = ℕ → ℕ
 
 -- 1 for a process that takes part, 0 for another.
-abbrev pub one : Bool → ℕ
+abbrev pub one : (b : Bool) → ℕ
 one true = 1
 one false = 0
 
 -- Process p took part in the event: bit p of its mask is set (01: involved desk).
-unfoldable pub involved : Event → ℕ → Bool
+unfoldable pub involved : (e : Event) (p : ℕ) → Bool
 involved e p = bit (e .mask) p
 
 -- The event's clock at process p.
-unfoldable pub count : Event → Cut
+unfoldable pub count : (e : Event) → Cut
 count e p = getD (e .clock) p 0
 
 -- What one process asks of an event with count n there, at a cut with count c there.
-abbrev pub ReadyAt : Bool → ℕ → ℕ → Type 0
+abbrev pub ReadyAt : (b : Bool) (n c : ℕ) → Type 0
 ReadyAt true n c = n ≡ c + 1
 ReadyAt false n c = n ≤ c
 
@@ -34,19 +34,19 @@ pub record Ready (e : Event) (S : Cut) : Type 0 where
   pub each : (p : ℕ) → ReadyAt (involved e p) (count e p) (S p)
 
 -- Where the event leads from a cut: 1 more at each process that takes part (01: taking it).
-unfoldable pub apply : Event → Cut → Cut
+unfoldable pub apply : (e : Event) (S : Cut) → Cut
 apply e S p = one (involved e p) + S p
 
 -- The cut less an event of which only the mask is known: 1 less at each process in it.
-unfoldable pub minus : ℕ → Cut → Cut
+unfoldable pub minus : (m : ℕ) (S : Cut) → Cut
 minus m S p = S p - one (bit m p)
 
 -- The cut less the event: 1 less at each process that takes part.
-unfoldable pub less : Event → Cut → Cut
+unfoldable pub less : (e : Event) (S : Cut) → Cut
 less e S p = S p - one (involved e p)
 
 -- The event's clock before the event itself: what it knows of.
-unfoldable pub lowered : Event → Cut
+unfoldable pub lowered : (e : Event) → Cut
 lowered e = less e (count e)
 
 -- The cut of zeros.

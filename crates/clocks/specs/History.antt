@@ -10,39 +10,39 @@ use Rattle.clocks.specs.declared.Event.{Event}
 use Rattle.clocks.specs.Event.{Cut, one, involved, count, Ready, apply}
 
 -- How many of the events each process took part in (01: taken counts).
-unfoldable pub taken : List Event → Cut
+unfoldable pub taken : (es : List Event) → Cut
 taken [] p = 0
 taken (e ∷ ts) p = one (involved e p) + taken ts p
 
 -- The event e, taken after ts, is process p's event number n.
-unfoldable pub isNumber : Event → List Event → ℕ → ℕ → Bool
+unfoldable pub isNumber : (e : Event) (ts : List Event) (p n : ℕ) → Bool
 isNumber e ts p n = involved e p && eqb n (suc (taken ts p))
 
 -- Process p's event number n, counted from 1.
-unfoldable pub event : List Event → ℕ → ℕ → Option Event
+unfoldable pub event : (es : List Event) (p n : ℕ) → Option Event
 event [] p n = none
 event (e ∷ ts) p n = cond (isNumber e ts p n) (some e) (event ts p n)
 
 -- What is read off an event that may be missing: d where it is.
-abbrev pub ofEvent : {A : Type 0} → A → (Event → A) → Option Event → A
+abbrev pub ofEvent : {A : Type 0} → (d : A) (v : Event → A) (e : Option Event) → A
 ofEvent d v none = d
 ofEvent d v (some e) = v e
 
 -- The clock of process p's event number n; zeros where there is none.
-unfoldable pub clockOf : List Event → ℕ → ℕ → Cut
+unfoldable pub clockOf : (ts : List Event) (p n : ℕ) → Cut
 clockOf ts p n q = ofEvent 0 (λ e. count e q) (event ts p n)
 
 -- The mask of process p's event number n; 0 where there is none (01, The window: masks).
-unfoldable pub maskOf : List Event → ℕ → ℕ → ℕ
+unfoldable pub maskOf : (ts : List Event) (p n : ℕ) → ℕ
 maskOf ts p n = ofEvent 0 (λ e. e .mask) (event ts p n)
 
 -- The propositions that hold at process p after its event number n; its start labels where there is none (01, The
 -- window: labels).
-unfoldable pub labelOf : Cut → List Event → ℕ → ℕ → ℕ
+unfoldable pub labelOf : (start : Cut) (ts : List Event) (p n : ℕ) → ℕ
 labelOf start ts p n = ofEvent (start p) (λ e. getD (e .labels) p 0) (event ts p n)
 
 -- The clock of process p's last event; zeros at the start (01: last clocks).
-unfoldable pub lastClock : List Event → ℕ → Cut
+unfoldable pub lastClock : (ts : List Event) (p : ℕ) → Cut
 lastClock ts p = clockOf ts p (taken ts p)
 
 -- A cut of the events taken that has, with an event, all that the event knows of (01: consistent cut).
@@ -51,7 +51,7 @@ pub record Consistent (ts : List Event) (S : Cut) : Type 0 where
   pub closed : (p q : ℕ) → clockOf ts p (S p) q ≤ S q
 
 -- The event is one of those taken.
-abbrev pub In : Event → List Event → Type 0
+abbrev pub In : (e : Event) (ts : List Event) → Type 0
 In e ts = List·Memᴰ e ts
 
 -- Two histories have the same events inside a cut.
@@ -67,5 +67,5 @@ pub record Precedes (ts : List Event) (S′ S : Cut) : Type 0 where
   pub leads : S ≡ apply by S′
 
 -- Some process takes part.
-abbrev pub Occupied : Event → Type 0
+abbrev pub Occupied : (e : Event) → Type 0
 Occupied e = (p : ℕ) × T (involved e p)

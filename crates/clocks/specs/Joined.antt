@@ -8,10 +8,10 @@ use Rattle.clocks.specs.Event.{Cut, one, involved, count}
 use Rattle.clocks.specs.Bounded.{allBelow}
 
 -- The largest, count by count, of the clocks of those of the first n processes that are members.
-unfoldable pub joinTo : ℕ → (ℕ → Bool) → (ℕ → Cut) → Cut
+unfoldable pub joinTo : (n : ℕ) (member : ℕ → Bool) (last : ℕ → Cut) → Cut
 joinTo zero member last q = 0
 joinTo (suc p) member last q = cond (member p) (max (last p q) (joinTo p member last q)) (joinTo p member last q)
 
 -- The same as a test, of last clocks that stand somewhere.
-unfoldable pub joinedBy : ℕ → Event → (ℕ → Cut) → Bool
+unfoldable pub joinedBy : (n : ℕ) (e : Event) (last : ℕ → Cut) → Bool
 joinedBy n e last = allBelow n (λ q. eqb (count e q) (joinTo n (involved e) last q + one (involved e q)))

@@ -10,16 +10,16 @@ use Rattle.clocks.specs.History.{taken, Consistent}
 use Rattle.clocks.specs.Event.{Cut}
 
 -- Some open process among the first k has all its taken events in the cut.
-abbrev pub Complete : ℕ → (ℕ → Bool) → List Event → Cut → Type 0
+abbrev pub Complete : (k : ℕ) (opened : ℕ → Bool) (ts : List Event) (S : Cut) → Type 0
 Complete k opened ts S = (p : ℕ) × (p < k) × T (opened p) × (S p ≡ taken ts p)
 
 -- The cut is kept: such a process is there, or it is the largest cut. (With all processes open that is 01's: a cut is
 -- dropped when every process has a taken event beyond it.)
-abbrev pub Kept : ℕ → (ℕ → Bool) → List Event → Cut → Type 0
+abbrev pub Kept : (k : ℕ) (opened : ℕ → Bool) (ts : List Event) (S : Cut) → Type 0
 Kept k opened ts S = Complete k opened ts S ⊎ (S ≡ taken ts)
 
 -- No process is closed.
-abbrev pub allOpen : ℕ → Bool
+abbrev pub allOpen : (p : ℕ) → Bool
 allOpen p = true
 
 -- A consistent cut that is kept.
@@ -28,7 +28,7 @@ pub record KeptCut (k : ℕ) (opened : ℕ → Bool) (ts : List Event) (S : Cut)
   pub kept : Kept k opened ts S
 
 -- Every process has a taken event beyond the cut (01: dropped).
-abbrev pub Dropped : ℕ → List Event → Cut → Type 0
+abbrev pub Dropped : (k : ℕ) (ts : List Event) (S : Cut) → Type 0
 Dropped k ts S = (p : ℕ) → p < k → S p < taken ts p
 
 -- ---- Source 000, section 3

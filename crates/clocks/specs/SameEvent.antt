@@ -8,9 +8,9 @@ use Rattle.clocks.specs.Bounded.{allBelow}
 use Rattle.clocks.specs.Counts.{at}
 
 -- The two events have the same count and the same label byte at process p.
-abbrev pub sameAt : Event → Event → ℕ → Bool
+abbrev pub sameAt : (e f : Event) (p : ℕ) → Bool
 sameAt e f p = eqb (at (e .clock) p) (at (f .clock) p) && eqb (at (e .labels) p) (at (f .labels) p)
 
 -- The two events are the same.
-unfoldable pub sameEvent : Event → Event → Bool
+unfoldable pub sameEvent : (e f : Event) → Bool
 sameEvent e f = eqb (e .mask) (f .mask) && allBelow 8 (sameAt e f)

@@ -12,7 +12,7 @@ use Rattle.clocks.specs.History.{taken, Consistent, Agree, Occupied}
 -- may know of events of other processes, from messages that they left, and with an event knows all that this one knew.
 -- (02 says "a kept frontier": of a ready event, in a watch written by calls, it is one exactly if the cut is
 -- consistent; demands statements/Messages.)
-abbrev pub Known : List Event → Event → Type 0
+abbrev pub Known : (ts : List Event) (e : Event) → Type 0
 Known ts e = Consistent ts (lowered e)
 
 -- An event of a watch of k processes: some process takes part, and none from k up is named or counted.
@@ -28,7 +28,7 @@ pub record Takeable (k : ℕ) (valid : List Event → Event → Type 0) (ts : Li
   pub true-clock : valid ts e
 
 -- A history of a watch: each event could be taken after those before it.
-abbrev pub History : ℕ → (List Event → Event → Type 0) → List Event → Type 0
+abbrev pub History : (k : ℕ) (valid : List Event → Event → Type 0) (es : List Event) → Type 0
 History k valid [] = Unit {0}
 History k valid (e ∷ ts) = Takeable k valid ts e × History k valid ts
 

@@ -5,7 +5,7 @@ ghost use mathlib.Core.Path.{_≡_};
 ghost use Rattle.codec.specs.Bit.{bit};
 ghost use Rattle.clocks.specs.Bounds.{upper};
 ghost use Rattle.clocks.specs.Joined.{joinTo};
-ghost use Rattle.clocks.specs.Counts.{at, listOf, rows};
+ghost use Rattle.clocks.specs.Counts.{at, listOf, clockRows};
 
 // The larger of two counts.
 fn larger_count(a: u32, b: u32) -> u32
@@ -29,7 +29,7 @@ pub fn larger(a: [u32; 8], b: [u32; 8]) -> [u32; 8]
 
 // The largest, count by count, of the clocks of the processes in a mask.
 pub fn join(last: [[u32; 8]; 8], mask: u8) -> [u32; 8]
-    ensures { λ r. ⌜ r ≡ listOf 8 (joinTo 8 (bit mask) (rows last)) ⌝ }
+    ensures { λ r. ⌜ r ≡ listOf 8 (joinTo 8 (bit mask) (clockRows last)) ⌝ }
 {
     let word = mask as u64;
     let mut out = [0u32; 8];

@@ -4,5 +4,5 @@ use mathlib.Core.Bool.{Bool}
 use lib.Dec.{eqb}
 
 -- Bit p of a mask is set. (Bit 0 is the lowest.)
-unfoldable pub bit : ℕ → ℕ → Bool
+unfoldable pub bit : (m p : ℕ) → Bool
 bit m p = eqb (m / 2 ^ p % 2) 1

@@ -20,14 +20,13 @@ use Rattle.call_offer.specs.Offer.{placeAmong, offeredEvent, offerCall}
 use Rattle.demands.specs.Ledger.{Ledger}
 use Rattle.demands.specs.Mislent.{Mislent, TurnedAway, answerTo}
 use Rattle.demands.specs.Status.{insertAt, removeAt}
-use Rattle.clocks.specs.Event.{zeros}
 
 -- A call: an offer of an event by its mask, clock and labels; a take under a cap (watch_take has 1,024), lent the
 -- window with so many zeros appended, and a scratch of any length and content; a find of a line; a close of a process;
 -- or one of these that was lent other buffers, of a wrong length say, and turned back for them.
 pub data Call : Type 0 where
   offers : (mask : ℕ) (clock labels : List ℕ) → Call
-  takes : (cap zeros : ℕ) (scratch : List ℕ) → Call
+  takes : (cap more : ℕ) (scratch : List ℕ) → Call
   finds : (line : ℕ) → Call
   closes : (p : ℕ) → Call
   mislends : (m : Mislent) → Call
@@ -38,7 +37,7 @@ abbrev pub Passed : (w : ℕ) (c : Call) → Type 0
 Passed w (offers mask clock labels) =
     (mask < 2 ^ 64) × (length clock ≡ 8) × ((p : ℕ) → at clock p < 256 ^ w)
     × (length labels ≡ 8) × ((p : ℕ) → at labels p < 256)
-Passed w (takes cap zeros scratch) = Unit {0}
+Passed w (takes cap more scratch) = Unit {0}
 Passed w (finds line) = Unit {0}
 Passed w (closes p) = Unit {0}
 Passed w (mislends m) = TurnedAway w m
@@ -66,16 +65,16 @@ answeredBy a W = record {
 
 -- The trial of the pending events that a take makes (call_take Take: takeWithin), and the number of the event at
 -- which it stopped.
-unfoldable pub trialOf : ℕ → ℕ → List ℕ → List ℕ → Decision
+unfoldable pub trialOf : (w cap : ℕ) (s window : List ℕ) → Decision
 trialOf w cap s window = trial w s (allowedOf w cap window) (frontiers w window (keptCount s))
 
-unfoldable pub stoppedAt : Decision → ℕ
+unfoldable pub stoppedAt : (d : Decision) → ℕ
 stoppedAt (undecided seen) = 0
 stoppedAt (false-clock i) = i
 stoppedAt (chosen i) = i
 
 -- The ledger after a take's answer: by a state pending event i was taken, by 35 it left with a false clock.
-unfoldable pub takenLedger : ℕ → List ℕ → ℕ → Ledger → Answer → Ledger
+unfoldable pub takenLedger : (w : ℕ) (s : List ℕ) (i : ℕ) (L : Ledger) (a : Answer) → Ledger
 takenLedger w s i L (state c t k) =
     record {
       history = pendingAt w s i ∷ L .history;
@@ -100,7 +99,7 @@ takenLedger w s i L absent = L
 takenLedger w s i L (processClosed n) = L
 
 -- The ledger and the accepted events after an offer's answer: "again" is none that accepts.
-unfoldable pub offeredLedger : ℕ → List ℕ → Event → Ledger → Answer → Ledger
+unfoldable pub offeredLedger : (w : ℕ) (s : List ℕ) (e : Event) (L : Ledger) (a : Answer) → Ledger
 offeredLedger w s e L (held n) = record {
   history = L .history;
   pending = insertAt (placeAmong e (pendingEvents w s)) e (L .pending);
@@ -115,7 +114,7 @@ offeredLedger w s e L (found i) = L
 offeredLedger w s e L absent = L
 offeredLedger w s e L (processClosed n) = L
 
-unfoldable pub acceptedBy : Event → List Event → Answer → List Event
+unfoldable pub acceptedBy : (e : Event) (es : List Event) (a : Answer) → List Event
 acceptedBy e es (held n) = e ∷ es
 acceptedBy e es again = es
 acceptedBy e es (turnedBack n i) = es
@@ -126,7 +125,7 @@ acceptedBy e es absent = es
 acceptedBy e es (processClosed n) = es
 
 -- The ledger after a close's answer: accepted, process p is closed.
-unfoldable pub closedLedger : ℕ → Ledger → Answer → Ledger
+unfoldable pub closedLedger : (p : ℕ) (L : Ledger) (a : Answer) → Ledger
 closedLedger p L (processClosed n) = record {
   history = L .history;
   pending = L .pending;
@@ -142,7 +141,7 @@ closedLedger p L (found i) = L
 closedLedger p L absent = L
 
 -- The watch after a take, by what it answered and left and by its trial.
-abbrev pub afterTake : ℕ → Taken → Decision → Watch → Watch
+abbrev pub afterTake : (w : ℕ) (r : Taken) (d : Decision) (W : Watch) → Watch
 afterTake w r d W = record {
   bytes = r .bytes;
   window = r .window;
@@ -151,7 +150,7 @@ afterTake w r d W = record {
   answers = r .answer ∷ W .answers;
 }
 
-unfoldable pub after : ℕ → Call → Watch → Watch
+unfoldable pub after : (w : ℕ) (c : Call) (W : Watch) → Watch
 after w (offers mask clock labels) W =
     let r = offerCall w mask clock labels (W .bytes) in
     let e = offeredEvent mask clock labels in
@@ -162,8 +161,8 @@ after w (offers mask clock labels) W =
       accepted = acceptedBy e (W .accepted) (r .answer);
       answers = r .answer ∷ W .answers;
     }
-after w (takes cap zeros scratch) W =
-    let lent = W .window ++ replicate zeros 0 in
+after w (takes cap more scratch) W =
+    let lent = W .window ++ replicate more 0 in
     afterTake w (takeCapped w cap (W .bytes) lent scratch) (trialOf w cap (W .bytes) lent) W
 after w (finds line) W = answeredBy (findCall w line (W .bytes) (W .window)) W
 after w (closes p) W =
@@ -178,12 +177,12 @@ after w (closes p) W =
 after w (mislends m) W = answeredBy (answerTo w m) W
 
 -- The calls of a list, one after the other.
-unfoldable pub run : ℕ → List Call → Watch → Watch
+unfoldable pub run : (w : ℕ) (cs : List Call) (W : Watch) → Watch
 run w [] W = W
 run w (c ∷ cs) W = run w cs (after w c W)
 
 -- The watch that an open left.
-abbrev pub opened : Opened → Watch
+abbrev pub opened : (o : Opened) → Watch
 opened o = record {
   bytes = o .bytes;
   window = o .window;

@@ -23,12 +23,12 @@ pub record Status : Type 0 where
   pub pending : List Event
 
 -- The bytes of eight clocks.
-unfoldable pub clockBytes : ℕ → List (List ℕ) → List ℕ
+unfoldable pub clockBytes : (w : ℕ) → (lists : List (List ℕ)) → List ℕ
 clockBytes w [] = []
 clockBytes w (c ∷ cs) = countBytes w c ++ clockBytes w cs
 
 -- The record's bytes; unused bytes are 0 (01, The window: the record).
-unfoldable pub recordBytes : ℕ → Status → List ℕ
+unfoldable pub recordBytes : (w : ℕ) (t : Status) → List ℕ
 recordBytes w t =
     t .processes ∷ length (t .table) ∷ length (t .pending) ∷ t .closed ∷ bytesOf 4 (t .kept)
     ++ countBytes w (listOf 8 (t .counts))
@@ -39,8 +39,8 @@ recordBytes w t =
 -- ---- What the calls change
 
 -- A list with an element put in at a place, or the element at a place left out.
-unfoldable pub insertAt : {A : Type 0} → ℕ → A → List A → List A
+unfoldable pub insertAt : {A : Type 0} → (i : ℕ) (x : A) (xs : List A) → List A
 insertAt i x xs = take i xs ++ (x ∷ drop i xs)
 
-unfoldable pub removeAt : {A : Type 0} → ℕ → List A → List A
+unfoldable pub removeAt : {A : Type 0} → (i : ℕ) (xs : List A) → List A
 removeAt i xs = take i xs ++ drop (suc i) xs

@@ -22,7 +22,7 @@ pub record TrueVerdict (k : ℕ) (f : Formula) (start : Cut) (ts : List Event) (
   pub truth-is : truth ≡ holds (modelAfter k f start ts) (meaning f) cut
 
 -- So is every verdict in these answers.
-abbrev pub Truthful : ℕ → Formula → Cut → List Event → List Answer → Type 0
+abbrev pub Truthful : (k : ℕ) (f : Formula) (start : Cut) (ts : List Event) (answers : List Answer) → Type 0
 Truthful k f start ts answers =
     (counts : List ℕ) (truth : Bool) (kept : ℕ) → List·Memᴰ (state counts truth kept) answers
     → TrueVerdict k f start ts counts truth

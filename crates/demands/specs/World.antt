@@ -21,28 +21,28 @@ use Rattle.pactl.specs.Truth.{Model}
 use Rattle.frontiers.specs.declared.Frontier.{Frontier}
 
 -- The world of a watch: eight processes stored, k there, those of a mask closed.
-abbrev pub worldOf : ℕ → ℕ → List Line → Cut → World
+abbrev pub worldOf : (k closed : ℕ) (table : List Line) (start : Cut) → World
 worldOf k closed table start = record { stored = 8; processes = k; closed = closed; start = start; table = table }
 
 -- With the rule of a formula: the model in which it is judged after a history, and the frontier of a cut. Which
 -- processes are closed makes no difference to either.
-abbrev pub modelAfter : ℕ → Formula → Cut → List Event → Model
+abbrev pub modelAfter : (k : ℕ) (f : Formula) (start : Cut) (ts : List Event) → Model
 modelAfter k f start ts = modelOf (worldOf k 0 (linesAt 0 f) start) ts
 
-abbrev pub frontierAfter : ℕ → Formula → Cut → List Event → Cut → Frontier
+abbrev pub frontierAfter : (k : ℕ) (f : Formula) (start : Cut) (ts : List Event) (S : Cut) → Frontier
 frontierAfter k f start ts S = frontierOf (worldOf k 0 (linesAt 0 f) start) ts S
 
 -- The rule for valid clocks of a watch: what the event knows of is a consistent cut of the events taken (02 [2]; 01,
 -- Clocks and cuts: true).
-abbrev pub Valid : List Event → Event → Type 0
-Valid = Known
+abbrev pub Valid : (ts : List Event) (e : Event) → Type 0
+Valid ts e = Known ts e
 
 -- Process p is open: it is none of the closed ones.
-abbrev pub Open : ℕ → ℕ → Type 0
+abbrev pub Open : (closed p : ℕ) → Type 0
 Open closed p = bit closed p ≡ false
 
 -- Some open process has all its taken events in the cut, or it is the largest (01, The window: dropped; 02 [5]).
-abbrev pub Stays : ℕ → ℕ → List Event → Cut → Type 0
+abbrev pub Stays : (k closed : ℕ) (ts : List Event) (S : Cut) → Type 0
 Stays k closed ts S = ((p : ℕ) × (p < k) × Open closed p × (S p ≡ taken ts p)) ⊎ (S ≡ taken ts)
 
 -- The kept cuts of a history with these processes closed, each once, in ascending order of their counts: exactly the
@@ -52,11 +52,11 @@ pub record KeptCuts (k closed : ℕ) (ts : List Event) (cuts : List Cut) : Type 
   pub exactly : (S : Cut) → List·Memᴰ S cuts ↔ (Consistent ts S × Stays k closed ts S)
 
 -- There are n of them.
-abbrev pub KeptNumber : ℕ → ℕ → List Event → ℕ → Type 0
+abbrev pub KeptNumber : (k closed : ℕ) (ts : List Event) (n : ℕ) → Type 0
 KeptNumber k closed ts n = (cuts : List Cut) × KeptCuts k closed ts cuts × (length cuts ≡ n)
 
 -- The record's contents after a history.
-abbrev pub statusOf : ℕ → List Line → ℕ → Ledger → Status
+abbrev pub statusOf : (k : ℕ) (table : List Line) (kept : ℕ) (L : Ledger) → Status
 statusOf k table kept L = record {
   processes = k;
   table = table;

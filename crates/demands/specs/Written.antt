@@ -14,7 +14,7 @@ use Rattle.demands.specs.Run.{Call, Passed, Watch, after, opened}
 use Rattle.demands.specs.EveryList.{Accepts, EightBytes}
 
 -- The watch that a move wrote: other bytes; events, closed processes and answers are those of the one that it read.
-abbrev pub movedTo : Moved → Watch → Watch
+abbrev pub movedTo : (m : Moved) (W : Watch) → Watch
 movedTo m W = record {
   bytes = m .bytes;
   window = m .window;
@@ -36,7 +36,7 @@ pub data Written (text : List ℕ) (k : ℕ) (labels : List ℕ) : ℕ → Watch
 
 -- For every such watch, with the formula f that the reader reads: P of the width of a count, the number of processes,
 -- f, the start labels and the watch.
-abbrev pub OfEveryWatch : (ℕ → ℕ → Formula → Cut → Watch → Type 0) → Type 0
+abbrev pub OfEveryWatch : (P : ℕ → ℕ → Formula → Cut → Watch → Type 0) → Type 0
 OfEveryWatch P =
     (text : List ℕ) (k : ℕ) (labels : List ℕ) → EightBytes labels
     → (w : ℕ) (Z : Watch) → Written text k labels w Z

@@ -8,12 +8,12 @@ use mathlib.Core.List.{List, [], _∷_, _++_, map}
 use lib.ListN.{length, take}
 use Rattle.codec.specs.Ascii.{ascii}
 use Rattle.rules.specs.Text.{byteAt}
-use Rattle.rules.specs.Fault.{Stands}
+use Rattle.rules.specs.Fault.{StandsAt}
 use Rattle.codec.specs.Decimal.{isDigit}
 use Rattle.lines.specs.Lines.{kLimit, countLimit, labelLimit, processLimit, roomLimit}
 
 -- The text of a number: digits, the first of them no needless 0.
-unfoldable pub AllDigits : List ℕ → Type 0
+unfoldable pub AllDigits : (xs : List ℕ) → Type 0
 AllDigits [] = Unit {0}
 AllDigits (d ∷ ds) = (isDigit d ≡ true) × AllDigits ds
 
@@ -22,16 +22,16 @@ pub record Numeral (ds : List ℕ) : Type 0 where
   pub all : AllDigits ds
   pub plain : byteAt ds 0 ≡ 48 → length ds ≡ 1
 
-unfoldable pub Numerals : List (List ℕ) → Type 0
+unfoldable pub Numerals : (lists : List (List ℕ)) → Type 0
 Numerals [] = Unit {0}
 Numerals (d ∷ ds) = Numeral d × Numerals ds
 
 -- Numbers with a space before each, and with a space between any two.
-unfoldable pub spaced : List (List ℕ) → List ℕ
+unfoldable pub spaced : (lists : List (List ℕ)) → List ℕ
 spaced [] = []
 spaced (d ∷ ds) = 32 ∷ (d ++ spaced ds)
 
-unfoldable pub between : List (List ℕ) → List ℕ
+unfoldable pub between : (lists : List (List ℕ)) → List ℕ
 between [] = []
 between (d ∷ ds) = d ++ spaced ds
 
@@ -39,42 +39,42 @@ between (d ∷ ds) = d ++ spaced ds
 -- behind it; a list of numbers up to `most`, ascending or not, `fewest` to `fullest` many, and its closing bracket;
 -- such a list with a space before its first number too.
 pub data Piece : Type 0 where
-  one : (b : ℕ) → Piece
-  number : (least most b : ℕ) → Piece
+  aByte : (b : ℕ) → Piece
+  aNumber : (least most b : ℕ) → Piece
   list : (ascending : Bool) (most fewest fullest : ℕ) → Piece
   spacedList : (most fewest fullest : ℕ) → Piece
 
 -- The texts of a piece, and of pieces one after the other.
-unfoldable pub PieceText : Piece → List ℕ → Type 0
-PieceText (one b) x = x ≡ b ∷ []
-PieceText (number least most b) x = (ds : List ℕ) × (Numeral ds × (x ≡ ds ++ b ∷ []))
+unfoldable pub PieceText : (piece : Piece) → (x : List ℕ) → Type 0
+PieceText (aByte b) x = x ≡ b ∷ []
+PieceText (aNumber least most b) x = (ds : List ℕ) × (Numeral ds × (x ≡ ds ++ b ∷ []))
 PieceText (list ascending most fewest fullest) x = (ns : List (List ℕ)) × (Numerals ns × (x ≡ between ns ++ 41 ∷ []))
 PieceText (spacedList most fewest fullest) x = (ns : List (List ℕ)) × (Numerals ns × (x ≡ spaced ns ++ 41 ∷ []))
 
-unfoldable pub TextOf : List Piece → List ℕ → Type 0
+unfoldable pub TextOf : (pieces : List Piece) → (t : List ℕ) → Type 0
 TextOf [] t = t ≡ []
 TextOf (p ∷ ps) t = (x y : List ℕ) × (PieceText p x × (TextOf ps y × (t ≡ x ++ y)))
 
 -- The lines: (watch k room), (start l ..) and (did (p ..) (c ..) (l ..)), for k processes of which n take part.
 unfoldable pub watchPieces : List Piece
-watchPieces = map one (ascii "(watch ") ++ number 0 kLimit 32 ∷ number 1 roomLimit 41 ∷ []
+watchPieces = map aByte (ascii "(watch ") ++ aNumber 0 kLimit 32 ∷ aNumber 1 roomLimit 41 ∷ []
 
-unfoldable pub startPieces : ℕ → List Piece
-startPieces k = map one (ascii "(start") ++ spacedList labelLimit k k ∷ []
+unfoldable pub startPieces : (k : ℕ) → List Piece
+startPieces k = map aByte (ascii "(start") ++ spacedList labelLimit k k ∷ []
 
-unfoldable pub didPieces : ℕ → ℕ → List Piece
+unfoldable pub didPieces : (k n : ℕ) → List Piece
 didPieces k n =
-    map one (ascii "(did (") ++ list true processLimit 1 8
-    ∷ one 32 ∷ one 40 ∷ list false countLimit k k
-    ∷ one 32 ∷ one 40 ∷ list false labelLimit n n
-    ∷ one 41 ∷ []
+    map aByte (ascii "(did (") ++ list true processLimit 1 8
+    ∷ aByte 32 ∷ aByte 40 ∷ list false countLimit k k
+    ∷ aByte 32 ∷ aByte 40 ∷ list false labelLimit n n
+    ∷ aByte 41 ∷ []
 
 -- An event's line names n processes, if it names any.
-unfoldable pub Names : List ℕ → ℕ → Type 0
-Names s n = (ns : List (List ℕ)) → Numerals ns → Stands s 0 (ascii "(did (" ++ (between ns ++ 41 ∷ [])) → length ns ≡ n
+unfoldable pub Names : (s : List ℕ) (n : ℕ) → Type 0
+Names s n = (ns : List (List ℕ)) → Numerals ns → StandsAt s 0 (ascii "(did (" ++ (between ns ++ 41 ∷ [])) → length ns ≡ n
 
 -- 1: no text of the grammar begins with the bytes up to and with this one; or the line ends here and is no whole text.
-unfoldable pub Fault1 : List Piece → List ℕ → ℕ → Type 0
-Fault1 ps s i =
+unfoldable pub LineFault1 : (ps : List Piece) (s : List ℕ) (i : ℕ) → Type 0
+LineFault1 ps s i =
     ((i < length s) × ((t : List ℕ) → TextOf ps t → take (i + 1) t ≡ take (i + 1) s → ⊥))
     ⊎ ((i ≡ length s) × (TextOf ps s → ⊥))

@@ -16,25 +16,25 @@ use Rattle.lines.specs.declared.DidLine.{DidLine}
 use Rattle.lines.specs.declared.DidLine.the-variants.{Did, Refused as DidRefused}
 use Rattle.codec.specs.Decimal.{digits, valueFrom}
 use Rattle.line_pieces.specs.Number.{numberOf, numberAt}
-use Rattle.line_pieces.specs.Reading.{valueOf, thenByte, thenBytes, thenNumber, thenEnd, limited, thenLast}
+use Rattle.line_pieces.specs.Reading.{valueRead, thenByte, thenBytes, thenNumber, thenEnd, limited, thenLast}
 use Rattle.line_pieces.specs.NumberList.{afterNumber, numbersAt, thenList, thenSpacedList, thenClose}
-use Rattle.lines.specs.Words.{word, placed}
+use Rattle.lines.specs.Words.{packedWord, placed}
 use Rattle.lines.specs.Lines.{watchOf, watchLine, startOf, startLine, didOf, didLine, ruleText, ruleClosed, ruleOf, ruleLine}
 
 -- Each line read, all definitions open.
 watches : List ℕ → WatchLine
-unfolding digits valueFrom numberOf numberAt valueOf thenByte thenBytes thenNumber thenEnd limited thenLast watchOf
+unfolding digits valueFrom numberOf numberAt valueRead thenByte thenBytes thenNumber thenEnd limited thenLast watchOf
     watchLine
 watches s = watchLine s
 
 starts : List ℕ → StartLine
 unfolding digits valueFrom numberOf numberAt thenByte thenBytes thenEnd limited afterNumber numbersAt thenSpacedList
-    thenClose listOf word startOf startLine
+    thenClose listOf packedWord startOf startLine
 starts s = startLine s 2
 
 didLines : ℕ → List ℕ → DidLine
-unfolding digits valueFrom numberOf numberAt valueOf thenByte thenBytes thenEnd limited afterNumber numbersAt thenList
-    thenClose listOf word placed thenLast didOf didLine
+unfolding digits valueFrom numberOf numberAt valueRead thenByte thenBytes thenEnd limited afterNumber numbersAt thenList
+    thenClose listOf packedWord placed thenLast didOf didLine
 didLines k s = didLine s k
 
 dids : List ℕ → DidLine

@@ -10,7 +10,7 @@ use Rattle.codec.specs.Bit.{bit}
 use Rattle.clocks.specs.Counts.{at}
 use Rattle.rules.specs.Formula.{Formula}
 use Rattle.codec.specs.Ascii.{ascii}
-use Rattle.rules.specs.Text.{textOf, Grammatical, Within}
+use Rattle.rules.specs.Text.{textOf, Grammatical, WithinLimits}
 use Rattle.call_words.specs.Words.{unpackCounts, unpackLabels}
 use Rattle.codec.specs.Decimal.{value}
 use Rattle.line_pieces.specs.Reading.{lineLimit}
@@ -24,7 +24,7 @@ use Rattle.line_laws.specs.Grammar.{Numeral, Numerals, spaced, between}
 
 -- Numbers that a list may have: none is above `most`, the first is not below `least`, and in an ascending list each
 -- is above the one before.
-unfoldable pub InLimits : Bool → ℕ → ℕ → List ℕ → Type 0
+unfoldable pub InLimits : (ascending : Bool) (least most : ℕ) (xs : List ℕ) → Type 0
 InLimits ascending least most [] = Unit {0}
 InLimits ascending least most (v ∷ vs) =
     (least ≤ v) × ((v ≤ most) × InLimits ascending (cond ascending (v + 1) 0) most vs)
@@ -50,7 +50,7 @@ pub record StartSays (s : List ℕ) (k : ℕ) (ls : List ℕ) : Type 0 where
   pub short : length s ≤ lineLimit
 
 -- (did (p ..) (c ..) (l ..)), from the digits of its numbers.
-abbrev pub didText : List (List ℕ) → List (List ℕ) → List (List ℕ) → List ℕ
+abbrev pub didText : (processes counts labels : List (List ℕ)) → List ℕ
 didText processes counts labels =
     ascii "(did (" ++ (between processes
     ++ (ascii ") (" ++ (between counts
@@ -71,7 +71,7 @@ pub record DidSays (s : List ℕ) (k : ℕ) (ps cs ls : List ℕ) : Type 0 where
   pub short : length s ≤ lineLimit
 
 -- A process is one of ps.
-abbrev pub Named : ℕ → List ℕ → Type 0
+abbrev pub Named : (p : ℕ) (ps : List ℕ) → Type 0
 Named p ps = (j : ℕ) × ((j < length ps) × (at ps j ≡ p))
 
 -- The words offer the event of the processes ps with the counts cs and the labels ls: what the call reads from the
@@ -86,7 +86,7 @@ pub record Offers (mask c01 c23 c45 c67 labels : ℕ) (ps cs ls : List ℕ) : Ty
 pub record RuleSays (s : List ℕ) (k : ℕ) (f : Formula) : Type 0 where
   pub text : s ≡ ascii "(rule " ++ (textOf f ++ 41 ∷ [])
   pub grammatical : Grammatical f
-  pub limits : Within k f
+  pub limits : WithinLimits k f
   pub short : length s ≤ lineLimit
 
 -- The statements (proved in LinesSay and RuleLineSays)

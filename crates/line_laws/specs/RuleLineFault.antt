@@ -6,20 +6,20 @@ use mathlib.Core.List.{List}
 use lib.ListN.{length, take}
 use Rattle.codec.specs.Ascii.{ascii}
 use Rattle.rules.specs.Text.{byteAt}
-use Rattle.rules.specs.Fault.{Stands, FirstFault}
+use Rattle.rules.specs.Fault.{StandsAt, FirstFault}
 use Rattle.line_pieces.specs.Reading.{lineLimit}
 use Rattle.lines.specs.Lines.{ruleText}
 
 -- A line begins with these bytes up to before place i, and has another one or its end there.
 pub record Departs (bytes s : List ℕ) (i : ℕ) : Type 0 where
   pub within : i < length bytes
-  pub before : Stands s 0 (take i bytes)
+  pub before : StandsAt s 0 (take i bytes)
   pub other : byteAt s i ≡ byteAt bytes i → ⊥
 
 -- The line, with k processes, has fault n at place i, in its turn. First its head; then its length; then the rule's
 -- own first fault, which is that of the bytes behind the head and before the last byte, its place counted from the
 -- rule's first byte; then the last byte.
-unfoldable pub RuleFault : ℕ → ℕ → List ℕ → ℕ → ℕ → Type 0
+unfoldable pub RuleFault : (turn n : ℕ) (s : List ℕ) (k i : ℕ) → Type 0
 RuleFault zero n s k i = (n ≡ 1) × Departs (ascii "(rule ") s i
 RuleFault (suc zero) n s k i = (n ≡ 10) × ((i ≡ lineLimit) × (lineLimit < length s))
 RuleFault (suc (suc zero)) n s k i = FirstFault n (ruleText s) k i

@@ -9,8 +9,8 @@ ghost use mathlib.Core.Path.{_≡_};
 ghost use mathlib.Core.Bool.{cond};
 ghost use mathlib.Core.List.{[]};
 ghost use lib.ListN.{set};
-ghost use Rattle.line_pieces.specs.Reading.{valueOf};
-ghost use Rattle.line_pieces.specs.NumberList.{listed, allNumbersAt, thenList, thenSpacedList, thenClose, kept};
+ghost use Rattle.line_pieces.specs.Reading.{valueRead};
+ghost use Rattle.line_pieces.specs.NumberList.{listRead, allNumbersAt, thenList, thenSpacedList, thenClose, numbersRead};
 
 // Eight numbers with number n among them replaced; those from the eighth up are not kept.
 pub fn keep(values: [u64; 8], n: u64, v: u64) -> [u64; 8]
@@ -34,7 +34,7 @@ fn least_behind(ascending: bool, v: u64) -> u64
 // All the numbers from a place on.
 fn read_numbers(line: &[u8], start: usize, ascending: bool, most: u64) -> Numbers
     requires { ⌜ most ≤ 4294967295 ⌝ }
-    ensures { λ x. ⌜ x ≡ kept (allNumbersAt (now (line .entry)) ascending most start) ⌝ }
+    ensures { λ x. ⌜ x ≡ numbersRead (allNumbersAt (now (line .entry)) ascending most start) ⌝ }
 {
     let mut values = [0u64; 8];
     let mut count: u64 = 0;
@@ -67,7 +67,7 @@ fn read_numbers(line: &[u8], start: usize, ascending: bool, most: u64) -> Number
 
 // No numbers, where a reading stands or with its fault.
 fn no_numbers(read: Read) -> Numbers
-    ensures { λ x. ⌜ x ≡ kept (listed [] read) ⌝ }
+    ensures { λ x. ⌜ x ≡ numbersRead (listRead [] read) ⌝ }
 {
     Numbers {
         values: [0u64; 8],
@@ -78,7 +78,7 @@ fn no_numbers(read: Read) -> Numbers
 // A list behind its opening bracket: it may be empty.
 pub fn then_list(line: &[u8], ascending: bool, most: u64, r: Read) -> Numbers
     requires { ⌜ most ≤ 4294967295 ⌝ }
-    ensures { λ x. ⌜ x ≡ kept (thenList (now (line .entry)) ascending most r) ⌝ }
+    ensures { λ x. ⌜ x ≡ numbersRead (thenList (now (line .entry)) ascending most r) ⌝ }
 {
     match r {
         Read::At { place, value: _ } => {
@@ -94,7 +94,7 @@ pub fn then_list(line: &[u8], ascending: bool, most: u64, r: Read) -> Numbers
 // A list behind a line's word, with a space before its first number.
 pub fn then_spaced_list(line: &[u8], most: u64, r: Read) -> Numbers
     requires { ⌜ most ≤ 4294967295 ⌝ }
-    ensures { λ x. ⌜ x ≡ kept (thenSpacedList (now (line .entry)) most r) ⌝ }
+    ensures { λ x. ⌜ x ≡ numbersRead (thenSpacedList (now (line .entry)) most r) ⌝ }
 {
     match r {
         Read::At { place, value: _ } => {
@@ -109,7 +109,7 @@ pub fn then_spaced_list(line: &[u8], most: u64, r: Read) -> Numbers
 
 // The closing bracket of a list that has `least` to `most` numbers.
 pub fn then_close(line: &[u8], least: u64, most: u64, r: Read) -> Read
-    ensures { λ x. ⌜ (x ≡ thenClose (now (line .entry)) least most r) × (valueOf x ≤ most) ⌝ }
+    ensures { λ x. ⌜ (x ≡ thenClose (now (line .entry)) least most r) × (valueRead x ≤ most) ⌝ }
 {
     match r {
         Read::At { place, value } => {

@@ -5,12 +5,12 @@ use crate::number::byte_at;
 use crate::number::read_number;
 ghost use Prim.Native.Nat.{_≤_};
 ghost use mathlib.Core.Path.{_≡_};
-ghost use Rattle.line_pieces.specs.Reading.{valueOf, thenByte, thenBytes, headRead, thenNumber, thenEnd};
+ghost use Rattle.line_pieces.specs.Reading.{valueRead, thenByte, thenBytes, headRead, thenNumber, thenEnd};
 ghost use Rattle.line_pieces.specs.Reading as readings;
 
 // The number read last.
 pub fn value_of(r: Read) -> u64
-    ensures { λ x. ⌜ x ≡ valueOf r ⌝ }
+    ensures { λ x. ⌜ x ≡ valueRead r ⌝ }
 {
     match r {
         Read::At { place: _, value } => value,

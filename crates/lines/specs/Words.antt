@@ -4,11 +4,11 @@ use mathlib.Core.List.{List, [], _∷_}
 use lib.ListN.{set, replicate}
 
 -- Parts below a base, the first lowest.
-unfoldable pub word : ℕ → List ℕ → ℕ
-word base [] = 0
-word base (v ∷ vs) = v % base + base * word base vs
+unfoldable pub packedWord : (base : ℕ) (xs : List ℕ) → ℕ
+packedWord base [] = 0
+packedWord base (v ∷ vs) = v % base + base * packedWord base vs
 
 -- Eight numbers: the first n values each at its own place, 0 at the others.
-unfoldable pub placed : ℕ → (ℕ → ℕ) → (ℕ → ℕ) → List ℕ
+unfoldable pub placed : (n : ℕ) (places values : ℕ → ℕ) → List ℕ
 placed zero places values = replicate 8 0
 placed (suc j) places values = set (placed j places values) (places j) (values j)

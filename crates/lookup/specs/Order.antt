@@ -5,13 +5,13 @@ use mathlib.Core.List.{List, [], _∷_}
 use lib.Dec.{ltb, eqb}
 
 -- A list of counts stands before another of the same length.
-unfoldable pub before : List ℕ → List ℕ → Bool
+unfoldable pub before : (xs ys : List ℕ) → Bool
 before [] ys = false
 before (x ∷ xs) [] = false
 before (x ∷ xs) (y ∷ ys) = ltb x y || (eqb x y && before xs ys)
 
 -- Two lists of counts are the same.
-unfoldable pub same : List ℕ → List ℕ → Bool
+unfoldable pub same : (xs xs′ : List ℕ) → Bool
 same [] [] = true
 same [] (y ∷ ys) = false
 same (x ∷ xs) [] = false

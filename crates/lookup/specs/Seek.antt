@@ -12,15 +12,15 @@ use Rattle.lookup.specs.declared.Standing.{Standing}
 use Rattle.lookup.specs.declared.Standing.the-variants.{Before, Same, Behind}
 
 -- How counts stand to a key: the same, or before it or behind it in the order of frontiers.
-unfoldable pub standing : List ℕ → List ℕ → Standing
+unfoldable pub standing : (counts key : List ℕ) → Standing
 standing counts key = cond (same counts key) Same (cond (before counts key) Before Behind)
 
 -- How the key at a place stands to the one sought.
-abbrev pub standsTo : List (List ℕ) → List ℕ → ℕ → Standing
+abbrev pub standsTo : (keys : List (List ℕ)) (key : List ℕ) (i : ℕ) → Standing
 standsTo keys key i = standing (getD keys i []) key
 
 -- The place from lo on and below hi at which the key stands, by halving; at most d times.
-unfoldable pub bisect : List (List ℕ) → List ℕ → ℕ → ℕ → ℕ → ℕ
+unfoldable pub bisect : (keys : List (List ℕ)) (key : List ℕ) (n lo hi : ℕ) → ℕ
 bisect keys key zero lo hi = length keys
 bisect keys key (suc d) lo hi =
     let middle = lo + (hi - lo) / 2 in
@@ -30,7 +30,7 @@ bisect keys key (suc d) lo hi =
     ]
 
 -- The same behind lo, by steps that double; at most d of them.
-unfoldable pub gallop : List (List ℕ) → List ℕ → ℕ → ℕ → ℕ → ℕ
+unfoldable pub gallop : (keys : List (List ℕ)) (key : List ℕ) (n lo width : ℕ) → ℕ
 gallop keys key zero lo width = length keys
 gallop keys key (suc d) lo width =
     let far = lo + width in
@@ -44,7 +44,7 @@ gallop keys key (suc d) lo width =
     ]
 
 -- The place at which a key stands; the number of keys if it stands nowhere.
-unfoldable pub seek : List (List ℕ) → List ℕ → ℕ → ℕ
+unfoldable pub seek : (keys : List (List ℕ)) (key : List ℕ) (hint : ℕ) → ℕ
 seek keys key hint =
     elim (ltb hint (length keys)) [
       | false ↦ bisect keys key (length keys) 0 (length keys)
@@ -56,5 +56,5 @@ seek keys key hint =
     ]
 
 -- The counts of frontiers, by which they are sought.
-abbrev pub keysOf : List Frontier → List (List ℕ)
+abbrev pub keysOf : (laid : List Frontier) → List (List ℕ)
 keysOf laid = map (λ f. f .counts) laid

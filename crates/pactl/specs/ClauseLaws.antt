@@ -11,7 +11,7 @@ use Rattle.clocks.specs.Event.{Cut}
 use Rattle.clocks.specs.Bounded.{anyOf}
 use Rattle.clocks.specs.stored.BoundedLaws.{same-test}
 use Rattle.pactl.specs.declared.Line.{Line}
-use Rattle.pactl.specs.Truth.{Model, Property, before, allOf, propositionHolds, notHolds, andHolds, eyHolds, esStep, esHolds, asStep, asHolds, lineTruth}
+use Rattle.pactl.specs.Truth.{Model, Property, preceding, allOf, propositionHolds, notHolds, andHolds, eyHolds, esStep, esHolds, asStep, asHolds, lineTruth}
 use Rattle.pactl.specs.ModelCuts.{Ruled, CutOf}
 use Rattle.pactl.specs.TruthLaws.{recursive-is, es-looks, as-looks, some-before, all-before}
 use Rattle.pactl.specs.LineTruthLaws.{proposition-line, not-line, and-line, ey-line, es-line, as-line}
@@ -21,22 +21,22 @@ use Rattle.pactl.specs.Clauses.{SomeBefore, AllBefore, SomePrecedes, Pro
 -- ---- What is said of the preceding cuts, as a test over the list of them
 module _ (M : Model) (valid : List Event → Event → Type 0) (m : Ruled M valid)
     (ls : List Line) (S : Cut) (c : CutOf M S) where
-  some-test : (any j : ℕ) → SomeBefore M ls S any j → bit any j ≡ anyOf (lineTruth M ls j) (before M S)
+  some-test : (any j : ℕ) → SomeBefore M ls S any j → bit any j ≡ anyOf (lineTruth M ls j) (preceding M S)
   some-test any j h =
       let x : Property = lineTruth M ls j in
       let is = some-before M valid m x S c in
-      same-test (bit any j) (anyOf x (before M S)) (λ t. is .1 (h .0 t)) (λ t. h .1 (is .0 t))
+      same-test (bit any j) (anyOf x (preceding M S)) (λ t. is .1 (h .0 t)) (λ t. h .1 (is .0 t))
 
-  all-test : (all j : ℕ) → AllBefore M ls S all j → bit all j ≡ allOf (lineTruth M ls j) (before M S)
+  all-test : (all j : ℕ) → AllBefore M ls S all j → bit all j ≡ allOf (lineTruth M ls j) (preceding M S)
   all-test all j h =
       let x : Property = lineTruth M ls j in
       let is = all-before M valid m x S c in
-      same-test (bit all j) (allOf x (before M S)) (λ t. is .1 (h .0 t)) (λ t. h .1 (is .0 t))
+      same-test (bit all j) (allOf x (preceding M S)) (λ t. is .1 (h .0 t)) (λ t. h .1 (is .0 t))
 
-  precedes-test : (preceded : Bool) → SomePrecedes M S preceded → preceded ≡ anyOf (λ R. true) (before M S)
+  precedes-test : (preceded : Bool) → SomePrecedes M S preceded → preceded ≡ anyOf (λ R. true) (preceding M S)
   precedes-test preceded h =
       let is = some-before M valid m (λ R. true) S c in
-      same-test preceded (anyOf (λ R. true) (before M S))
+      same-test preceded (anyOf (λ R. true) (preceding M S))
       (λ t. let r = h .0 t in is .1 (r .0, r .1, tt))
       (λ t. let r = is .0 t in h .1 (r .0, r .1))
 
@@ -77,7 +77,7 @@ module _ (M : Model) (ls : List Line) (i : ℕ) (S : Cut) where
         let x : Property = lineTruth M ls a in
         let y : Property = lineTruth M ls b in
         let e : lineTruth M ls i ≡ esHolds M x y = es-line M ls i a b la lb l in
-        let before-has : bit any i ≡ anyOf (esHolds M x y) (before M S) =
+        let before-has : bit any i ≡ anyOf (esHolds M x y) (preceding M S) =
         rw e at (some-test M valid m ls S c any i some) in
         ap₂ _||_ hb (ap₂ _&&_ ha before-has)
         ∙ sym (ap (λ (q : Property). q S) e ∙ recursive-is M valid m (esStep M x y) (es-looks M valid m x y) S c)
@@ -89,8 +89,8 @@ module _ (M : Model) (ls : List Line) (i : ℕ) (S : Cut) where
         let x : Property = lineTruth M ls a in
         let y : Property = lineTruth M ls b in
         let e : lineTruth M ls i ≡ asHolds M x y = as-line M ls i a b la lb l in
-        let some : Bool = anyOf (λ R. true) (before M S) in
-        let rest : Bool = allOf (asHolds M x y) (before M S) in
+        let some : Bool = anyOf (λ R. true) (preceding M S) in
+        let rest : Bool = allOf (asHolds M x y) (preceding M S) in
         let before-have : preceded && bit all i ≡ some && rest = and-same preceded some (bit all i) rest
         (precedes-test M valid m ls S c preceded one) (λ t. rw e at (all-test M valid m ls S c all i (every t))) in
         ap₂ _||_ hb (ap₂ _&&_ ha before-have)

@@ -28,23 +28,23 @@ use Rattle.pactl.specs.Judge.{propositionJudged, notJudged, andJudged, e
 -- ---- What a clause is given, at a cut S
 
 -- The label byte of process p is that of its last event in the cut, or its start label.
-abbrev pub LabelHere : Model → Cut → List ℕ → ℕ → Type 0
+abbrev pub LabelHere : (M : Model) (S : Cut) (labels : List ℕ) (p : ℕ) → Type 0
 LabelHere M S labels p = getD labels p 0 ≡ labelOf (M .start) (M .history) p (S p)
 
 -- Bit j of v is line j's truth at the cut.
-abbrev pub Here : Model → List Line → Cut → ℕ → ℕ → Type 0
+abbrev pub Here : (M : Model) (ls : List Line) (S : Cut) (v j : ℕ) → Type 0
 Here M ls S v j = bit v j ≡ lineTruth M ls j S
 
 -- Bit j of any says whether line j is true at some preceding cut.
-abbrev pub SomeBefore : Model → List Line → Cut → ℕ → ℕ → Type 0
+abbrev pub SomeBefore : (M : Model) (ls : List Line) (S : Cut) (any j : ℕ) → Type 0
 SomeBefore M ls S any j = T (bit any j) ↔ ((S′ : Cut) × Leads M S′ S × T (lineTruth M ls j S′))
 
 -- Bit j of all says whether line j is true at every preceding cut.
-abbrev pub AllBefore : Model → List Line → Cut → ℕ → ℕ → Type 0
+abbrev pub AllBefore : (M : Model) (ls : List Line) (S : Cut) (all j : ℕ) → Type 0
 AllBefore M ls S all j = T (bit all j) ↔ ((S′ : Cut) → Leads M S′ S → T (lineTruth M ls j S′))
 
 -- `preceded` says whether some cut precedes.
-abbrev pub SomePrecedes : Model → Cut → Bool → Type 0
+abbrev pub SomePrecedes : (M : Model) (S : Cut) (preceded : Bool) → Type 0
 SomePrecedes M S preceded = T preceded ↔ ((S′ : Cut) × Leads M S′ S)
 
 -- ---- The clauses, of line i at a cut S

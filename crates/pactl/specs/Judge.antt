@@ -15,33 +15,33 @@ use Rattle.pactl.specs.declared.Line.{Line}
 -- Nodes". v has the bits of the earlier lines, i is the line's own number. That each gives PaCTL's truth: Clauses.
 
 -- Sentence 1, val(F, q): proposition b of process a, as the process's label byte has it.
-unfoldable pub propositionJudged : List ℕ → ℕ → ℕ → Bool
+unfoldable pub propositionJudged : (labels : List ℕ) (a b : ℕ) → Bool
 propositionJudged labels a b = bit (getD labels a 0) b
 
 -- Sentence 2, val(F, ¬η): not line a.
-unfoldable pub notJudged : ℕ → ℕ → Bool
+unfoldable pub notJudged : (v a : ℕ) → Bool
 notJudged v a = not (bit v a)
 
 -- Sentence 3, val(F, (η₁ ∧ η₂)): line a and line b.
-unfoldable pub andJudged : ℕ → ℕ → ℕ → Bool
+unfoldable pub andJudged : (v a b : ℕ) → Bool
 andJudged v a b = bit v a && bit v b
 
 -- Sentence 4, val(F, EY η): some preceding cut has line a.
-unfoldable pub eyJudged : ℕ → ℕ → Bool
+unfoldable pub eyJudged : (any a : ℕ) → Bool
 eyJudged any a = bit any a
 
 -- Sentence 5, val(F, E(η₁ S η₂)): line b, or line a and some preceding cut has this line.
-unfoldable pub esJudged : ℕ → ℕ → ℕ → ℕ → ℕ → Bool
+unfoldable pub esJudged : (v any i a b : ℕ) → Bool
 esJudged v any i a b = bit v b || (bit v a && bit any i)
 
 -- Sentence 6, val(F, A(η₁ S η₂)): line b, or line a and there is a preceding cut and all of them have this line.
-unfoldable pub asJudged : ℕ → ℕ → Bool → ℕ → ℕ → ℕ → Bool
+unfoldable pub asJudged : (v all : ℕ) (preceded : Bool) (i a b : ℕ) → Bool
 asJudged v all preceded i a b = bit v b || (bit v a && (preceded && bit all i))
 
 -- ---- Lines
 
 -- A line, by its kind: kinds 0 to 5 are sentences 1 to 6. No line of another kind is good.
-unfoldable pub judgeLine : List ℕ → ℕ → ℕ → ℕ → Bool → ℕ → Line → Bool
+unfoldable pub judgeLine : (labels : List ℕ) (v any all : ℕ) (preceded : Bool) (i : ℕ) (l : Line) → Bool
 judgeLine labels v any all preceded i l =
     cond (eqb (l .kind) 0) (propositionJudged labels (l .a) (l .b))
     (cond (eqb (l .kind) 1) (notJudged v (l .a))
@@ -51,15 +51,15 @@ judgeLine labels v any all preceded i l =
     (asJudged v all preceded i (l .a) (l .b))))))
 
 -- v with bit i added, where that is asked.
-abbrev pub withBit : ℕ → ℕ → Bool → ℕ
+abbrev pub withBit : (v i : ℕ) (t : Bool) → ℕ
 withBit v i t = cond t (v + 2 ^ i) v
 
 -- The lines from line i on, one after the other, v having the bits of the lines before.
-unfoldable pub judgeFrom : List ℕ → ℕ → ℕ → Bool → ℕ → ℕ → List Line → ℕ
+unfoldable pub judgeFrom : (labels : List ℕ) (any all : ℕ) (preceded : Bool) (v i : ℕ) (ls : List Line) → ℕ
 judgeFrom labels any all preceded v i [] = v
 judgeFrom labels any all preceded v i (l ∷ ls) =
     judgeFrom labels any all preceded (withBit v i (judgeLine labels v any all preceded i l)) (i + 1) ls
 
 -- A frontier's word: bit i is line i, the rest is 0.
-abbrev pub judge : List ℕ → ℕ → ℕ → Bool → List Line → ℕ
+abbrev pub judge : (labels : List ℕ) (any all : ℕ) (preceded : Bool) (ls : List Line) → ℕ
 judge labels any all preceded ls = judgeFrom labels any all preceded 0 0 ls

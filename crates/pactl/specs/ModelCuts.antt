@@ -12,9 +12,9 @@ pub record Ruled (M : Model) (valid : List Event → Event → Type 0) : Type 0 
   pub by-rule : History (M .processes) valid (M .history)
 
 -- A consistent cut of the model.
-abbrev pub CutOf : Model → Cut → Type 0
+abbrev pub CutOf : (M : Model) (S : Cut) → Type 0
 CutOf M S = Consistent (M .history) S
 
 -- One cut of the model precedes another.
-abbrev pub Leads : Model → Cut → Cut → Type 0
+abbrev pub Leads : (M : Model) (S′ S : Cut) → Type 0
 Leads M S′ S = Precedes (M .history) S′ S

@@ -15,7 +15,7 @@ pub data Pactl : Type 0 where
   allSince : Pactl → Pactl → Pactl
 
 -- φ ∨ ψ = ¬(¬φ ∧ ¬ψ) (source 000, section 2: additional operators; so are the next seven).
-unfoldable pub disjunction : Pactl → Pactl → Pactl
+unfoldable pub disjunction : (x y : Pactl) → Pactl
 disjunction x y = negation (conjunction (negation x) (negation y))
 
 -- true = q ∨ ¬q, with q proposition 0 of process 0.
@@ -23,9 +23,9 @@ unfoldable pub truth : Pactl
 truth = disjunction (proposition 0 0) (negation (proposition 0 0))
 
 -- EP φ = E(true S φ).
-unfoldable pub existsPreviously : Pactl → Pactl
+unfoldable pub existsPreviously : (x : Pactl) → Pactl
 existsPreviously x = existsSince truth x
 
 -- AP φ = A(true S φ).
-unfoldable pub allPreviously : Pactl → Pactl
+unfoldable pub allPreviously : (x : Pactl) → Pactl
 allPreviously x = allSince truth x

@@ -6,14 +6,14 @@ use Rattle.pactl.specs.declared.Line.{Line}
 use Rattle.pactl.specs.Line.{line}
 
 -- Line i of a table's bytes: kind, a, b.
-unfoldable pub lineAt : List ℕ → ℕ → Line
+unfoldable pub lineAt : (bytes : List ℕ) (i : ℕ) → Line
 lineAt bytes i = line (getD bytes (3 * i) 0) (getD bytes (3 * i + 1) 0) (getD bytes (3 * i + 2) 0)
 
 -- n lines of a table's bytes, from line i on.
-unfoldable pub linesFrom : List ℕ → ℕ → ℕ → List Line
+unfoldable pub linesFrom : (bytes : List ℕ) (n i : ℕ) → List Line
 linesFrom bytes zero i = []
 linesFrom bytes (suc n) i = lineAt bytes i ∷ linesFrom bytes n (i + 1)
 
 -- The first n lines of a table's bytes.
-abbrev pub linesOf : List ℕ → ℕ → List Line
+abbrev pub linesOf : (bytes : List ℕ) (n : ℕ) → List Line
 linesOf bytes n = linesFrom bytes n 0

@@ -17,7 +17,7 @@ use Rattle.clocks.specs.cuts.Predecessors.{predecessor}
 use Rattle.clocks.specs.stored.TestedLaws.{in-takeable, involved-below}
 use Rattle.clocks.specs.stored.BoundedLaws.{and-i, and-l, and-r, or-l, or-r, or-e, any-of-i, any-of-e}
 use Rattle.clocks.specs.Valid.{WellFormed}
-use Rattle.pactl.specs.Truth.{Model, Property, allOf, size, unrolled, recursive, eyHolds, esStep, esHolds, asStep, notHolds, andHolds, asHolds, before}
+use Rattle.pactl.specs.Truth.{Model, Property, allOf, size, unrolled, recursive, eyHolds, esStep, esHolds, asStep, notHolds, andHolds, asHolds, preceding}
 use Rattle.pactl.specs.ModelCuts.{Ruled, CutOf, Leads}
 
 -- ---- Tests over a list
@@ -66,8 +66,8 @@ module _ (M : Model) (valid : List Event → Event → Type 0) (m : Ruled M vali
   cut-silent = consistent-silent (M .processes) valid (M .history) (m .by-rule)
 
   -- the preceding cuts are those that lead to the cut by one event
-  pub before-leads : (S : Cut) → CutOf M S → (S′ : Cut) → List·Memᴰ S′ (before M S) ↔ Leads M S′ S
-  unfolding before
+  pub before-leads : (S : Cut) → CutOf M S → (S′ : Cut) → List·Memᴰ S′ (preceding M S) ↔ Leads M S′ S
+  unfolding preceding
   before-leads S c S′ = predecessor (M .processes) valid (m .rule) (M .history) (m .by-rule) S (cut-silent S c) S′
 
   pub leads-smaller : (S S′ : Cut) → Leads M S′ S → size (M .processes) S′ < size (M .processes) S
@@ -81,7 +81,7 @@ module _ (M : Model) (valid : List Event → Event → Type 0) (m : Ruled M vali
       o (involved-below (M .processes) e w o b) (omega (arith, ap (λ (R : Cut). R o) (h .leads), apply-next e S′ o b))
 
   -- ---- a property given by what it is at the preceding cuts is so given
-  module _ (F : Property → Property) (looks : (x y : Property) (S : Cut) → ((S′ : Cut) → List·Memᴰ S′ (before M S) → x S′ ≡ y S′) → F x S ≡ F y S) where
+  module _ (F : Property → Property) (looks : (x y : Property) (S : Cut) → ((S′ : Cut) → List·Memᴰ S′ (preceding M S) → x S′ ≡ y S′) → F x S ≡ F y S) where
     enough : (d d′ : ℕ) (S : Cut) → CutOf M S → size (M .processes) S ≤ d → size (M .processes) S ≤ d′ → unrolled F d S ≡ unrolled F d′ S
     unfolding unrolled
     enough zero zero S c h k = refl
@@ -97,24 +97,24 @@ module _ (M : Model) (valid : List Event → Event → Type 0) (m : Ruled M vali
         ∙ looks (unrolled F (size (M .processes) S)) (recursive M F) S
         (λ S′ n. let l = before-leads S c S′ .0 n in enough (size (M .processes) S) (size (M .processes) S′) S′ (l .before) (omega (arith, leads-smaller S S′ l)) (omega arith))
 
-  pub es-looks : (a b x y : Property) (S : Cut) → ((S′ : Cut) → List·Memᴰ S′ (before M S) → x S′ ≡ y S′) → esStep M a b x S ≡ esStep M a b y S
+  pub es-looks : (a b x y : Property) (S : Cut) → ((S′ : Cut) → List·Memᴰ S′ (preceding M S) → x S′ ≡ y S′) → esStep M a b x S ≡ esStep M a b y S
   unfolding esStep
-  es-looks a b x y S h = rw (any-of-same x y (before M S) h)
+  es-looks a b x y S h = rw (any-of-same x y (preceding M S) h)
 
-  pub as-looks : (a b x y : Property) (S : Cut) → ((S′ : Cut) → List·Memᴰ S′ (before M S) → x S′ ≡ y S′) → asStep M a b x S ≡ asStep M a b y S
+  pub as-looks : (a b x y : Property) (S : Cut) → ((S′ : Cut) → List·Memᴰ S′ (preceding M S) → x S′ ≡ y S′) → asStep M a b x S ≡ asStep M a b y S
   unfolding asStep
-  as-looks a b x y S h = rw (all-of-same x y (before M S) h)
+  as-looks a b x y S h = rw (all-of-same x y (preceding M S) h)
 
-  pub some-before : (x : Property) (S : Cut) → CutOf M S → T (anyOf x (before M S)) ↔ ((S′ : Cut) × Leads M S′ S × T (x S′))
+  pub some-before : (x : Property) (S : Cut) → CutOf M S → T (anyOf x (preceding M S)) ↔ ((S′ : Cut) × Leads M S′ S × T (x S′))
   some-before x S c = (
-    (λ t. let w = any-of-e x (before M S) t in (w .0, before-leads S c (w .0) .0 (w .1), w .2)),
-    (λ w. any-of-i x (before M S) (w .0) (before-leads S c (w .0) .1 (w .1)) (w .2)),
+    (λ t. let w = any-of-e x (preceding M S) t in (w .0, before-leads S c (w .0) .0 (w .1), w .2)),
+    (λ w. any-of-i x (preceding M S) (w .0) (before-leads S c (w .0) .1 (w .1)) (w .2)),
   )
 
-  pub all-before : (x : Property) (S : Cut) → CutOf M S → T (allOf x (before M S)) ↔ ((S′ : Cut) → Leads M S′ S → T (x S′))
+  pub all-before : (x : Property) (S : Cut) → CutOf M S → T (allOf x (preceding M S)) ↔ ((S′ : Cut) → Leads M S′ S → T (x S′))
   all-before x S c = (
-    (λ t S′ l. all-of-e x (before M S) t S′ (before-leads S c S′ .1 l)),
-    (λ h. all-of-i x (before M S) (λ S′ n. h S′ (before-leads S c S′ .0 n))),
+    (λ t S′ l. all-of-e x (preceding M S) t S′ (before-leads S c S′ .1 l)),
+    (λ h. all-of-i x (preceding M S) (λ S′ n. h S′ (before-leads S c S′ .0 n))),
   )
 
   -- ---- The clauses
@@ -129,7 +129,7 @@ module _ (M : Model) (valid : List Event → Event → Type 0) (m : Ruled M vali
   unfolding esHolds esStep
   es-clause a b S c =
       let x : Property = esHolds M a b in
-      let some : Bool = anyOf x (before M S) in
+      let some : Bool = anyOf x (preceding M S) in
       let is : x S ≡ b S || (a S && some) = recursive-is (esStep M a b) (es-looks a b) S c in (
         (λ t. ⊎-elim (λ u. inl u) (λ u. inr (and-l (a S) some u, some-before x S c .0 (and-r (a S) some u))) (or-e (b S) (a S && some) (subst T is t))),
         ⊎-elim
@@ -143,8 +143,8 @@ module _ (M : Model) (valid : List Event → Event → Type 0) (m : Ruled M vali
   unfolding asHolds asStep
   as-clause a b S c =
       let x : Property = asHolds M a b in
-      let some : Bool = anyOf (λ R. true) (before M S) in
-      let all : Bool = allOf x (before M S) in
+      let some : Bool = anyOf (λ R. true) (preceding M S) in
+      let all : Bool = allOf x (preceding M S) in
       let is : x S ≡ b S || (a S && (some && all)) = recursive-is (asStep M a b) (as-looks a b) S c in (
         (λ t. ⊎-elim (λ u. inl u)
             (λ u. let v = and-r (a S) (some && all) u in

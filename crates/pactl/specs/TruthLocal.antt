@@ -20,7 +20,7 @@ use Rattle.clocks.specs.cuts.Agree.{agree-sym, agree-below, agree-consistent, a
 use Rattle.clocks.specs.Valid.{History, ClockRule}
 use Rattle.pactl.specs.ModelCuts.{Ruled, Leads}
 use Rattle.pactl.specs.TruthLaws.{recursive-is, es-looks, some-before, all-before, leads-smaller, as-looks}
-use Rattle.pactl.specs.Truth.{Model, Property, allOf, size, propositionHolds, notHolds, andHolds, eyHolds, esStep, esHolds, asStep, asHolds, holds, lineHolds, linesHold, lineTruth, never, before}
+use Rattle.pactl.specs.Truth.{Model, Property, allOf, size, propositionHolds, notHolds, andHolds, eyHolds, esStep, esHolds, asStep, asHolds, holds, lineHolds, linesHold, lineTruth, never, preceding}
 use Rattle.pactl.specs.declared.Line.{Line}
 use Rattle.pactl.specs.Pactl.{Pactl, proposition, negation, conjunction, existsYesterday, existsSince, allSince}
 
@@ -63,13 +63,13 @@ module _ (n : ℕ) (start : Cut) (valid : List Event → Event → Type 0) (r : 
     c′ : Consistent us S
     c′ = agree-consistent ts us S a c
 
-    some-local : anyOf x (before here S) ≡ anyOf y (before there S)
-    some-local = same-test (anyOf x (before here S)) (anyOf y (before there S))
+    some-local : anyOf x (preceding here S) ≡ anyOf y (preceding there S)
+    some-local = same-test (anyOf x (preceding here S)) (anyOf y (preceding there S))
         (λ t. let w = some-before here valid ruled-here x S c .0 t in some-before there valid ruled-there y S c′ .1 (w .0, over S (w .0) a (w .1), subst T (e (w .0) (w .1)) (w .2)))
         (λ t. let w = some-before there valid ruled-there y S c′ .0 t in let l = back S (w .0) a (w .1) in some-before here valid ruled-here x S c .1 (w .0, l, subst⁻¹ T (e (w .0) l) (w .2)))
 
-    all-local : allOf x (before here S) ≡ allOf y (before there S)
-    all-local = same-test (allOf x (before here S)) (allOf y (before there S))
+    all-local : allOf x (preceding here S) ≡ allOf y (preceding there S)
+    all-local = same-test (allOf x (preceding here S)) (allOf y (preceding there S))
         (λ t. all-before there valid ruled-there y S c′ .1 (λ S′ l. let k = back S S′ a l in subst T (e S′ k) (all-before here valid ruled-here x S c .0 t S′ k)))
         (λ t. all-before here valid ruled-here x S c .1 (λ S′ l. subst⁻¹ T (e S′ l) (all-before there valid ruled-there y S c′ .0 t S′ (over S S′ a l))))
 

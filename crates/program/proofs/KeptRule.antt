@@ -9,7 +9,7 @@ use lib.ListN.{length, take, drop, length-drop}
 use lib.Seq.{length-take-le}
 use Rattle.codec.specs.Ascii.{ascii}
 use Rattle.rules.specs.Text.{byteAt}
-use Rattle.rules.specs.Reader.{Reading, formed, refused, readRule}
+use Rattle.rules.specs.Reader.{Reading, formed, faulty, readRule}
 use Rattle.line_pieces.specs.declared.Read.{Read}
 use Rattle.line_pieces.specs.declared.Read.the-variants.{At, Refused}
 use Rattle.lines.specs.declared.RuleLine.{RuleLine}
@@ -36,7 +36,7 @@ closing s false n i = tt
 closed-lies : (s : List ℕ) (r : Reading) → Lies s (ruleClosed s r)
 unfolding ruleClosed
 closed-lies s (formed i f) = closing s (eqb (byteAt s (length s - 1)) 41) 1 (length s - 1)
-closed-lies s (refused n i) = tt
+closed-lies s (faulty n i) = tt
 
 of-lies : (s : List ℕ) (k : ℕ) (r : Read) → Lies s (ruleOf s k r)
 unfolding ruleOf

@@ -14,7 +14,7 @@ use Rattle.program.specs.declared.Session.{Session}
 use Rattle.reply_text.specs.Form.{programWidth}
 use Rattle.reply_text.specs.Texts.{answerText}
 use Rattle.replies.specs.Replies.{partsOf}
-use Rattle.replies.specs.Following.{accepted, takesAgain, eventStage, overStage}
+use Rattle.replies.specs.Following.{isAccepted, takesAgain, eventStage, overStage}
 use Rattle.program.specs.Stages.{Standing, lineRead, Stands}
 use Rattle.replies.specs.Promises.{PartsPromised, FollowPromised}
 use Rattle.reply_text.specs.Promises.{TextPromised}
@@ -44,8 +44,8 @@ EachLineIsPrinted =
     (t : Standing) (line : List ℕ) (r : Session) (rule bytes window text : List ℕ) (again : Bool)
     → t .stage < overStage → Stands (lineRead t line) r rule bytes window
     → TextPromised (r .k) (eqb (t .stage) eventStage) bytes (r .reply) text
-    → FollowPromised accepted (eqb (t .stage) eventStage) (r .reply) again
-    → (text ≡ answerText (lineRead t line .k) (lineRead t line .answer)) × (again ≡ accepted (lineRead t line .answer))
+    → FollowPromised isAccepted (eqb (t .stage) eventStage) (r .reply) again
+    → (text ≡ answerText (lineRead t line .k) (lineRead t line .answer)) × (again ≡ isAccepted (lineRead t line .answer))
 
 -- A take, of whatever bytes: its reply word and record are as `watch32_take` leaves them.
 abbrev pub EachTakeIsPrinted : Type 0

@@ -27,7 +27,7 @@ use Rattle.program.specs.TakenCountsLaws.{first-taken, counted-taken}
 use Rattle.rules.specs.Fault.{Fault}
 use Rattle.rules.specs.grammar.GrammarTheorem.{reader-first-fault}
 use Rattle.rules.specs.reading.PlaceLaws.{fault-place}
-use Rattle.rules.specs.Reader.{Reading, readRule, formed, refused}
+use Rattle.rules.specs.Reader.{Reading, readRule, formed, faulty}
 use Rattle.clocks.specs.Refusal.{badStart}
 use Rattle.clocks.specs.Counts.{listOf}
 use Rattle.records.specs.Record.{recordLength, pendingCount, keptCount, takenCounts, pendingAt, pendingEvents, readyIn}
@@ -65,7 +65,7 @@ open-fits w text k labels s window =
   where
     go : (r : Reading) → readRule text k ≡ r → Fits (openRead w k labels s window r .answer)
     go (formed i f) e = omega arith
-    go (refused n i) e =
+    go (faulty n i) e =
         let h = rule-number n text k i (reader-first-fault text k n i .0 e .here) in
         (h .0, omega (arith, h .1), omega (arith, fault-place text k n i e))
 
@@ -88,7 +88,7 @@ open-possible text k labels s window =
   where
     go : (r : Reading) → readRule text k ≡ r → OpenTold (openRead programWidth k labels s window r)
     go (formed i f) e = (refl, sym (first-taken k (linesAt 0 f)), omega arith)
-    go (refused n i) e = rule-number n text k i (reader-first-fault text k n i .0 e .here) .0
+    go (faulty n i) e = rule-number n text k i (reader-first-fault text k n i .0 e .here) .0
 
 pub offer-fits : (w mask : ℕ) (clock labels s : List ℕ) → Fits (offerCall w mask clock labels s .answer)
 offer-fits w mask clock labels s = go (offer-case w mask clock labels s)

@@ -16,7 +16,7 @@ use Rattle.lines.specs.declared.DidLine.{DidLine}
 use Rattle.lines.specs.declared.DidLine.the-variants.{Did, Refused as DidRefused}
 use Rattle.lines.specs.Lines.{watchLine, ruleText, ruleLine, startLine, didLine}
 use Rattle.line_laws.specs.Grammar.{Piece, watchPieces, startPieces, didPieces}
-use Rattle.line_laws.specs.Fault.{Fault}
+use Rattle.line_laws.specs.Fault.{LineFault}
 use Rattle.line_laws.specs.RuleLineFault.{RuleFault}
 use Rattle.line_laws.specs.faults.LinesFirstFault.{watch-first-fault, start-first-fault, did-first-fault}
 use Rattle.line_laws.specs.faults.RuleLineFirstFault.{rule-line-first-fault}
@@ -32,8 +32,8 @@ use Rattle.program.specs.CallAnswers.{rule-number, open-possible, offer-
 
 -- ---- The numbers of faults
 
-fault-number : (n : ℕ) (ps : List Piece) (s : List ℕ) (i : ℕ) → Fault n ps s i → 1 ≤ n
-unfolding Fault
+fault-number : (n : ℕ) (ps : List Piece) (s : List ℕ) (i : ℕ) → LineFault n ps s i → 1 ≤ n
+unfolding LineFault
 fault-number n ps s i (inl h) = omega (arith, h .0)
 fault-number n ps s i (inr h) = omega (arith, h .0)
 

@@ -13,7 +13,7 @@ use Rattle.lines.specs.declared.WatchLine.{WatchLine}
 use Rattle.lines.specs.declared.WatchLine.the-variants.{Watch, Refused as WatchRefused}
 use Rattle.codec.specs.Decimal.{digits, value}
 use Rattle.line_pieces.specs.Number.{numberOf, numberAt}
-use Rattle.line_pieces.specs.Reading.{lineLimit, thenByte, thenNumber, thenEnd, limited, headRead, valueOf, thenLast}
+use Rattle.line_pieces.specs.Reading.{lineLimit, thenByte, thenNumber, thenEnd, limited, headRead, valueRead, thenLast}
 use Rattle.lines.specs.Lines.{watchOf, watchLine, kLimit, roomLimit}
 
 -- A reading's number is at most so much.
@@ -68,4 +68,4 @@ unfolding watchLine thenLast
 room-within s =
     let k = thenNumber s 0 kLimit (headRead s (ascii "(watch ")) in
     let room = thenNumber s 1 roomLimit (thenByte s 32 k) in
-    made (valueOf k) _ (limit-within s 1024 _ (end-within s 1024 _ (byte-within s 41 1024 room (number-within s 1 roomLimit (thenByte s 32 k)))))
+    made (valueRead k) _ (limit-within s 1024 _ (end-within s 1024 _ (byte-within s 41 1024 room (number-within s 1 roomLimit (thenByte s 32 k)))))

@@ -9,12 +9,12 @@ use Rattle.answers.specs.Answer.{flag}
 use Rattle.program.specs.declared.Scan.{Scan}
 
 -- The bytes before the first line feed; all, where there is none.
-unfoldable pub upToFeed : List ℕ → List ℕ
+unfoldable pub upToFeed : (xs : List ℕ) → List ℕ
 upToFeed [] = []
 upToFeed (b ∷ s) = cond (eqb b 10) [] (b ∷ upToFeed s)
 
 -- Whether there is a line feed.
-unfoldable pub hasFeed : List ℕ → Bool
+unfoldable pub hasFeed : (xs : List ℕ) → Bool
 hasFeed [] = false
 hasFeed (b ∷ s) = cond (eqb b 10) true (hasFeed s)
 

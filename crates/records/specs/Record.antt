@@ -19,107 +19,107 @@ use Rattle.clocks.specs.Tested.{ready}
 abbrev pub takenPlace : ℕ
 takenPlace = 8
 
-abbrev pub clocksPlace : ℕ → ℕ
+abbrev pub clocksPlace : (w : ℕ) → ℕ
 clocksPlace w = 8 + 8 * w
 
-abbrev pub tablePlace : ℕ → ℕ
+abbrev pub tablePlace : (w : ℕ) → ℕ
 tablePlace w = 8 + 72 * w
 
 -- A pending event's length: mask, seven zeros, clock, labels (01: held events).
-abbrev pub eventLength : ℕ → ℕ
+abbrev pub eventLength : (w : ℕ) → ℕ
 eventLength w = 8 * w + 16
 
-abbrev pub pendingPlace : ℕ → ℕ → ℕ
+abbrev pub pendingPlace : (w i : ℕ) → ℕ
 pendingPlace w i = 200 + 72 * w + i * eventLength w
 
-abbrev pub recordLength : ℕ → ℕ
+abbrev pub recordLength : (w : ℕ) → ℕ
 recordLength w = pendingPlace w 32
 
 -- ---- Fields
 
 -- The number of processes.
-abbrev pub processCount : List ℕ → ℕ
+abbrev pub processCount : (s : List ℕ) → ℕ
 processCount s = getD s 0 0
 
 -- The number of the table's lines.
-abbrev pub lineTotal : List ℕ → ℕ
+abbrev pub lineTotal : (s : List ℕ) → ℕ
 lineTotal s = getD s 1 0
 
 -- The number of pending events (01: held).
-abbrev pub pendingCount : List ℕ → ℕ
+abbrev pub pendingCount : (s : List ℕ) → ℕ
 pendingCount s = getD s 2 0
 
 -- The closed processes, a bit for each (02 [5]).
-abbrev pub closedMask : List ℕ → ℕ
+abbrev pub closedMask : (s : List ℕ) → ℕ
 closedMask s = getD s 3 0
 
 -- The number of kept frontiers.
-abbrev pub keptCount : List ℕ → ℕ
+abbrev pub keptCount : (s : List ℕ) → ℕ
 keptCount s = number s 4 4
 
-unfoldable pub takenCounts : ℕ → List ℕ → List ℕ
+unfoldable pub takenCounts : (w : ℕ) (s : List ℕ) → List ℕ
 takenCounts w s = listOf 8 (λ p. number s (takenPlace + p * w) w)
 
-unfoldable pub lastClocks : ℕ → List ℕ → List (List ℕ)
+unfoldable pub lastClocks : (w : ℕ) (s : List ℕ) → List (List ℕ)
 lastClocks w s = listOf 8 (λ p. listOf 8 (λ q. number s (clocksPlace w + p * (8 * w) + q * w) w))
 
 -- The rule's table, as many lines as the record says.
-unfoldable pub tableLines : ℕ → List ℕ → List Line
+unfoldable pub tableLines : (w : ℕ) (s : List ℕ) → List Line
 tableLines w s = linesOf (drop (tablePlace w) s) (lineTotal s)
 
 -- The event whose bytes begin at a place.
-abbrev pub eventFrom : ℕ → List ℕ → ℕ → Event
-eventFrom w s at = record {
-  mask = getD s at 0;
-  clock = listOf 8 (λ p. number s (at + 8 + p * w) w);
-  labels = take 8 (drop (at + 8 + 8 * w) s);
+abbrev pub eventFrom : (w : ℕ) (s : List ℕ) (place : ℕ) → Event
+eventFrom w s place = record {
+  mask = getD s place 0;
+  clock = listOf 8 (λ p. number s (place + 8 + p * w) w);
+  labels = take 8 (drop (place + 8 + 8 * w) s);
 }
 
 -- Pending event number i.
-unfoldable pub pendingAt : ℕ → List ℕ → ℕ → Event
+unfoldable pub pendingAt : (w : ℕ) (s : List ℕ) (i : ℕ) → Event
 pendingAt w s i = eventFrom w s (pendingPlace w i)
 
-unfoldable pub pendingEvents : ℕ → List ℕ → List Event
+unfoldable pub pendingEvents : (w : ℕ) (s : List ℕ) → List Event
 pendingEvents w s = listOf (pendingCount s) (pendingAt w s)
 
 -- ---- By the fields
 
 -- The event is ready, by the record's bytes.
-unfoldable pub readyIn : ℕ → List ℕ → Event → Bool
+unfoldable pub readyIn : (w : ℕ) (s : List ℕ) (e : Event) → Bool
 readyIn w s e = ready 8 e (at (takenCounts w s))
 
 -- ---- Setting
 
 -- The bytes of a pending event.
-unfoldable pub eventBytes : ℕ → Event → List ℕ
+unfoldable pub eventBytes : (w : ℕ) (e : Event) → List ℕ
 eventBytes w e = e .mask ∷ replicate 7 0 ++ countBytes w (e .clock) ++ e .labels
 
 -- The bytes of events, one behind the other.
-unfoldable pub eventsBytes : ℕ → List Event → List ℕ
+unfoldable pub eventsBytes : (w : ℕ) (es : List Event) → List ℕ
 eventsBytes w [] = []
 eventsBytes w (e ∷ es) = eventBytes w e ++ eventsBytes w es
 
 -- Event e laid down as number i of the pending events, those from i on moved up by one.
-unfoldable pub inserted : ℕ → List ℕ → ℕ → Event → List ℕ
+unfoldable pub inserted : (w : ℕ) (s : List ℕ) (i : ℕ) (e : Event) → List ℕ
 inserted w s i e =
     let moved = take ((pendingCount s - i) * eventLength w) (drop (pendingPlace w i) s) in
     set (sets s (pendingPlace w i) (eventBytes w e ++ moved)) 2 (pendingCount s + 1)
 
 -- Pending event number i gone, those behind it moved down by one, the freed place 0.
-unfoldable pub removed : ℕ → List ℕ → ℕ → List ℕ
+unfoldable pub removed : (w : ℕ) (s : List ℕ) (i : ℕ) → List ℕ
 removed w s i =
     let moved = take ((pendingCount s - (i + 1)) * eventLength w) (drop (pendingPlace w (i + 1)) s) in
     set (sets s (pendingPlace w i) (moved ++ replicate (eventLength w) 0)) 2 (pendingCount s - 1)
 
 -- The clock of an event as the last one of each of its processes among the first n.
-unfoldable pub clocksSet : ℕ → ℕ → List ℕ → Event → List ℕ
+unfoldable pub clocksSet : (w n : ℕ) (s : List ℕ) (e : Event) → List ℕ
 clocksSet w zero s e = s
 clocksSet w (suc p) s e = cond (involved e p) (sets (clocksSet w p s e) (clocksPlace w + p * (8 * w)) (countBytes w (e .clock))) (clocksSet w p s e)
 
 -- The closed processes, and the number of frontiers kept.
-unfoldable pub closedSet : List ℕ → ℕ → ℕ → List ℕ
+unfoldable pub closedSet : (s : List ℕ) (closed kept : ℕ) → List ℕ
 closedSet s closed kept = put (set s 3 closed) 4 4 kept
 
 -- The taken counts with the event, its clock as its processes' last, and the number of frontiers kept.
-unfoldable pub counted : ℕ → List ℕ → Event → ℕ → List ℕ
+unfoldable pub counted : (w : ℕ) (s : List ℕ) (e : Event) (kept : ℕ) → List ℕ
 counted w s e kept = clocksSet w 8 (sets (put s 4 4 kept) takenPlace (countBytes w (listOf 8 (apply e (at (takenCounts w s)))))) e

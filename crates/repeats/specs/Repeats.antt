@@ -6,5 +6,5 @@ use Rattle.clocks.specs.Bounded.{anyOf}
 use Rattle.clocks.specs.SameEvent.{sameEvent}
 
 -- The event is the same as one of these.
-unfoldable pub repeated : Event → List Event → Bool
+unfoldable pub repeated : (e : Event) (fs : List Event) → Bool
 repeated e fs = anyOf (sameEvent e) fs

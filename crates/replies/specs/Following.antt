@@ -5,19 +5,19 @@ use lib.Dec.{eqb, leb}
 use Rattle.answers.specs.Answer.{Answer, turnedBack, state, nothingReady, held, again, found, absent, processClosed}
 
 -- A refusal.
-unfoldable pub refused : Answer → Bool
-refused (turnedBack n place) = true
-refused (state counts truth kept) = false
-refused nothingReady = false
-refused (held n) = false
-refused again = false
-refused (found i) = false
-refused absent = false
-refused (processClosed n) = false
+unfoldable pub isRefused : (a : Answer) → Bool
+isRefused (turnedBack n place) = true
+isRefused (state counts truth kept) = false
+isRefused nothingReady = false
+isRefused (held n) = false
+isRefused again = false
+isRefused (found i) = false
+isRefused absent = false
+isRefused (processClosed n) = false
 
 -- After an accepted offer the program takes until nothing is ready or 36: a take is followed by another exactly if an
 -- event was taken or left with 35.
-unfoldable pub takesAgain : Answer → Bool
+unfoldable pub takesAgain : (a : Answer) → Bool
 takesAgain (turnedBack n place) = eqb n 35
 takesAgain (state counts truth kept) = true
 takesAgain nothingReady = false
@@ -28,15 +28,15 @@ takesAgain absent = false
 takesAgain (processClosed n) = false
 
 -- An event is offered and accepted: takes follow. After "again" none does (02 [1]).
-unfoldable pub accepted : Answer → Bool
-accepted (turnedBack n place) = false
-accepted (state counts truth kept) = false
-accepted nothingReady = false
-accepted (held n) = true
-accepted again = false
-accepted (found i) = false
-accepted absent = false
-accepted (processClosed n) = false
+unfoldable pub isAccepted : (a : Answer) → Bool
+isAccepted (turnedBack n place) = false
+isAccepted (state counts truth kept) = false
+isAccepted nothingReady = false
+isAccepted (held n) = true
+isAccepted again = false
+isAccepted (found i) = false
+isAccepted absent = false
+isAccepted (processClosed n) = false
 
 -- The stages: the line that comes next is the watch line (0), the rule's (1), the start labels' (2) or an event's (3);
 -- or the program is over (4).
@@ -57,5 +57,5 @@ overStage = 4
 
 -- The stage after a line: once the watch is open it stays with events, refused or not; before, a refusal ends the
 -- program.
-unfoldable pub nextStage : ℕ → Bool → ℕ
+unfoldable pub nextStage : (stage : ℕ) (refusal : Bool) → ℕ
 nextStage stage refusal = cond (leb eventStage stage) stage (cond refusal overStage (stage + 1))

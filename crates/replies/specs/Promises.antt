@@ -8,10 +8,10 @@ use Rattle.replies.specs.declared.Reply.{Reply}
 use Rattle.replies.specs.Replies.{partsOf, Fits, Possible}
 
 -- decode: the parts of a reply word.
-abbrev pub PartsPromised : ℕ → Reply → Type 0
+abbrev pub PartsPromised : (word : ℕ) (reply : Reply) → Type 0
 PartsPromised word reply = (a : Answer) → Fits a → word ≡ replyWord a → reply ≡ partsOf a
 
 -- takes and takes_again: whether a take follows.
-abbrev pub FollowPromised : (Answer → Bool) → Bool → Reply → Bool → Type 0
+abbrev pub FollowPromised : (follows : Answer → Bool) (offered : Bool) (reply : Reply) (b : Bool) → Type 0
 FollowPromised follows offered reply again =
     (counts : List ℕ) (a : Answer) → Possible offered counts a → reply ≡ partsOf a → again ≡ follows a

@@ -11,6 +11,6 @@ use Rattle.reply_text.specs.Form.{programWidth}
 use Rattle.reply_text.specs.Texts.{answerText}
 
 -- answer_text: the text, with k processes, of a reply that left this record.
-abbrev pub TextPromised : ℕ → Bool → List ℕ → Reply → List ℕ → Type 0
+abbrev pub TextPromised : (k : ℕ) (offered : Bool) (bytes : List ℕ) (reply : Reply) (text : List ℕ) → Type 0
 TextPromised k offered bytes reply text =
     (a : Answer) → Possible offered (takenCounts programWidth bytes) a → reply ≡ partsOf a → text ≡ answerText k a

@@ -21,18 +21,18 @@ use Rattle.rules.specs.reading.PlaceLaws.{length-textOf}
 use Rattle.rules.specs.lines.LineLaws.{length-linesAt, lineCount-pos}
 use Rattle.rules.specs.RuleTable.{tableOf}
 use Rattle.rules.specs.lines.RuleTableLaws.{take-laid}
-use Rattle.rules.specs.Reader.{wordAt, Reading, andThen, closeAt, innerWith, unaryWith, binaryWith, bodyWith, formAt, formed, refused}
+use Rattle.rules.specs.Reader.{wordAt, Reading, andThen, closeAt, innerWith, unaryWith, binaryWith, bodyWith, formAt, formed, faulty}
 
 -- A form's first byte and its word
 
-pub formAt-other : (a : ℕ) (s : List ℕ) (k closed i : ℕ) → (byteAt s i ≡ 40 → ⊥) → formAt a s k closed i ≡ refused 1 i
+pub formAt-other : (a : ℕ) (s : List ℕ) (k closed i : ℕ) → (byteAt s i ≡ 40 → ⊥) → formAt a s k closed i ≡ faulty 1 i
 unfolding formAt
-formAt-other zero s k closed i e = expect-other s i 40 e (refused 2 i)
+formAt-other zero s k closed i e = expect-other s i 40 e (faulty 2 i)
 formAt-other (suc a) s k closed i e = expect-other s i 40 e (bodyWith (formAt a s k) s k closed (wordAt s (i + 1)))
 
-pub formAt-deep : (a : ℕ) (s : List ℕ) (k closed i : ℕ) → byteAt s i ≡ 40 → a ≡ 0 → formAt a s k closed i ≡ refused 2 i
+pub formAt-deep : (a : ℕ) (s : List ℕ) (k closed i : ℕ) → byteAt s i ≡ 40 → a ≡ 0 → formAt a s k closed i ≡ faulty 2 i
 unfolding formAt
-formAt-deep zero s k closed i e z = expect-met s i 40 e (refused 2 i)
+formAt-deep zero s k closed i e z = expect-met s i 40 e (faulty 2 i)
 formAt-deep (suc a) s k closed i e z = absurd (omega arith)
 
 -- Behind an opening bracket, with nesting left, stands a word.
@@ -52,7 +52,7 @@ formAt-word (suc a) s k closed i word o =
 -- By what the forms inside gave
 
 module _ (reader : ℕ → ℕ → Reading) (s : List ℕ) where
-  pub unary-fault : (w : Unary) (closed i n j : ℕ) → innerWith reader s closed i ≡ refused n j → unaryWith reader s w closed i ≡ refused n j
+  pub unary-fault : (w : Unary) (closed i n j : ℕ) → innerWith reader s closed i ≡ faulty n j → unaryWith reader s w closed i ≡ faulty n j
   unfolding unaryWith andThen
   unary-fault w closed i n j e = rw e
 
@@ -61,12 +61,12 @@ module _ (reader : ℕ → ℕ → Reading) (s : List ℕ) where
   unfolding unaryWith andThen
   unary-form w closed i j f e = rw e
 
-  pub binary-fault : (w : Binary) (closed i n j : ℕ) → innerWith reader s closed i ≡ refused n j → binaryWith reader s w closed i ≡ refused n j
+  pub binary-fault : (w : Binary) (closed i n j : ℕ) → innerWith reader s closed i ≡ faulty n j → binaryWith reader s w closed i ≡ faulty n j
   unfolding binaryWith andThen
   binary-fault w closed i n j e = rw e
 
   pub binary-second-fault : (w : Binary) (closed i j : ℕ) (f : Formula) (n m c : ℕ) → innerWith reader s closed i ≡ formed j f → c ≡ closed + lineCount f
-      → innerWith reader s c j ≡ refused n m → binaryWith reader s w closed i ≡ refused n m
+      → innerWith reader s c j ≡ faulty n m → binaryWith reader s w closed i ≡ faulty n m
   unfolding binaryWith andThen
   binary-second-fault w closed i j f n m c e q d = rw (e, ← q, d)
 
@@ -103,7 +103,7 @@ form-done laid closed old new reading r j l c d e =
     }
 
 pub fault-done : (laid closed : ℕ) (old new : List ℕ) (reading : Reading) (r : Read) (n j : ℕ) → Done laid closed old new reading r → r ≡ Refused n j
-    → reading ≡ refused n j
+    → reading ≡ faulty n j
 fault-done laid closed old new reading r n j d e = readOf-refused laid closed reading n j (sym (d .answer) ∙ e)
 
 -- A form read at a text's first byte: which, and the front of the table with its lines.

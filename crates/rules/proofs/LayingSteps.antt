@@ -19,7 +19,7 @@ use Rattle.pactl.specs.Table.{tableBytes}
 use Rattle.rules.specs.Text.{byteAt}
 use Rattle.rules.specs.Laying.{lay, Laid, hasTrue, closeRead, LaidDown, Done}
 use Rattle.rules.specs.Formula.{Formula}
-use Rattle.rules.specs.Reader.{expect, closeAt, formed, refused}
+use Rattle.rules.specs.Reader.{expect, closeAt, formed, faulty}
 use Rattle.rules.specs.ReaderCode.{readOf}
 
 pub length-lay : (bytes : List ℕ) (n : ℕ) (ls : List Line) → length (lay bytes n ls) ≡ length bytes
@@ -67,7 +67,7 @@ linesBefore-cond Ah n = refl
 
 -- Faults
 
-pub done-refused : (laid closed : ℕ) (old new : List ℕ) (n i : ℕ) → Done laid closed old new (refused n i) (Refused n i)
+pub done-refused : (laid closed : ℕ) (old new : List ℕ) (n i : ℕ) → Done laid closed old new (faulty n i) (Refused n i)
 unfolding readOf LaidDown
 done-refused laid closed old new n i = record { answer = refl; table = tt }
 
@@ -78,7 +78,7 @@ pub readOf-close : (laid closed : ℕ) (s : List ℕ) (i : ℕ) (f : Formula)
 unfolding closeAt closeRead expect readOf
 readOf-close laid closed s i f = go (eqb (byteAt s i) 41) (leb (closed + lineCount f) 64)
   where
-    go : (x y : Bool) → readOf laid closed (cond x (cond y (formed (i + 1) f) (refused 3 i)) (refused 1 i))
+    go : (x y : Bool) → readOf laid closed (cond x (cond y (formed (i + 1) f) (faulty 3 i)) (faulty 1 i))
         ≡ cond x (cond y (Form (i + 1) (laid + lineCount f) (closed + lineCount f)) (Refused 3 i)) (Refused 1 i)
     go true true = unfold readOf in refl
     go true false = unfold readOf in refl
@@ -89,7 +89,7 @@ laid-close : (n : ℕ) (old new : List ℕ) (s : List ℕ) (closed i : ℕ) (f :
 unfolding closeAt expect
 laid-close n old new s closed i f h = go (eqb (byteAt s i) 41) (leb (closed + lineCount f) 64)
   where
-    go : (x y : Bool) → LaidDown n old new (cond x (cond y (formed (i + 1) f) (refused 3 i)) (refused 1 i))
+    go : (x y : Bool) → LaidDown n old new (cond x (cond y (formed (i + 1) f) (faulty 3 i)) (faulty 1 i))
     go true true = unfold LaidDown in h
     go true false = unfold LaidDown in tt
     go false y = unfold LaidDown in tt

@@ -16,7 +16,7 @@ use Rattle.rules.specs.declared.DigitRead.the-variants.{Digit, NoDigit}
 use Rattle.rules.specs.Line.{linesAt}
 use Rattle.pactl.specs.Table.{tableBytes}
 use Rattle.rules.specs.Text.{byteAt}
-use Rattle.rules.specs.Reader.{Reading, formed, refused}
+use Rattle.rules.specs.Reader.{Reading, formed, faulty}
 use Rattle.rules.specs.ReaderCode.{readOf}
 
 -- A table's bytes with lines laid down from line n on.
@@ -54,7 +54,7 @@ closeRead s i laid closed = cond (eqb (byteAt s i) 41) (cond (leb closed 64) (Fo
 -- The table after a reading: a form's lines are laid down from line n on. After a fault it may hold anything.
 unfoldable pub LaidDown : ℕ → List ℕ → List ℕ → Reading → Type 0
 LaidDown n old new (formed i f) = new ≡ lay old n (linesAt n f)
-LaidDown n old new (refused m i) = Unit {0}
+LaidDown n old new (faulty m i) = Unit {0}
 
 -- The code's answer r, and the table that it leaves, are what a reading says.
 pub record Done (laid closed : ℕ) (old new : List ℕ) (reading : Reading) (r : Read) : Type 0 where

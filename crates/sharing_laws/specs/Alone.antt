@@ -16,5 +16,5 @@ pub record Alone (e : Event) : Type 0 where
   pub knows-none : (q : ℕ) → q ≢ process → count e q ≡ 0
 
 -- Each of the events is one.
-abbrev pub AllAlone : List Event → Type 0
+abbrev pub AllAlone : (es : List Event) → Type 0
 AllAlone es = (e : Event) → In e es → Alone e

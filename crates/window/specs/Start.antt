@@ -7,7 +7,7 @@ use Rattle.pactl.specs.declared.Line.{Line}
 use Rattle.pactl.specs.Judge.{judge}
 use Rattle.frontiers.specs.declared.Frontier.{Frontier}
 
-unfoldable pub startFrontier : ℕ → List ℕ → List Line → Frontier
+unfoldable pub startFrontier : (stored : ℕ) (labels : List ℕ) (table : List Line) → Frontier
 startFrontier stored labels table = record {
   counts = replicate stored 0;
   labels = labels;

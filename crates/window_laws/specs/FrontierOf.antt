@@ -25,16 +25,16 @@ pub record World : Type 0 where
   pub table : List Line
 
 -- The model in which the rule is judged after a history.
-abbrev pub modelOf : World → List Event → Model
+abbrev pub modelOf : (W : World) (ts : List Event) → Model
 modelOf W ts = record { processes = W .processes; start = W .start; history = ts }
 
 -- The word whose bit i is a test at i, for the first n; the rest 0 (01: values).
-unfoldable pub wordOf : ℕ → (ℕ → Bool) → ℕ
+unfoldable pub wordOf : (n : ℕ) (t : ℕ → Bool) → ℕ
 wordOf zero t = 0
 wordOf (suc i) t = withBit (wordOf i t) i (t i)
 
 -- The frontier of a cut.
-unfoldable pub frontierOf : World → List Event → Cut → Frontier
+unfoldable pub frontierOf : (W : World) (ts : List Event) (S : Cut) → Frontier
 frontierOf W ts S = record {
   counts = listOf (W .stored) S;
   labels = listOf (W .stored) (λ p. labelOf (W .start) ts p (S p));
@@ -43,10 +43,10 @@ frontierOf W ts S = record {
 }
 
 -- Elements in strictly ascending order of their keys, so each once.
-abbrev pub SortedBy : {A : Type 0} → (A → List ℕ) → List A → Type 0
+abbrev pub SortedBy : {A : Type 0} → (key : A → List ℕ) (xs : List A) → Type 0
 SortedBy key [] = Unit {0}
 SortedBy {A} key (x ∷ xs) = ((y : A) → List·Memᴰ y xs → T (before (key x) (key y))) × SortedBy key xs
 
 -- Cuts in ascending order of their first n counts, process 0 compared first.
-abbrev pub Sorted : ℕ → List Cut → Type 0
+abbrev pub Sorted : (n : ℕ) (cuts : List Cut) → Type 0
 Sorted n cuts = SortedBy (listOf n) cuts

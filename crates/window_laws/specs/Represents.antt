@@ -16,11 +16,11 @@ use Rattle.window.specs.Step.{Setting}
 use Rattle.window_laws.specs.FrontierOf.{World, frontierOf, Sorted}
 
 -- The processes that are open.
-abbrev pub openIn : World → ℕ → Bool
+abbrev pub openIn : (W : World) (p : ℕ) → Bool
 openIn W p = not (bit (W .closed) p)
 
 -- A kept cut after a history.
-abbrev pub KeptIn : World → List Event → Cut → Type 0
+abbrev pub KeptIn : (W : World) (ts : List Event) (S : Cut) → Type 0
 KeptIn W ts S = KeptCut (W .processes) (openIn W) ts S
 
 -- The frontiers are those of the kept cuts.
@@ -32,7 +32,7 @@ pub record Represents (W : World) (ts : List Event) (fs : List Frontier) : Type 
   pub complete : (S : Cut) → KeptIn W ts S → List·Memᴰ S cuts
 
 -- The setting of a step for an event after a history.
-abbrev pub settingOf : World → List Event → Event → Setting
+abbrev pub settingOf : (W : World) (ts : List Event) (e : Event) → Setting
 settingOf W ts e = record {
   stored = W .stored;
   processes = W .processes;

@@ -15,7 +15,7 @@ use Rattle.refusals.specs.RefusalLaws.{processes-within}
 use Rattle.answers.specs.Result.{resultWord}
 use Rattle.call_busiest.specs.Sharing.{shares, total, sharingKeeps}
 use Rattle.call_busiest.specs.SharingLaws.{total-shares}
-use Rattle.call_busiest.specs.Busiest.{Listed, unwritten, written, busiestCall}
+use Rattle.call_busiest.specs.Busiest.{Listed, dayTurnedBack, dayWritten, busiestCall}
 use Rattle.call_busiest.specs.BusiestLaws.{processes-turned, events-turned, busy-turned, length-turned, all-written}
 use Rattle.call_busiest.proofs.busiest.Statement.{statement}
 
@@ -52,14 +52,14 @@ unfolding resultWord
 returns c =
     let a = c .before .before .before .args in
     let bad = sym (c .before .bad-processes .ensures) ∙ c .if1 .taken in
-    told (a .w) (a .k) (a .n) (now (a .events)) 45 (now (a .events)) (unwritten (now (a .events)) 45)
+    told (a .w) (a .k) (a .n) (now (a .events)) 45 (now (a .events)) (dayTurnedBack (now (a .events)) 45)
     (processes-turned (a .w) (a .k) (a .n) (now (a .events)) bad) refl refl
 
 returns-2 : tie.Need-returns-2
 unfolding resultWord
 returns-2 c =
     let a = c .before .before .before .before .args in
-    told (a .w) (a .k) (a .n) (now (a .events)) 45 (now (a .events)) (unwritten (now (a .events)) 45)
+    told (a .w) (a .k) (a .n) (now (a .events)) 45 (now (a .events)) (dayTurnedBack (now (a .events)) 45)
     (events-turned (a .w) (a .k) (a .n) (now (a .events)) (good (c .before)) (omega (arith, c .if2 .taken))) refl refl
 
 div-each : tie.Need-div-each
@@ -78,7 +78,7 @@ unfolding resultWord
 returns-3 c =
     let e = c .before .before in
     let a = e .before .before .before .before .args in
-    told (a .w) (a .k) (a .n) (now (a .events)) 46 (now (a .events)) (unwritten (now (a .events)) 46)
+    told (a .w) (a .k) (a .n) (now (a .events)) 46 (now (a .events)) (dayTurnedBack (now (a .events)) 46)
     (busy-turned (a .w) (a .k) (a .n) (now (a .events)) (good (e .before)) (few e)
     (omega (arith, c .before .kept-by .ensures, c .if3 .taken))) refl refl
 
@@ -102,7 +102,7 @@ returns-4 c =
     let a = e .before .before .before .before .args in
     let other : length (now (a .events)) ≡ a .n * eventLength (a .w) → ⊥ =
     λ q. c .if4 .taken (q ∙ ap (λ (l : ℕ). a .n * l) (sym (c .before .event-length .ensures .0))) in
-    told (a .w) (a .k) (a .n) (now (a .events)) 6 (now (a .events)) (unwritten (now (a .events)) 6)
+    told (a .w) (a .k) (a .n) (now (a .events)) 6 (now (a .events)) (dayTurnedBack (now (a .events)) 6)
     (length-turned (a .w) (a .k) (a .n) (now (a .events)) (good (e .before)) (few e) (room f) other) refl refl
 
 -- The list is one of n events.
@@ -146,7 +146,7 @@ returns-5 c =
     let g = f .before in
     let kept : g .kept-by .result ≡ sharingKeeps (shares (a .k) (a .n)) = omega (arith, g .kept-by .ensures, room f) in
     told (a .w) (a .k) (a .n) (now (a .events)) (65536 * g .kept-by .result) (c .before .before .put-day .last .0)
-    (written (a .w) (a .k) (a .n))
+    (dayWritten (a .w) (a .k) (a .n))
     (all-written (a .w) (a .k) (a .n) (now (a .events)) (good (e .before)) (few e) (room f) (long d))
     (ap (λ (m : ℕ). 65536 * m) kept) (c .before .before .put-day .ensures)
 

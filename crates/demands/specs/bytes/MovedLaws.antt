@@ -16,7 +16,7 @@ use Rattle.frontiers.specs.Shaped.{Shaped, AllShaped}
 use Rattle.codec.specs.Little.{bytesOf, Bytes}
 use Rattle.frontiers.specs.BytesLaws.{length-countBytes, countBytes-append, countBytes-zeros}
 use Rattle.records.specs.Record.{eventLength, eventBytes, eventsBytes}
-use Rattle.call_move.specs.Parts.{Part, plain, counts, lengthOf, partLength, repeated, eventParts, recordParts, frontierParts, windowParts}
+use Rattle.call_move.specs.Parts.{Part, plain, counts, lengthOf, partLength, manyOf, eventParts, recordParts, frontierParts, windowParts}
 use Rattle.call_move.specs.PartLaws.{lengthOf-repeated, length-eventParts, length-windowParts}
 use Rattle.call_move.specs.CountLaws.{counts-read}
 use Rattle.call_move.specs.Move.{moved}
@@ -75,18 +75,18 @@ module _ (v w : ℕ) where
       apart a b c d = simp append-assoc
 
   pending-moved : (es : List Event) → AllStorable v es → (m : ℕ)
-      → moved v w (repeated (length es + m) eventParts) (eventsBytes v es ++ zeros (m * eventLength v))
+      → moved v w (manyOf (length es + m) eventParts) (eventsBytes v es ++ zeros (m * eventLength v))
       ≡ eventsBytes w es ++ zeros (m * eventLength w)
-  unfolding eventsBytes repeated
+  unfolding eventsBytes manyOf
   pending-moved [] h m =
-      rw (zero-add, ← length-events v, ← length-events w) (zeros-moved v w (repeated m eventParts))
+      rw (zero-add, ← length-events v, ← length-events w) (zeros-moved v w (manyOf m eventParts))
     where
-      length-events : (u : ℕ) → lengthOf u (repeated m eventParts) ≡ m * eventLength u
+      length-events : (u : ℕ) → lengthOf u (manyOf m eventParts) ≡ m * eventLength u
       length-events u =
           lengthOf-repeated u m eventParts ∙ ap (λ (n : ℕ). m * n) (length-eventParts u)
   pending-moved (e ∷ es) h m =
       rw (suc-add, append-assoc, append-assoc)
-      (event-moved e (h e (List·Memᴰ·head refl)) (repeated (length es + m) eventParts)
+      (event-moved e (h e (List·Memᴰ·head refl)) (manyOf (length es + m) eventParts)
       (eventsBytes v es ++ zeros (m * eventLength v))
       ∙ ap (λ (l : List ℕ). eventBytes w e ++ l) (pending-moved es (λ d i. h d (List·Memᴰ·tail i)) m))
 
@@ -133,7 +133,7 @@ module _ (v w : ℕ) (t : Status) (z : Sized v t) where
   pub record-moved : moved v w recordParts (recordBytes v t) ≡ recordBytes w t
   record-moved =
       let many : 32 ≡ length (t .pending) + (32 - length (t .pending)) = omega (arith, z .few) in
-      let events = repeated 32 eventParts in
+      let events = manyOf 32 eventParts in
       rw (counts-split v t, counts-split w t)
       (plain-moved v w (counts 8 ∷ counts 64 ∷ plain 192 ∷ events) (afterHead v t) 8 (headOf t) (length-headOf t)
       ∙ ap (λ (l : List ℕ). headOf t ++ l)
@@ -147,7 +147,7 @@ module _ (v w : ℕ) (t : Status) (z : Sized v t) where
       (plain-moved v w events (pendingBlock v (t .pending)) 192 (tableBlock (t .table))
       (length-tableBlock (t .table) (z .short))
       ∙ ap (λ (l : List ℕ). tableBlock (t .table) ++ l)
-      (ap (λ (n : ℕ). moved v w (repeated n eventParts) (pendingBlock v (t .pending))) many
+      (ap (λ (n : ℕ). moved v w (manyOf n eventParts) (pendingBlock v (t .pending))) many
       ∙ pending-moved v w (t .pending) (z .storable) (32 - length (t .pending))))))))
 
 -- ---- A window
@@ -172,7 +172,7 @@ module _ (v w : ℕ) where
   framed-moved : (fs : List Frontier) → AllShaped v fs → (m : ℕ)
       → moved v w (windowParts (length fs + m)) (framed v fs ++ zeros (m * frontierLength v))
       ≡ framed w fs ++ zeros (m * frontierLength w)
-  unfolding framed repeated
+  unfolding framed manyOf
   framed-moved [] h m =
       rw (zero-add, ← length-windowParts v m, ← length-windowParts w m) (zeros-moved v w (windowParts m))
   framed-moved (f ∷ fs) h m =

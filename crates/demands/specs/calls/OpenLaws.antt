@@ -14,7 +14,7 @@ use Rattle.pactl.specs.declared.Line.{Line}
 use Rattle.rules.specs.Line.{linesAt, lineCount}
 use Rattle.pactl.specs.Table.{tableBytes, goodLine, goodFrom, goodTable}
 use Rattle.rules.specs.Formula.{Formula}
-use Rattle.rules.specs.Reader.{Reading, readRule, refused, formed}
+use Rattle.rules.specs.Reader.{Reading, readRule, faulty, formed}
 use Rattle.clocks.specs.cuts.EventLaws.{true-T}
 use Rattle.clocks.specs.Counts.{at}
 use Rattle.clocks.specs.stored.BoundedLaws.{or-e, or-false-e, and-true}
@@ -24,7 +24,7 @@ use Rattle.window_laws.specs.StartTheorem.{start-represents}
 use Rattle.window_laws.specs.Represents.{Represents, Proper}
 use Rattle.window.specs.Start.{startFrontier}
 use Rattle.frontiers.specs.Bytes.{frontierLength, windowBytes}
-use Rattle.rules.specs.Text.{Within}
+use Rattle.rules.specs.Text.{WithinLimits}
 use Rattle.rules.specs.reading.ReaderAccepts.{reader-accepts}
 use Rattle.rules.specs.lines.LineLaws.{length-linesAt, lineCount-pos, good-linesAt}
 use Rattle.clocks.specs.History.{taken, lastClock, event, clockOf}
@@ -63,7 +63,7 @@ open-case w text k labels s window =
     go true h6 b h5 c h9 r h = turned-back 6 0 (rw h6)
     go false h6 true h5 c h9 r h = turned-back 5 0 (rw (h6, h5))
     go false h6 false h5 true h9 r h = turned-back 9 0 (rw (h6, h5, h9))
-    go false h6 false h5 false h9 (refused n i) h = turned-back n i (rw (h6, h5, h9, h))
+    go false h6 false h5 false h9 (faulty n i) h = turned-back n i (rw (h6, h5, h9, h))
     go false h6 false h5 false h9 (formed i f) h =
         opens f i (or-false-e (badRecordLength w (length s)) (badWindowLength w (length window)) h6 .1) h5 h9 h
         (rw (h6, h5, h9, h))
@@ -117,7 +117,7 @@ module _ (w : ℕ) (text : List ℕ) (k : ℕ) (labels window : List ℕ) (some-
   abbrev table : List Line
   table = linesAt 0 f
 
-  within : Within k f
+  within : WithinLimits k f
   within = reader-accepts text k i f .0 h .3
 
   processes : (0 < k) × (k ≤ 8)

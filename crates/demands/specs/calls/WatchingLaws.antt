@@ -18,7 +18,7 @@ use Rattle.window_laws.specs.KnownCuts.{known-among}
 use Rattle.clocks.specs.History.{taken, lastClock}
 use Rattle.clocks.specs.Event.{Cut, Ready, apply, involved}
 use Rattle.clocks.specs.validity.ClockRule.{taken-silent}
-use Rattle.clocks.specs.Counts.{at, listOf, rows}
+use Rattle.clocks.specs.Counts.{at, listOf, clockRows}
 use Rattle.clocks.specs.stored.CountsLaws.{getD-listOf, at-listOf, at-listOf-all}
 use Rattle.clocks.specs.Valid.{History, WellFormed}
 use Rattle.clocks.specs.Joined.{joinedBy}
@@ -92,9 +92,9 @@ module _ (w k : ℕ) (table : List Line) (start : Cut) (R : Rule w k table start
   says-taken = ap (λ (s : List ℕ). at (takenCounts w s)) (X .bytes-are) ∙ ap at (takenCounts-recordBytes w status z)
       ∙ at-listOf-all 8 (taken ts) (λ p l. taken-silent k Valid ts history p (omega (arith, R .eight-processes)))
 
-  pub says-clocks : (p q : ℕ) → p < 8 → q < 8 → rows (lastClocks w bytes) p q ≡ lastClock ts p q
+  pub says-clocks : (p q : ℕ) → p < 8 → q < 8 → clockRows (lastClocks w bytes) p q ≡ lastClock ts p q
   says-clocks p q l j =
-      ap (λ (cs : List (List ℕ)). rows cs p q) (ap (lastClocks w) (X .bytes-are) ∙ lastClocks-recordBytes w status z)
+      ap (λ (cs : List (List ℕ)). clockRows cs p q) (ap (lastClocks w) (X .bytes-are) ∙ lastClocks-recordBytes w status z)
       ∙ ap (λ (c : List ℕ). at c q) (getD-listOf 8 (λ x. listOf 8 (lastClock ts x)) p [] l)
       ∙ at-listOf 8 (lastClock ts p) q j
 
@@ -140,9 +140,9 @@ module _ (w k : ℕ) (table : List Line) (start : Cut) (R : Rule w k table start
   valid-in e f o r = known-among world Valid ts P (X .kept) (X .represents) e f r (λ p b. rw (o p b) tt)
 
   -- ... and so is the test by the join of last clocks, which took its place before
-  pub joined-in : (e : Event) → WellFormed k e → T (joinedBy 8 e (rows (lastClocks w bytes))) ↔ Joined 8 ts e
+  pub joined-in : (e : Event) → WellFormed k e → T (joinedBy 8 e (clockRows (lastClocks w bytes))) ↔ Joined 8 ts e
   joined-in e f =
-      rw (joined-same 8 e (rows (lastClocks w bytes)) (lastClock ts) says-clocks)
+      rw (joined-same 8 e (clockRows (lastClocks w bytes)) (lastClock ts) says-clocks)
       (joined-test k 8 Valid ts (R .eight-processes) history e f)
 
   pub setting-in : (e : Event) → settingIn w bytes e ≡ settingOf world ts e

@@ -13,7 +13,7 @@ use Rattle.rules.specs.Line.{linesAt}
 use Rattle.rules.specs.Formula.{Formula}
 use Rattle.rules.specs.reading.ReaderAccepts.{reader-accepts}
 use Rattle.refusals.specs.Refusals.{roomOf, badState, badWindowLength}
-use Rattle.call_move.specs.Move.{badLengths, overflows, moveCall}
+use Rattle.call_move.specs.Move.{badMoveLengths, overflows, moveCall}
 use Rattle.call_move.specs.MoveCases.{passes, number-6, number-43, number-0}
 use Rattle.call_move.specs.LengthLaws.{right-lengths}
 use Rattle.demands.specs.Run.{Call, Watch, after, run}
@@ -96,10 +96,10 @@ module _ (v w k : ℕ) (f : Formula) (start : Cut) (Z : Watch) (S : Sound v k f 
 
   the-case : Case
   the-case =
-      go (badLengths v w (length (Z .bytes)) (length (Z .window)) (length t) (length target)) refl
+      go (badMoveLengths v w (length (Z .bytes)) (length (Z .window)) (length t) (length target)) refl
       (overflows v w (Z .bytes) (Z .window)) refl
     where
-      go : (a : Bool) → badLengths v w (length (Z .bytes)) (length (Z .window)) (length t) (length target) ≡ a
+      go : (a : Bool) → badMoveLengths v w (length (Z .bytes)) (length (Z .window)) (length t) (length target) ≡ a
           → (b : Bool) → overflows v w (Z .bytes) (Z .window) ≡ b → Case
       go true h b i = short (λ r. true≢false (sym h ∙ r)) (number-6 v w (Z .bytes) (Z .window) t target h)
       go false h true i =

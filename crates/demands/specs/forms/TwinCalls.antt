@@ -29,7 +29,7 @@ use Rattle.demands.specs.EveryList.{lentWindow}
 use Rattle.demands.specs.calls.OfferByLedger.{offerAnswer, offer-by-ledger, offered-alike}
 use Rattle.demands.specs.calls.WatchingLaws.{says-lines, says-pending, says-frontiers}
 use Rattle.demands.specs.calls.WindowRooms.{bad-length, lent-more, length-taken, length-closed}
-use Rattle.demands.specs.statements.Close.{nextClose, RightWindow, Named, CloseExact}
+use Rattle.demands.specs.statements.Close.{nextClose, RightWindow, NamesProcess, CloseExact}
 use Rattle.demands.specs.statements.BothForms.{SameCall}
 use Rattle.demands.specs.lists.SoundRun.{Sound, after-sound}
 use Rattle.demands.specs.lists.Find.{searched, find-exact-of}
@@ -146,12 +146,12 @@ module _ (v w k : ℕ) (f : Formula) (start : Cut) (Y Z : Watch) (t : Twins v w 
       judged h i (inr (inl q)) =
           q
           ∙ sym (d .named i p .1
-          (subst (λ (L : Ledger). (p < k) × Open (L .closed) p × Named p L) (t .same-ledger) (c .named h p .0 q)))
+          (subst (λ (L : Ledger). (p < k) × Open (L .closed) p × NamesProcess p L) (t .same-ledger) (c .named h p .0 q)))
       judged h i (inr (inr (n, q))) =
           q
           ∙ sym (d .closes-exactly i p n .1
           (subst (λ (L : Ledger).
-          (p < k) × Open (L .closed) p × (Named p L → ⊥) × KeptNumber k (closing (L .closed) p) (L .history) n)
+          (p < k) × Open (L .closed) p × (NamesProcess p L → ⊥) × KeptNumber k (closing (L .closed) p) (L .history) n)
           (t .same-ledger) (c .closes-exactly h p n .0 q)))
 
       go : (b : Bool) → badWindowLength v (length (Y .window)) ≡ b → nextClose v Y p .answer ≡ nextClose w Z p .answer

@@ -27,21 +27,21 @@ use Rattle.demands.specs.Ledger.{Ledger}
 use Rattle.demands.specs.Run.{Watch, Call, Passed, offers, takes, finds, closes, mislends, offeredLedger, acceptedBy, closedLedger, after}
 use Rattle.demands.specs.Mislent.{Mislent, TurnedAway, answerTo}
 use Rattle.demands.specs.Watching.{Rule, Watching}
-use Rattle.demands.specs.statements.Balance.{number, isHeld, isState, isFalseClock}
+use Rattle.demands.specs.statements.Balance.{howMany, isHeld, isState, isFalseClock}
 use Rattle.call_offer.specs.OfferCases.{OfferCase, offer-case, turned, repeats, accepted}
 use Rattle.demands.specs.calls.TakeLedger.{ledgerAfter}
 use Rattle.demands.specs.calls.AfterCall.{WatchRight, lengthened, badLengths, decision, take-6, take-else}
 
 -- The ledger lists as many events as the answers say.
 pub record Said (L : Ledger) (accepted : List Event) (answers : List Answer) : Type 0 where
-  pub accepted-said : number isHeld answers ≡ length accepted
-  pub taken-said : number isState answers ≡ length (L .history) + 1
-  pub falsified-said : number isFalseClock answers ≡ length (L .falsified)
+  pub accepted-said : howMany isHeld answers ≡ length accepted
+  pub taken-said : howMany isState answers ≡ length (L .history) + 1
+  pub falsified-said : howMany isFalseClock answers ≡ length (L .falsified)
 
 -- an answer of none of the three kinds changes nothing
 plain : (L : Ledger) (es : List Event) (answers : List Answer) → Said L es answers → (a : Answer) → isHeld a ≡ false
     → isState a ≡ false → isFalseClock a ≡ false → Said L es (a ∷ answers)
-unfolding number
+unfolding howMany
 plain L es answers Y a x y z = record {
   accepted-said = rw x (omega (arith, Y .accepted-said));
   taken-said = rw y (omega (arith, Y .taken-said));
@@ -52,7 +52,7 @@ plain L es answers Y a x y z = record {
 offer-said : (w : ℕ) (W : Watch) → Said (W .ledger) (W .accepted) (W .answers) → (mask : ℕ) (clock labels : List ℕ)
     → Said (after w (offers mask clock labels) W .ledger) (after w (offers mask clock labels) W .accepted)
     (after w (offers mask clock labels) W .answers)
-unfolding after offeredLedger acceptedBy number
+unfolding after offeredLedger acceptedBy howMany
 offer-said w W Y mask clock labels = go (offer-case w mask clock labels (W .bytes))
   where
     go : OfferCase w mask clock labels (W .bytes)
@@ -98,7 +98,7 @@ find-said w line s window L es answers Y =
 -- ---- close
 close-said : (w : ℕ) (W : Watch) → Said (W .ledger) (W .accepted) (W .answers) → (p : ℕ)
     → Said (after w (closes p) W .ledger) (after w (closes p) W .accepted) (after w (closes p) W .answers)
-unfolding after closedLedger closeProcess number
+unfolding after closedLedger closeProcess howMany
 close-said w W Y p = go (close-case w p (W .bytes) (W .window))
   where
     go : CloseCase w p (W .bytes) (W .window)
@@ -121,7 +121,7 @@ mislent-said w m (inr q) L es answers Y = rw q (plain L es answers Y (turnedBack
 decided-said : (w : ℕ) (s window : List ℕ) (fs : List Frontier) (L : Ledger) (es : List Event) (answers : List Answer)
     → Said L es answers → (d : Decision)
     → Said (ledgerAfter w s L d) es (decided w s window fs d .answer ∷ answers)
-unfolding decided ledgerAfter stateOf number
+unfolding decided ledgerAfter stateOf howMany
 decided-said w s window fs L es answers Y (undecided true) = record {
   accepted-said = omega (arith, Y .accepted-said);
   taken-said = omega (arith, Y .taken-said);
@@ -188,5 +188,5 @@ module _ (w k : ℕ) (table : List Line) (start : Cut) (R : Rule w k table start
 -- ---- open
 pub open-said : (lines : ℕ) (counts : List ℕ) (fs : List Frontier)
     → Said (record { history = []; pending = []; falsified = []; closed = 0 }) [] (stateOf lines counts fs ∷ [])
-unfolding stateOf number
+unfolding stateOf howMany
 open-said lines counts fs = record { accepted-said = refl; taken-said = refl; falsified-said = refl }

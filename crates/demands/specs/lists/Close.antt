@@ -30,7 +30,7 @@ use Rattle.demands.specs.Ledger.{Ledger}
 use Rattle.demands.specs.Run.{offers, closes, Passed, Watch, closedLedger, after}
 use Rattle.demands.specs.World.{Open, KeptNumber}
 use Rattle.demands.specs.EveryList.{NamesClosed}
-use Rattle.demands.specs.statements.Close.{nextClose, RightWindow, Named, closedWith, CloseExact, CloseIsExact}
+use Rattle.demands.specs.statements.Close.{nextClose, RightWindow, NamesProcess, closedWith, CloseExact, CloseIsExact}
 use Rattle.demands.specs.calls.CloseLaws.{gs, closed-are, closed-represents, still-open, other-open}
 use Rattle.demands.specs.calls.KeptCutsLaws.{number-unique, represented-number}
 use Rattle.demands.specs.calls.OfferLaws.{offered-faultless}
@@ -62,8 +62,8 @@ module _ (w k : ℕ) (f : Formula) (start : Cut) (Z : Watch) (S : Sound w k f st
   -- ---- What it comes to
   data Answered (p : ℕ) : Type 0 where
     barred : answer p ≡ turnedBack 41 0 → (k ≤ p) ⊎ (bit (L .closed) p ≡ true) → Answered p
-    waited-for : answer p ≡ turnedBack 42 0 → p < k → Open (L .closed) p → Named p L → Answered p
-    shut : (n : ℕ) → answer p ≡ processClosed n → p < k → Open (L .closed) p → (Named p L → ⊥)
+    waited-for : answer p ≡ turnedBack 42 0 → p < k → Open (L .closed) p → NamesProcess p L → Answered p
+    shut : (n : ℕ) → answer p ≡ processClosed n → p < k → Open (L .closed) p → (NamesProcess p L → ⊥)
         → KeptNumber k (closing (L .closed) p) (L .history) n → Answered p
 
   back : ℕ → Closed
@@ -98,12 +98,12 @@ module _ (w k : ℕ) (f : Formula) (start : Cut) (Z : Watch) (S : Sound w k f st
       fine : notOpen k (L .closed) p ≡ false → (p < k) × Open (L .closed) p
       fine q = let u = or-false-e (leb k p) (bit (L .closed) p) q in (leb-false k p (u .0), u .1)
 
-      member : namedBy p (L .pending) ≡ true → Named p L
+      member : namedBy p (L .pending) ≡ true → NamesProcess p L
       member q =
           let e = any-of-e (λ (g : Event). involved g p) (L .pending) (true-T q) in
           (e .0, e .1, T-true (involved (e .0) p) (e .2))
 
-      none : namedBy p (L .pending) ≡ false → Named p L → ⊥
+      none : namedBy p (L .pending) ≡ false → NamesProcess p L → ⊥
       none q n = subst T q (any-of-i (λ (g : Event). involved g p) (L .pending) (n .0) (n .1) (true-T (n .2)))
 
       said : (c : Closed) → nextClose w Z p ≡ c → answer p ≡ c .answer
@@ -145,26 +145,26 @@ module _ (w k : ℕ) (f : Formula) (start : Cut) (Z : Watch) (S : Sound w k f st
       onward (shut n a l o u x) d = absurd (clash p d l o)
 
   named-exactly : RightWindow w Z → (p : ℕ)
-      → (answer p ≡ turnedBack 42 0) ↔ ((p < k) × Open (L .closed) p × Named p L)
+      → (answer p ≡ turnedBack 42 0) ↔ ((p < k) × Open (L .closed) p × NamesProcess p L)
   named-exactly h p = (there (answered h p), onward (answered h p))
     where
-      there : Answered p → answer p ≡ turnedBack 42 0 → (p < k) × Open (L .closed) p × Named p L
+      there : Answered p → answer p ≡ turnedBack 42 0 → (p < k) × Open (L .closed) p × NamesProcess p L
       there (barred a c) q = let z : _≡_ {A = ℕ} 42 41 = cc in absurd (omega arith)
       there (waited-for a l o n) q = (l, o, n)
       there (shut n a l o u x) q = let z : _≡_ {A = ℕ} 0 1 = cc in absurd (omega arith)
 
-      onward : Answered p → (p < k) × Open (L .closed) p × Named p L → answer p ≡ turnedBack 42 0
+      onward : Answered p → (p < k) × Open (L .closed) p × NamesProcess p L → answer p ≡ turnedBack 42 0
       onward (barred a c) d = absurd (clash p c (d .0) (d .1))
       onward (waited-for a l o n) d = a
       onward (shut n a l o u x) d = absurd (u (d .2))
 
   shut-exactly : RightWindow w Z → (p n : ℕ)
       → (answer p ≡ processClosed n)
-      ↔ ((p < k) × Open (L .closed) p × (Named p L → ⊥) × KeptNumber k (closing (L .closed) p) (L .history) n)
+      ↔ ((p < k) × Open (L .closed) p × (NamesProcess p L → ⊥) × KeptNumber k (closing (L .closed) p) (L .history) n)
   shut-exactly h p n = (there (answered h p), onward (answered h p))
     where
       there : Answered p → answer p ≡ processClosed n
-          → (p < k) × Open (L .closed) p × (Named p L → ⊥) × KeptNumber k (closing (L .closed) p) (L .history) n
+          → (p < k) × Open (L .closed) p × (NamesProcess p L → ⊥) × KeptNumber k (closing (L .closed) p) (L .history) n
       there (barred a c) q = let z : _≡_ {A = ℕ} 0 1 = cc in absurd (omega arith)
       there (waited-for a l o m) q = let z : _≡_ {A = ℕ} 0 1 = cc in absurd (omega arith)
       there (shut m a l o u x) q =
@@ -172,7 +172,7 @@ module _ (w k : ℕ) (f : Formula) (start : Cut) (Z : Watch) (S : Sound w k f st
           (l, o, u, subst (KeptNumber k (closing (L .closed) p) (L .history)) z x)
 
       onward : Answered p
-          → (p < k) × Open (L .closed) p × (Named p L → ⊥) × KeptNumber k (closing (L .closed) p) (L .history) n
+          → (p < k) × Open (L .closed) p × (NamesProcess p L → ⊥) × KeptNumber k (closing (L .closed) p) (L .history) n
           → answer p ≡ processClosed n
       onward (barred a c) d = absurd (clash p c (d .0) (d .1))
       onward (waited-for a l o m) d = absurd (d .2 m)

@@ -26,7 +26,7 @@ use Rattle.rules.specs.lines.LinesMean.{rule-means}
 use Rattle.records.specs.Record.{processCount, lineTotal, keptCount}
 use Rattle.refusals.specs.Refusals.{badWindowLength}
 use Rattle.answers.specs.Result.{Result, refused, gives}
-use Rattle.call_page.specs.Page.{shortPage, Paged, unwritten, written, pageCall}
+use Rattle.call_page.specs.Page.{shortPage, Paged, pageTurnedBack, pageWritten, pageCall}
 use Rattle.call_page.specs.PageExact.{RowSays, Printed}
 use Rattle.answers.specs.ToldLaws.{not-both}
 use Rattle.call_page.specs.PageTheorem.{page-exact}
@@ -59,7 +59,7 @@ mapped-at F (C ∷ before) S behind d = mapped-at F before S behind d
 
 -- What a page comes to where neither 6 nor 34 does: 44, or the rows of these frontiers.
 abbrev pub printed : List ℕ → List Frontier → List ℕ → Paged
-printed s fs page = cond (shortPage (keptCount s) (length page)) (unwritten page 44) (written s fs page)
+printed s fs page = cond (shortPage (keptCount s) (length page)) (pageTurnedBack page 44) (pageWritten s fs page)
 
 module _ (w k : ℕ) (f : Formula) (start : Cut) (Z : Watch) (S : Sound w k f start Z) where
   abbrev table : List Line
@@ -95,7 +95,7 @@ module _ (w k : ℕ) (f : Formula) (start : Cut) (Z : Watch) (S : Sound w k f st
   unfolding shortPage
   short-is page = ap (λ (n : ℕ). ltb (length page) (93 * n)) kept-cuts
 
-  six : (page : List ℕ) → badWindowLength w (length (Z .window)) ≡ true → nextPage w Z page ≡ unwritten page 6
+  six : (page : List ℕ) → badWindowLength w (length (Z .window)) ≡ true → nextPage w Z page ≡ pageTurnedBack page 6
   unfolding pageCall
   six page h = rw (right-record w k f start Z S, h)
 
@@ -113,13 +113,13 @@ module _ (w k : ℕ) (f : Formula) (start : Cut) (Z : Watch) (S : Sound w k f st
     where
       go : (a : Bool) → badWindowLength w (length (Z .window)) ≡ a → (b : Bool)
           → ltb (length page) (93 * length cuts) ≡ b → Case page
-      go true h b i = wrong h (by page (unwritten page 6) (six page h))
+      go true h b i = wrong h (by page (pageTurnedBack page 6) (six page h))
       go false h true i =
           short h (ltb-true (length page) (93 * length cuts) i)
-          (by page (unwritten page 44) (judged h page ∙ rw (short-is page ∙ i)))
+          (by page (pageTurnedBack page 44) (judged h page ∙ rw (short-is page ∙ i)))
       go false h false i =
           whole h (ltb-false (length page) (93 * length cuts) i)
-          (by page (written (Z .bytes) (frontiers w (Z .window) (keptCount (Z .bytes))) page)
+          (by page (pageWritten (Z .bytes) (frontiers w (Z .window) (keptCount (Z .bytes))) page)
           (judged h page ∙ rw (short-is page ∙ i))
           ∙ ap gives kept-cuts)
 

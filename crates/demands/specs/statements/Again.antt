@@ -20,7 +20,7 @@ use Rattle.demands.specs.EveryList.{AfterEveryList, atEnd, NamesOpen}
 -- ---- The next offer
 
 -- With arguments such as the machine passes; the mask's word has no bit beyond an event's.
-abbrev pub Offerable : ℕ → ℕ → List ℕ → List ℕ → Type 0
+abbrev pub Offerable : (w mask : ℕ) (clock labels : List ℕ) → Type 0
 Offerable w mask clock labels = Passed w (offers mask clock labels) × (mask < 256)
 
 -- An event and another one differ, though a common process has the same count in both.
@@ -56,7 +56,7 @@ AgainIsExact = AfterEveryList AgainExact
 
 -- ---- A list without its repeats
 
-abbrev pub isAgain : Answer → Bool
+abbrev pub isAgain : (a : Answer) → Bool
 isAgain (turnedBack n i) = false
 isAgain (state c t k) = false
 isAgain nothingReady = false
@@ -67,19 +67,19 @@ isAgain absent = false
 isAgain (processClosed n) = false
 
 -- The last answer of some, newest first.
-unfoldable pub lastOf : List Answer → Answer
+unfoldable pub lastOf : (answers : List Answer) → Answer
 lastOf [] = nothingReady
 lastOf (a ∷ answers) = a
 
 -- The calls of a list but for those that are answered "again" when it runs from W on.
-unfoldable pub withoutAgains : ℕ → List Call → Watch → List Call
+unfoldable pub withoutAgains : (w : ℕ) (cs : List Call) (W : Watch) → List Call
 withoutAgains w [] W = []
 withoutAgains w (c ∷ cs) W =
     cond (isAgain (lastOf (after w c W .answers))) (withoutAgains w cs (after w c W))
     (c ∷ withoutAgains w cs (after w c W))
 
 -- The answers but for "again".
-unfoldable pub otherAnswers : List Answer → List Answer
+unfoldable pub otherAnswers : (answers : List Answer) → List Answer
 otherAnswers [] = []
 otherAnswers (a ∷ answers) = cond (isAgain a) (otherAnswers answers) (a ∷ otherAnswers answers)
 

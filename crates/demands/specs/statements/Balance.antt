@@ -18,12 +18,12 @@ use Rattle.numbers.specs.Refusal.{falseClockNumber}
 -- ---- Counting answers
 
 -- How many answers pass a test.
-unfoldable pub number : (Answer → Bool) → List Answer → ℕ
-number test [] = 0
-number test (a ∷ answers) = one (test a) + number test answers
+unfoldable pub howMany : (test : Answer → Bool) (answers : List Answer) → ℕ
+howMany test [] = 0
+howMany test (a ∷ answers) = one (test a) + howMany test answers
 
 -- An offer was accepted.
-abbrev pub isHeld : Answer → Bool
+abbrev pub isHeld : (a : Answer) → Bool
 isHeld (turnedBack n i) = false
 isHeld (state c t k) = false
 isHeld nothingReady = false
@@ -34,7 +34,7 @@ isHeld absent = false
 isHeld (processClosed n) = false
 
 -- Opened, or an event was taken.
-abbrev pub isState : Answer → Bool
+abbrev pub isState : (a : Answer) → Bool
 isState (turnedBack n i) = false
 isState (state c t k) = true
 isState nothingReady = false
@@ -45,7 +45,7 @@ isState absent = false
 isState (processClosed n) = false
 
 -- Turned back by 35: an event left with a false clock.
-abbrev pub isFalseClock : Answer → Bool
+abbrev pub isFalseClock : (a : Answer) → Bool
 isFalseClock (turnedBack n i) = eqb n falseClockNumber
 isFalseClock (state c t k) = false
 isFalseClock nothingReady = false
@@ -65,13 +65,13 @@ pub record Balanced (L : Ledger) (accepted : List Event) : Type 0 where
 
 pub record AnswersBalanced (Z : Watch) : Type 0 where
   -- accepted offers = states after the first, which is open's own, + answers 35 + the record's number of pending events
-  pub some-state : 1 ≤ number isState (Z .answers)
-  pub balance : number isHeld (Z .answers)
-      ≡ (number isState (Z .answers) - 1) + number isFalseClock (Z .answers) + pendingCount (Z .bytes)
+  pub some-state : 1 ≤ howMany isState (Z .answers)
+  pub balance : howMany isHeld (Z .answers)
+      ≡ (howMany isState (Z .answers) - 1) + howMany isFalseClock (Z .answers) + pendingCount (Z .bytes)
   -- the ledger lists as many events as the answers say
-  pub accepted-said : number isHeld (Z .answers) ≡ length (Z .accepted)
-  pub taken-said : number isState (Z .answers) ≡ length (Z .ledger .history) + 1
-  pub falsified-said : number isFalseClock (Z .answers) ≡ length (Z .ledger .falsified)
+  pub accepted-said : howMany isHeld (Z .answers) ≡ length (Z .accepted)
+  pub taken-said : howMany isState (Z .answers) ≡ length (Z .ledger .history) + 1
+  pub falsified-said : howMany isFalseClock (Z .answers) ≡ length (Z .ledger .falsified)
   pub pending-said : pendingCount (Z .bytes) ≡ length (Z .ledger .pending)
   -- and each event balances there
   pub balanced : Balanced (Z .ledger) (Z .accepted)

@@ -16,16 +16,16 @@ use Rattle.demands.specs.statements.Moves.{nextMove}
 -- A call for counts of v bytes and one for counts of w bytes: the same, but that what a take is lent, zeros and scratch,
 -- has as many frontiers in the one form as in the other, and that the scratch may hold anything. Calls that were lent
 -- other buffers are of the same answer.
-abbrev pub SameCall : ℕ → ℕ → Call → Call → Type 0
+abbrev pub SameCall : (v w : ℕ) (c d : Call) → Type 0
 SameCall v w (offers mask clock labels) d = d ≡ offers mask clock labels
-SameCall v w (takes cap zeros scratch) d =
-    (more long : ℕ) × (scratch′ : List ℕ) × (zeros ≡ more * frontierLength v) × (length scratch ≡ long * frontierLength v)
-    × (length scratch′ ≡ long * frontierLength w) × (d ≡ takes cap (more * frontierLength w) scratch′)
+SameCall v w (takes cap more scratch) d =
+    (frontiers long : ℕ) × (scratch′ : List ℕ) × (more ≡ frontiers * frontierLength v) × (length scratch ≡ long * frontierLength v)
+    × (length scratch′ ≡ long * frontierLength w) × (d ≡ takes cap (frontiers * frontierLength w) scratch′)
 SameCall v w (finds line) d = d ≡ finds line
 SameCall v w (closes p) d = d ≡ closes p
 SameCall v w (mislends m) d = (n : Mislent) × (d ≡ mislends n) × (answerTo v m ≡ answerTo w n)
 
-abbrev pub SameCalls : ℕ → ℕ → List Call → List Call → Type 0
+abbrev pub SameCalls : (v w : ℕ) (cs ds : List Call) → Type 0
 SameCalls v w [] ds = ds ≡ []
 SameCalls v w (c ∷ cs) ds = (d : Call) × (rest : List Call) × (ds ≡ d ∷ rest) × SameCall v w c d × SameCalls v w cs rest
 

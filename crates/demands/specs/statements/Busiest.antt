@@ -28,11 +28,11 @@ use Rattle.demands.specs.statements.TakeAnswers.{allowedNext}
 -- ---- The list
 
 -- A call for k processes and n events, with counts of v bytes, answered m.
-abbrev pub Gives : ℕ → ℕ → ℕ → List ℕ → ℕ → Type 0
+abbrev pub Gives : (v k n : ℕ) (events : List ℕ) (m : ℕ) → Type 0
 Gives v k n events m = busiestCall v k n events .answer ≡ gives m
 
 -- The events that stand in the list that it left, read as a record's pending events are.
-abbrev pub listed : ℕ → ℕ → ℕ → List ℕ → List Event
+abbrev pub listed : (v k n : ℕ) (events : List ℕ) → List Event
 listed v k n events = listOf n (λ i. eventFrom v (busiestCall v k n events .events) (i * eventLength v))
 
 pub record DayListed (v k n : ℕ) (events : List ℕ) : Type 0 where

@@ -25,19 +25,19 @@ use Rattle.demands.specs.EveryList.{AllPassed, AfterEveryList, NamesClos
 
 -- ---- The next close
 
-abbrev pub nextClose : ℕ → Watch → ℕ → Closed
+abbrev pub nextClose : (w : ℕ) (Z : Watch) (p : ℕ) → Closed
 nextClose w Z p = closeCall w p (Z .bytes) (Z .window)
 
 -- The window has a right length: 6 does not come.
-abbrev pub RightWindow : ℕ → Watch → Type 0
+abbrev pub RightWindow : (w : ℕ) (Z : Watch) → Type 0
 RightWindow w Z = badWindowLength w (length (Z .window)) ≡ false
 
 -- A pending event names the process.
-abbrev pub Named : ℕ → Ledger → Type 0
-Named p L = (e : Event) × List·Memᴰ e (L .pending) × (involved e p ≡ true)
+abbrev pub NamesProcess : (p : ℕ) (L : Ledger) → Type 0
+NamesProcess p L = (e : Event) × List·Memᴰ e (L .pending) × (involved e p ≡ true)
 
 -- The ledger with process p closed.
-abbrev pub closedWith : Ledger → ℕ → Ledger
+abbrev pub closedWith : (L : Ledger) (p : ℕ) → Ledger
 closedWith L p = record {
   history = L .history;
   pending = L .pending;
@@ -54,11 +54,11 @@ pub record CloseExact (w k : ℕ) (f : Formula) (start : Cut) (Z : Watch) : Type
   -- 42: below k and open, and a pending event names it
   pub named : RightWindow w Z → (p : ℕ)
       → (nextClose w Z p .answer ≡ turnedBack namedNumber 0)
-      ↔ ((p < k) × Open (Z .ledger .closed) p × Named p (Z .ledger))
+      ↔ ((p < k) × Open (Z .ledger .closed) p × NamesProcess p (Z .ledger))
   -- else it is closed; the answer is the number of cuts that are kept with the open processes that are left
   pub closes-exactly : RightWindow w Z → (p n : ℕ)
       → (nextClose w Z p .answer ≡ processClosed n)
-      ↔ ((p < k) × Open (Z .ledger .closed) p × (Named p (Z .ledger) → ⊥)
+      ↔ ((p < k) × Open (Z .ledger .closed) p × (NamesProcess p (Z .ledger) → ⊥)
       × KeptNumber k (closing (Z .ledger .closed) p) (Z .ledger .history) n)
   -- and it is one of these
   pub no-other : RightWindow w Z → (p : ℕ)
@@ -82,7 +82,7 @@ CloseIsExact = AfterEveryList CloseExact
 -- ---- What was dropped
 
 -- Whatever calls follow: a consistent cut of the taken events that is not kept is not kept at their end.
-abbrev pub StaysDropped : ℕ → ℕ → Formula → Cut → Watch → Type 0
+abbrev pub StaysDropped : (w k : ℕ) (f : Formula) (start : Cut) (Y : Watch) → Type 0
 StaysDropped w k f start Y =
     (cs : List Call) → AllPassed w cs → (S : Cut) → Consistent (Y .ledger .history) S
     → (Stays k (Y .ledger .closed) (Y .ledger .history) S → ⊥)

@@ -10,7 +10,7 @@ use Rattle.demands.specs.EveryList.{Accepts, EightBytes, AllPassed, atEn
 use Rattle.demands.specs.Earlier.{earlierAtEnd}
 
 -- None of these answers is 35.
-abbrev pub NoFalseClock : List Answer → Type 0
+abbrev pub NoFalseClock : (answers : List Answer) → Type 0
 NoFalseClock answers = List·Memᴰ (turnedBack falseClockNumber 0) answers → ⊥
 
 -- Record, window, ledger, accepted events and answers at the end are the same.

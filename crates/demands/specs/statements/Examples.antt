@@ -97,7 +97,7 @@ unfoldable pub headed : (n : ℕ) (cs : List (List ℕ)) → List (List ℕ)
 headed zero cs = map (λ c. 0 ∷ c) cs
 headed (suc n) cs = headed n cs ++ map (λ c. suc n ∷ c) cs
 
-unfoldable pub vectors : List ℕ → List (List ℕ)
+unfoldable pub vectors : (xs : List ℕ) → List (List ℕ)
 vectors [] = [] ∷ []
 vectors (n ∷ ns) = headed n (vectors ns)
 

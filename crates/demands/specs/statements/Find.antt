@@ -31,7 +31,7 @@ pub record FirstAt (has : Property) (cuts : List Cut) (i : ℕ) : Type 0 where
   pub none-before : (S : Cut) → List·Memᴰ S before → has S ≡ false
 
 -- PaCTL's truth of a line of the rule after the list's taken events.
-abbrev pub lineOf : ℕ → Formula → Cut → Watch → ℕ → Property
+abbrev pub lineOf : (k : ℕ) (f : Formula) (start : Cut) (Z : Watch) (line : ℕ) → Property
 lineOf k f start Z line = lineTruth (modelAfter k f start (Z .ledger .history)) (linesAt 0 f) line
 
 pub record FindExact (w k : ℕ) (f : Formula) (start : Cut) (Z : Watch) : Type 0 where

@@ -21,7 +21,7 @@ use Rattle.demands.specs.World.{Valid}
 use Rattle.demands.specs.EveryList.{AfterEveryList, lentWindow, NamesOpen}
 
 -- The kept frontiers of the window that the next take is lent.
-abbrev pub keptLent : ℕ → Watch → ℕ → List Frontier
+abbrev pub keptLent : (w : ℕ) (Z : Watch) (more : ℕ) → List Frontier
 keptLent w Z more = frontiers w (lentWindow Z more) (keptCount (Z .bytes))
 
 pub record MessagesExact (w k : ℕ) (f : Formula) (start : Cut) (Z : Watch) : Type 0 where

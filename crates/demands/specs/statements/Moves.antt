@@ -9,23 +9,23 @@ use lib.ListN.{length}
 use Rattle.clocks.specs.declared.Event.{Event}
 use Rattle.clocks.specs.Event.{count}
 use Rattle.clocks.specs.History.{taken}
-use Rattle.call_move.specs.Move.{Moved, badLengths, moveCall}
+use Rattle.call_move.specs.Move.{Moved, badMoveLengths, moveCall}
 use Rattle.numbers.specs.Refusal.{lengthNumber, tooLargeNumber}
 use Rattle.demands.specs.Run.{Watch}
 
 -- ---- The next move
 
 -- Of a watch with counts of v bytes, to counts of w bytes in these buffers.
-abbrev pub nextMove : ℕ → ℕ → Watch → List ℕ → List ℕ → Moved
+abbrev pub nextMove : (v w : ℕ) (Z : Watch) (t target : List ℕ) → Moved
 nextMove v w Z t target = moveCall v w (Z .bytes) (Z .window) t target
 
 -- The four lengths are right, and the windows are of as many frontiers.
-abbrev pub RightMove : ℕ → ℕ → Watch → List ℕ → List ℕ → Type 0
-RightMove v w Z t target = badLengths v w (length (Z .bytes)) (length (Z .window)) (length t) (length target) ≡ false
+abbrev pub RightMove : (v w : ℕ) (Z : Watch) (t target : List ℕ) → Type 0
+RightMove v w Z t target = badMoveLengths v w (length (Z .bytes)) (length (Z .window)) (length t) (length target) ≡ false
 
 -- Every taken count, and every count of a pending event, has a place in w bytes. (Then so has every other count of such
 -- a watch: last clocks and kept cuts have none that is larger, and unused places are 0.)
-abbrev pub CountsFit : ℕ → Watch → Type 0
+abbrev pub CountsFit : (w : ℕ) (Z : Watch) → Type 0
 CountsFit w Z =
     ((p : ℕ) → taken (Z .ledger .history) p < 256 ^ w)
     × ((e : Event) → List·Memᴰ e (Z .ledger .pending) → (p : ℕ) → count e p < 256 ^ w)

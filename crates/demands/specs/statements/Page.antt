@@ -23,7 +23,7 @@ use Rattle.demands.specs.Written.{Written}
 use Rattle.numbers.specs.Refusal.{lengthNumber, shortPageNumber, stateNumber}
 
 -- What the next page, in a buffer of these bytes, answers and leaves.
-abbrev pub nextPage : ℕ → Watch → List ℕ → Paged
+abbrev pub nextPage : (w : ℕ) (Z : Watch) (page : List ℕ) → Paged
 nextPage w Z page = pageCall w (Z .bytes) (Z .window) page
 
 pub record PageShows (w k : ℕ) (f : Formula) (start : Cut) (Z : Watch) : Type 0 where
@@ -43,9 +43,9 @@ pub record PageShows (w k : ℕ) (f : Formula) (start : Cut) (Z : Watch) : Type 
   -- the row with i rows before it is that of the cut with i cuts before it, for counts of up to four bytes: it shows
   -- the cut's counts, and of the rule PaCTL's truth there
   pub each-row : w ≤ 4 → (page : List ℕ) (n : ℕ) → nextPage w Z page .answer ≡ gives n
-      → (before : List Cut) (S : Cut) (rest : List Cut) → cuts ≡ before ++ (S ∷ rest)
+      → (earlier : List Cut) (S : Cut) (later : List Cut) → cuts ≡ earlier ++ (S ∷ later)
       → RowSays k S (holds (modelAfter k f start (Z .ledger .history)) (meaning f) S) (nextPage w Z page .page)
-      (length before)
+      (length earlier)
   -- and there is no other: after them all is as it was
   pub rest-stays : w ≤ 4 → (page : List ℕ) (n : ℕ) → nextPage w Z page .answer ≡ gives n
       → drop (rowLength * length cuts) (nextPage w Z page .page) ≡ drop (rowLength * length cuts) page

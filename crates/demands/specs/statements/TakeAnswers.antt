@@ -24,7 +24,7 @@ use Rattle.numbers.specs.Refusal.{falseClockNumber, lengthNumber, noRoomNumber,
 
 -- An event that a take passes over: where it is ready, its clock is true, and the kept cuts with it are more than are
 -- allowed.
-abbrev pub PassedOver : ℕ → ℕ → ℕ → List Event → Event → Type 0
+abbrev pub PassedOver : (k closed allowed : ℕ) (ts : List Event) (e : Event) → Type 0
 PassedOver k closed allowed ts e =
     Ready e (taken ts) → Valid ts e × ((n : ℕ) × KeptNumber k closed (e ∷ ts) n × (allowed < n))
 
@@ -37,7 +37,7 @@ pub record StopsAt (k allowed : ℕ) (L : Ledger) (e : Event) : Type 0 where
   pub passed : (f : Event) → List·Memᴰ f before → PassedOver k (L .closed) allowed (L .history) f
 
 -- The ledger with an event gone with a false clock, or taken, where these stay pending.
-abbrev pub falsifiedLedger : Ledger → Event → List Event → Ledger
+abbrev pub falsifiedLedger : (L : Ledger) (e : Event) (others : List Event) → Ledger
 falsifiedLedger L e others = record {
   history = L .history;
   pending = others;
@@ -45,7 +45,7 @@ falsifiedLedger L e others = record {
   closed = L .closed;
 }
 
-abbrev pub chosenLedger : Ledger → Event → List Event → Ledger
+abbrev pub chosenLedger : (L : Ledger) (e : Event) (others : List Event) → Ledger
 chosenLedger L e others = record {
   history = e ∷ L .history;
   pending = others;
@@ -54,13 +54,13 @@ chosenLedger L e others = record {
 }
 
 -- 36: some pending event is ready, and all are passed over.
-abbrev pub NoRoom : ℕ → ℕ → Ledger → Type 0
+abbrev pub NoRoom : (k allowed : ℕ) (L : Ledger) → Type 0
 NoRoom k allowed L =
     ((e : Event) × List·Memᴰ e (L .pending) × Ready e (taken (L .history)))
     × ((e : Event) → List·Memᴰ e (L .pending) → PassedOver k (L .closed) allowed (L .history) e)
 
 -- 35: it stops at an event whose clock is not true.
-abbrev pub FalseClock : ℕ → ℕ → Ledger → Type 0
+abbrev pub FalseClock : (k allowed : ℕ) (L : Ledger) → Type 0
 FalseClock k allowed L = (e : Event) × StopsAt k allowed L e × (Valid (L .history) e → ⊥)
 
 -- It stops at an event whose clock is true and with which the kept cuts are allowed, and answers the counts with it,
@@ -78,11 +78,11 @@ pub record Takes (k allowed : ℕ) (f : Formula) (start : Cut) (L : Ledger) (cou
 -- ---- The answers of the next take
 
 -- How many frontiers it may use: the lesser of its cap and the room of the lent window.
-abbrev pub allowedNext : ℕ → Watch → ℕ → ℕ → ℕ
+abbrev pub allowedNext : (w : ℕ) (Z : Watch) (cap more : ℕ) → ℕ
 allowedNext w Z cap more = allowedOf w cap (lentWindow Z more)
 
 -- The ledger after it.
-abbrev pub nextLedger : ℕ → Watch → ℕ → ℕ → List ℕ → Ledger
+abbrev pub nextLedger : (w : ℕ) (Z : Watch) (cap more : ℕ) (scratch : List ℕ) → Ledger
 nextLedger w Z cap more scratch = after w (takes cap more scratch) Z .ledger
 
 -- The answers where the lengths are right.

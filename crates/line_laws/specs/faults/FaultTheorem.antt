@@ -12,13 +12,13 @@ use lib.Seq.{getD-take, getD-append-add}
 use borrow.Author.Tests.{ltb-true, ltb-false, lt-ltb}
 use Rattle.clocks.specs.stored.BoundedLaws.{and-true}
 use Rattle.rules.specs.Text.{byteAt}
-use Rattle.rules.specs.Fault.{Stands, Span}
+use Rattle.rules.specs.Fault.{StandsAt, Span}
 use Rattle.rules.specs.grammar.FirstBytes.{Begun, begun-nil}
 use Rattle.line_pieces.specs.declared.Read.{Read}
 use Rattle.line_pieces.specs.declared.Read.the-variants.{At, Refused}
 use Rattle.line_pieces.specs.Reading.{thenEnd, lineLimit, limited}
-use Rattle.line_laws.specs.Grammar.{Piece, PieceText, Fault1, number, list, spacedList, one}
-use Rattle.line_laws.specs.Fault.{TenIn, TenFrom, Fault10, Fault, FirstFault}
+use Rattle.line_laws.specs.Grammar.{Piece, PieceText, LineFault1, aNumber, list, spacedList, aByte}
+use Rattle.line_laws.specs.Fault.{TenIn, TenFrom, Fault10, LineFault, FirstLineFault}
 use Rattle.line_laws.specs.pieces.ReadPieces.{readPiece, readPieces, pieces-stay, Numbered, pieces-numbered}
 use Rattle.line_laws.specs.pieces.NumberTextRead.{if-known}
 use Rattle.line_laws.specs.pieces.PieceTextRead.{AllEnded}
@@ -29,8 +29,8 @@ use Rattle.line_laws.specs.faults.GrammarTheorem.{lineRead, one-exact, n
 
 -- ---- What the reader turns back by 10
 
-pub stands-of : (s x : List ℕ) (i : ℕ) → ((l : ℕ) → l < length x → byteAt s (i + l) ≡ byteAt x l) → Stands s i x
-unfolding Stands
+pub stands-of : (s x : List ℕ) (i : ℕ) → ((l : ℕ) → l < length x → byteAt s (i + l) ≡ byteAt x l) → StandsAt s i x
+unfolding StandsAt
 stands-of s [] i h = tt
 stands-of s (b ∷ x) i h = (
   let z : i + 0 ≡ i = omega arith in rw (← z) (h 0 (omega arith)),
@@ -66,8 +66,8 @@ ten-sound s bs (p ∷ ps) j v i d b q =
 
 ten-in-from : (p : Piece) (s : List ℕ) (j i : ℕ) → TenIn p s j i → j ≤ i
 unfolding TenIn
-ten-in-from (one b) s j i t = absurd t
-ten-in-from (number least most b) s j i (e, o) = omega arith
+ten-in-from (aByte b) s j i t = absurd t
+ten-in-from (aNumber least most b) s j i (e, o) = omega arith
 ten-in-from (list ascending most fewest fullest) s j i (inl (ns, (a, (p, o)))) = omega (arith, p .ends)
 ten-in-from (list ascending most fewest fullest) s j i (inr (ns, (a, (p, o)))) = omega (arith, p .ends)
 ten-in-from (spacedList most fewest fullest) s j i (inl (ns, (a, (p, o)))) = omega (arith, p .ends)
@@ -131,12 +131,12 @@ Allowed s i = lineLimit < length s → i ≤ lineLimit
 -- Turned back by what the pieces have.
 first-of : (s : List ℕ) (ps : List Piece) (n i : ℕ) → AllEnded ps → Allowed s i → lineRead s ps ≡ Refused n i
     → (n ≡ 1) ⊎ (n ≡ 10)
-    → FirstFault n ps s i
-unfolding Fault Fault10
+    → FirstLineFault n ps s i
+unfolding LineFault Fault10
 first-of s ps n i d a e (inl k) =
     record { here = inl (k, one-exact s ps i d (rw k at e) .0); none-before = before; none-lower = lower }
   where
-    before : (m j : ℕ) → j < i → Fault m ps s j → ⊥
+    before : (m j : ℕ) → j < i → LineFault m ps s j → ⊥
     before m j l (inl (q, f)) = omega (arith, none-before-one s ps n i d e j f)
     before m j l (inr (q, inl f)) = stopped (line-stops s ps j d f)
       where
@@ -144,13 +144,13 @@ first-of s ps n i d a e (inl k) =
         stopped (x, y, (g, h)) = let z : i ≡ y = cc in omega arith
     before m j l (inr (q, inr (f, g))) = omega (arith, a f)
 
-    lower : (m : ℕ) → m < n → Fault m ps s i → ⊥
+    lower : (m : ℕ) → m < n → LineFault m ps s i → ⊥
     lower m l (inl (q, f)) = omega arith
     lower m l (inr (q, f)) = omega arith
 first-of s ps n i d a e (inr k) =
     record { here = inr (k, inl (line-ten s ps i d (rw k at e))); none-before = before; none-lower = lower }
   where
-    before : (m j : ℕ) → j < i → Fault m ps s j → ⊥
+    before : (m j : ℕ) → j < i → LineFault m ps s j → ⊥
     before m j l (inl (q, f)) = omega (arith, none-before-one s ps n i d e j f)
     before m j l (inr (q, inl f)) = stopped (line-stops s ps j d f)
       where
@@ -158,30 +158,30 @@ first-of s ps n i d a e (inr k) =
         stopped (x, y, (g, h)) = let z : i ≡ y = cc in omega arith
     before m j l (inr (q, inr (f, g))) = omega (arith, a f)
 
-    lower : (m : ℕ) → m < n → Fault m ps s i → ⊥
+    lower : (m : ℕ) → m < n → LineFault m ps s i → ⊥
     lower m l (inl (q, f)) = let w : lineRead s ps ≡ Refused 10 i = rw k at e in
         omega (arith, ten-before-one s ps i d w i f)
     lower m l (inr (q, f)) = omega arith
 
 -- Over the limit, with no fault of the pieces up to there.
-first-over : (s : List ℕ) (ps : List Piece) → lineLimit < length s → ((j : ℕ) → j ≤ lineLimit → Fault1 ps s j → ⊥)
-    → ((j : ℕ) → j < lineLimit → TenFrom ps s 0 j → ⊥) → FirstFault 10 ps s lineLimit
-unfolding Fault Fault10
+first-over : (s : List ℕ) (ps : List Piece) → lineLimit < length s → ((j : ℕ) → j ≤ lineLimit → LineFault1 ps s j → ⊥)
+    → ((j : ℕ) → j < lineLimit → TenFrom ps s 0 j → ⊥) → FirstLineFault 10 ps s lineLimit
+unfolding LineFault Fault10
 first-over s ps over no-one no-ten =
     record { here = inr (refl, inr (over, refl)); none-before = before; none-lower = lower }
   where
-    before : (m j : ℕ) → j < lineLimit → Fault m ps s j → ⊥
+    before : (m j : ℕ) → j < lineLimit → LineFault m ps s j → ⊥
     before m j l (inl (q, f)) = no-one j (omega arith) f
     before m j l (inr (q, inl f)) = no-ten j l f
     before m j l (inr (q, inr (f, g))) = omega arith
 
-    lower : (m : ℕ) → m < 10 → Fault m ps s lineLimit → ⊥
+    lower : (m : ℕ) → m < 10 → LineFault m ps s lineLimit → ⊥
     lower m l (inl (q, f)) = no-one lineLimit (omega arith) f
     lower m l (inr (q, f)) = omega arith
 
 -- What turns a line back is its first fault.
 first-fault : (s : List ℕ) (ps : List Piece) (n i : ℕ) → AllEnded ps → limited s (lineRead s ps) ≡ Refused n i
-    → FirstFault n ps s i
+    → FirstLineFault n ps s i
 unfolding limited Numbered
 first-fault s ps n i d e = go (lineRead s ps) refl (line-numbered s ps) e
   where
@@ -189,7 +189,7 @@ first-fault s ps n i d e = go (lineRead s ps) refl (line-numbered s ps) e
     stops r q j t = rw (← q) (line-stops s ps j d t)
 
     Goal : Read → Type 0
-    Goal r = r ≡ Refused n i → FirstFault n ps s i
+    Goal r = r ≡ Refused n i → FirstLineFault n ps s i
 
     nowhere : (k v : ℕ) {j : ℕ} → Stops j (At k v) → ⊥
     nowhere k v (a, b, (g, h)) = not-at k v a b g
@@ -204,7 +204,7 @@ first-fault s ps n i d e = go (lineRead s ps) refl (line-numbered s ps) e
         let u : ltb lineLimit k ≡ false = rw o at t in
         omega (arith, ltb-false lineLimit k u)
 
-    go : (r : Read) → lineRead s ps ≡ r → Numbered r → limited s r ≡ Refused n i → FirstFault n ps s i
+    go : (r : Read) → lineRead s ps ≡ r → Numbered r → limited s r ≡ Refused n i → FirstLineFault n ps s i
     go (At k v) q m f =
         if-known Goal (ltb lineLimit (length s)) (Refused 10 lineLimit) (At k v)
         (λ t g. let z : 10 ≡ n = cc in
@@ -227,11 +227,11 @@ first-fault s ps n i d e = go (lineRead s ps) refl (line-numbered s ps) e
 
 -- A line that is read has no fault.
 read-faultless : (s : List ℕ) (ps : List Piece) (i v : ℕ) → AllEnded ps → limited s (lineRead s ps) ≡ At i v
-    → (n j : ℕ) → Fault n ps s j → ⊥
-unfolding limited Fault Fault10
+    → (n j : ℕ) → LineFault n ps s j → ⊥
+unfolding limited LineFault Fault10
 read-faultless s ps i v d e n j f = go (lineRead s ps) refl e
   where
-    none : (k w : ℕ) → lineRead s ps ≡ At k w → ltb lineLimit (length s) ≡ false → Fault n ps s j → ⊥
+    none : (k w : ℕ) → lineRead s ps ≡ At k w → ltb lineLimit (length s) ≡ false → LineFault n ps s j → ⊥
     none k w q t (inl (a, g)) = read-text s ps k w d q .1 j g
     none k w q t (inr (a, inl g)) = stopped (line-stops s ps j d g)
       where
@@ -252,13 +252,13 @@ read-faultless s ps i v d e n j f = go (lineRead s ps) refl e
         (λ _ h. never 10 lineLimit h) (λ _ h. never x k h) g
 
 -- A line has one first fault.
-first-unique : (s : List ℕ) (ps : List Piece) (n m i j : ℕ) → FirstFault n ps s i → FirstFault m ps s j
+first-unique : (s : List ℕ) (ps : List Piece) (n m i j : ℕ) → FirstLineFault n ps s i → FirstLineFault m ps s j
     → (n ≡ m) × (i ≡ j)
 first-unique s ps n m i j x y = places (ltb i j) (ltb j i) refl refl
   where
     numbers : i ≡ j → (t u : Bool) → ltb n m ≡ t → ltb m n ≡ u → n ≡ m
-    numbers e true u p q = absurd (y .none-lower n (ltb-true n m p) (subst (Fault n ps s) e (x .here)))
-    numbers e false true p q = absurd (x .none-lower m (ltb-true m n q) (subst (Fault m ps s) (sym e) (y .here)))
+    numbers e true u p q = absurd (y .none-lower n (ltb-true n m p) (subst (LineFault n ps s) e (x .here)))
+    numbers e false true p q = absurd (x .none-lower m (ltb-true m n q) (subst (LineFault m ps s) (sym e) (y .here)))
     numbers e false false p q = omega (arith, ltb-false n m p, ltb-false m n q)
 
     places : (t u : Bool) → ltb i j ≡ t → ltb j i ≡ u → (n ≡ m) × (i ≡ j)
@@ -270,19 +270,19 @@ first-unique s ps n m i j x y = places (ltb i j) (ltb j i) refl refl
 
 module _ (s : List ℕ) (ps : List Piece) (d : AllEnded ps) where
   -- A line is turned back exactly by its first fault.
-  pub refused-exactly : (n i : ℕ) → (limited s (lineRead s ps) ≡ Refused n i) ↔ FirstFault n ps s i
+  pub refused-exactly : (n i : ℕ) → (limited s (lineRead s ps) ≡ Refused n i) ↔ FirstLineFault n ps s i
   refused-exactly n i = (first-fault s ps n i d, λ f. go f (limited s (lineRead s ps)) refl)
     where
-      go : FirstFault n ps s i → (r : Read) → limited s (lineRead s ps) ≡ r → limited s (lineRead s ps) ≡ Refused n i
+      go : FirstLineFault n ps s i → (r : Read) → limited s (lineRead s ps) ≡ r → limited s (lineRead s ps) ≡ Refused n i
       go f (At j v) e = absurd (read-faultless s ps j v d e n i (f .here))
       go f (Refused m j) e = let same = first-unique s ps m n j i (first-fault s ps m j d e) f in
           e ∙ ap₂ Refused (same .0) (same .1)
 
   -- It is read exactly if it has none.
-  pub read-exactly : ((i : ℕ) × (v : ℕ) × (limited s (lineRead s ps) ≡ At i v)) ↔ ((n i : ℕ) → Fault n ps s i → ⊥)
+  pub read-exactly : ((i : ℕ) × (v : ℕ) × (limited s (lineRead s ps) ≡ At i v)) ↔ ((n i : ℕ) → LineFault n ps s i → ⊥)
   read-exactly = (λ x. read-faultless s ps (x .0) (x .1) d (x .2), λ none. go none (limited s (lineRead s ps)) refl)
     where
-      go : ((n i : ℕ) → Fault n ps s i → ⊥) → (r : Read) → limited s (lineRead s ps) ≡ r
+      go : ((n i : ℕ) → LineFault n ps s i → ⊥) → (r : Read) → limited s (lineRead s ps) ≡ r
           → (i : ℕ) × (v : ℕ) × (limited s (lineRead s ps) ≡ At i v)
       go none (At j v) e = (j, v, e)
       go none (Refused m j) e = absurd (none m j (first-fault s ps m j d e .here))

@@ -16,7 +16,7 @@ use Rattle.rules.specs.reading.WordsAnswered.{standsTo-same}
 use Rattle.line_pieces.specs.declared.Read.{Read}
 use Rattle.line_pieces.specs.declared.Read.the-variants.{At, Refused}
 use Rattle.line_pieces.specs.Reading.{thenEnd}
-use Rattle.line_laws.specs.Grammar.{Piece, TextOf, Fault1}
+use Rattle.line_laws.specs.Grammar.{Piece, TextOf, LineFault1}
 use Rattle.line_laws.specs.pieces.ReadPieces.{readPieces, placeIn}
 use Rattle.line_laws.specs.pieces.NumberTextRead.{Near, if-known}
 use Rattle.line_laws.specs.pieces.PieceTextRead.{AllEnded, pieces-met}
@@ -45,8 +45,8 @@ unfolding lineRead
 line-passed s ps d = end-passed s ps (readPieces s ps (At 0 0)) (pieces-stood s [] ps 0 0 d (begun-nil s))
 
 -- No fault 1 where a text has the same bytes.
-met-faultless : (s t : List ℕ) (ps : List Piece) (e j : ℕ) → TextOf ps t → Met s t e → Fault1 ps s j → e ≤ j
-unfolding Fault1
+met-faultless : (s t : List ℕ) (ps : List Piece) (e j : ℕ) → TextOf ps t → Met s t e → LineFault1 ps s j → e ≤ j
+unfolding LineFault1
 met-faultless s t ps e j u m (inl (l, f)) = go (ltb j e) refl
   where
     go : (b : Bool) → ltb j e ≡ b → e ≤ j
@@ -85,8 +85,8 @@ never-one s t ps m i d u h k e =
     go r (inr (inr (j, q))) f = let g : thenEnd s (Refused 10 j) ≡ Refused 1 i = rw q at f in
         let z : _≡_ {A = ℕ} 10 1 = cc in absurd (omega arith)
 
-one-sound : (s : List ℕ) (ps : List Piece) (i : ℕ) → AllEnded ps → lineRead s ps ≡ Refused 1 i → Fault1 ps s i
-unfolding Fault1 Passed reach
+one-sound : (s : List ℕ) (ps : List Piece) (i : ℕ) → AllEnded ps → lineRead s ps ≡ Refused 1 i → LineFault1 ps s i
+unfolding LineFault1 Passed reach
 one-sound s ps i d e = go (ltb i (length s)) refl (rw e at (line-passed s ps d))
   where
     bytes : (t : List ℕ) → take (i + 1) t ≡ take (i + 1) s → (l : ℕ) → l < length t → l < i + 1
@@ -100,7 +100,7 @@ one-sound s ps i d e = go (ltb i (length s)) refl (rw e at (line-passed s ps d))
         let b : length (take (i + 1) s) ≡ i + 1 = length-take-le (i + 1) s (omega arith) in
         omega (arith, a, b, ap length q)
 
-    go : (b : Bool) → ltb i (length s) ≡ b → ((t : List ℕ) × (TextOf ps t × Met s t i)) → Fault1 ps s i
+    go : (b : Bool) → ltb i (length s) ≡ b → ((t : List ℕ) × (TextOf ps t × Met s t i)) → LineFault1 ps s i
     go true b p =
         let l = ltb-true i (length s) b in
         inl (l, λ t u q. let z = never-one s t ps (i + 1) i d u (bytes t q) (inl (long t q l)) e in omega (arith, z))
@@ -116,7 +116,7 @@ one-sound s ps i d e = go (ltb i (length s)) refl (rw e at (line-passed s ps d))
 
 -- Turned back: fault 1 stands nowhere before.
 pub none-before-one : (s : List ℕ) (ps : List Piece) (n i : ℕ) → AllEnded ps → lineRead s ps ≡ Refused n i → (j : ℕ)
-    → Fault1 ps s j → i ≤ j
+    → LineFault1 ps s j → i ≤ j
 unfolding Passed reach
 none-before-one s ps n i d e j f =
     let p : (t : List ℕ) × (TextOf ps t × Met s t (cond (eqb n 10) (i + 1) i)) = rw e at (line-passed s ps d) in
@@ -128,7 +128,7 @@ none-before-one s ps n i d e j f =
 
 -- Turned back by 1: that fault stands there, and nowhere before.
 pub one-exact : (s : List ℕ) (ps : List Piece) (i : ℕ) → AllEnded ps → lineRead s ps ≡ Refused 1 i
-    → Fault1 ps s i × ((j : ℕ) → Fault1 ps s j → i ≤ j)
+    → LineFault1 ps s i × ((j : ℕ) → LineFault1 ps s j → i ≤ j)
 unfolding Passed reach
 one-exact s ps i d e =
     let p : (t : List ℕ) × (TextOf ps t × Met s t i) = rw e at (line-passed s ps d) in
@@ -136,7 +136,7 @@ one-exact s ps i d e =
 
 -- Turned back by 10: fault 1 stands neither there nor before.
 pub ten-before-one : (s : List ℕ) (ps : List Piece) (i : ℕ) → AllEnded ps → lineRead s ps ≡ Refused 10 i → (j : ℕ)
-    → Fault1 ps s j → i < j
+    → LineFault1 ps s j → i < j
 unfolding Passed reach
 ten-before-one s ps i d e j f =
     let p : (t : List ℕ) × (TextOf ps t × Met s t (i + 1)) = rw e at (line-passed s ps d) in
@@ -145,10 +145,10 @@ ten-before-one s ps i d e j f =
 
 -- Read to the end: a text of the grammar, which has no fault 1.
 pub read-text : (s : List ℕ) (ps : List Piece) (i v : ℕ) → AllEnded ps → lineRead s ps ≡ At i v
-    → TextOf ps s × ((j : ℕ) → Fault1 ps s j → ⊥)
-unfolding Passed Fault1
+    → TextOf ps s × ((j : ℕ) → LineFault1 ps s j → ⊥)
+unfolding Passed LineFault1
 read-text s ps i v d e = let p : TextOf ps s = rw e at (line-passed s ps d) in (p, λ j f. none p j f)
   where
-    none : TextOf ps s → (j : ℕ) → Fault1 ps s j → ⊥
+    none : TextOf ps s → (j : ℕ) → LineFault1 ps s j → ⊥
     none p j (inl (l, f)) = f s p refl
     none p j (inr (l, f)) = f p

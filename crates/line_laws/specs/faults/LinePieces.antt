@@ -5,7 +5,7 @@ use mathlib.Core.Path.{_≡_, refl}
 use mathlib.Core.Bool.{true}
 use mathlib.Core.List.{List}
 use Rattle.codec.specs.Ascii.{ascii}
-use Rattle.line_pieces.specs.Reading.{valueOf, thenBytes, headRead, thenNumber, limited, thenLast}
+use Rattle.line_pieces.specs.Reading.{valueRead, thenBytes, headRead, thenNumber, limited, thenLast}
 use Rattle.line_pieces.specs.NumberList.{thenList, thenSpacedList, thenClose, eight}
 use Rattle.lines.specs.Lines.{kLimit, labelLimit, processLimit, watchOf, watchLine, startOf, startLine, didOf, didLine}
 use Rattle.line_laws.specs.Grammar.{watchPieces, startPieces, didPieces}
@@ -27,7 +27,7 @@ unfolding didPieces AllEnded
 did-ended k n = search (arith)
 
 pub watch-read : (s : List ℕ)
-    → watchLine s ≡ watchOf (valueOf (thenNumber s 0 kLimit (headRead s (ascii "(watch "))))
+    → watchLine s ≡ watchOf (valueRead (thenNumber s 0 kLimit (headRead s (ascii "(watch "))))
     (limited s (lineRead s watchPieces))
 unfolding watchPieces watchLine thenLast thenBytes lineRead readPiece readPieces
 watch-read s = refl
@@ -40,7 +40,7 @@ start-read s k = refl
 
 -- The processes that a line names, counted, where their list is read.
 unfoldable pub named : List ℕ → ℕ
-named s = valueOf (thenClose s 1 8 (thenList s true processLimit (headRead s (ascii "(did (")) .read))
+named s = valueRead (thenClose s 1 8 (thenList s true processLimit (headRead s (ascii "(did (")) .read))
 
 pub did-read : (s : List ℕ) (k : ℕ)
     → (ps cs ls : List ℕ) × (didLine s k ≡ didOf (named s) ps cs ls (limited s (lineRead s (didPieces k (named s)))))

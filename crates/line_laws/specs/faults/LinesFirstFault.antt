@@ -11,7 +11,7 @@ use Rattle.line_pieces.specs.Reading.{limited}
 use Rattle.lines.specs.declared.WatchLine.the-variants.{Watch, Refused as WatchRefused}
 use Rattle.lines.specs.declared.StartLine.the-variants.{Start, Refused as StartRefused}
 use Rattle.lines.specs.declared.DidLine.the-variants.{Did, Refused as DidRefused}
-use Rattle.lines.specs.Words.{word}
+use Rattle.lines.specs.Words.{packedWord}
 use Rattle.lines.specs.Lines.{watchOf, startOf, didOf, didLine}
 use Rattle.line_laws.specs.Grammar.{watchPieces, startPieces, didPieces, Names}
 use Rattle.line_laws.specs.FirstFaults.{WatchFindsFirstFault, WatchAcceptsFaultless, StartFindsFirstFault, StartAcceptsFaultless, DidFindsFirstFault, DidAcceptsFaultless}
@@ -62,7 +62,7 @@ start-refused ls n i (Refused m j) = (λ e. cc, λ e. cc)
 start-taken : (ls : List ℕ) (r : Read) → ((labels : ℕ) × (startOf ls r ≡ Start labels))
     ↔ ((i : ℕ) × (v : ℕ) × (r ≡ At i v))
 unfolding startOf
-start-taken ls (At i v) = (λ _. (i, v, refl), λ _. (word 256 ls, refl))
+start-taken ls (At i v) = (λ _. (i, v, refl), λ _. (packedWord 256 ls, refl))
 start-taken ls (Refused m i) = (
   λ y. let e = y .1 in let z : _≡_ {A = ℕ} 0 1 = cc in absurd (omega arith),
   λ y. let e = y .2 in

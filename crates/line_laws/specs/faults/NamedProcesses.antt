@@ -13,16 +13,16 @@ use lib.Seq.{drop-cons}
 use borrow.Author.Tests.{ne-eqb}
 use Rattle.codec.specs.Ascii.{ascii}
 use Rattle.rules.specs.Text.{byteAt}
-use Rattle.rules.specs.Fault.{Stands}
+use Rattle.rules.specs.Fault.{StandsAt}
 use Rattle.rules.specs.reading.WordLaws.{span-append}
 use Rattle.line_pieces.specs.declared.Read.{Read}
 use Rattle.line_pieces.specs.declared.Read.the-variants.{At, Refused}
 use Rattle.codec.specs.Decimal.{value}
 use Rattle.line_pieces.specs.NumberLaws.{inside, digit-bounds}
-use Rattle.line_pieces.specs.Reading.{valueOf, thenBytes, headRead, thenEnd}
+use Rattle.line_pieces.specs.Reading.{valueRead, thenBytes, headRead, thenEnd}
 use Rattle.line_pieces.specs.NumberList.{thenList, thenClose}
 use Rattle.lines.specs.Lines.{countLimit, labelLimit, processLimit}
-use Rattle.line_laws.specs.Grammar.{AllDigits, Numeral, Numerals, spaced, between, Piece, one, list, didPieces, Names}
+use Rattle.line_laws.specs.Grammar.{AllDigits, Numeral, Numerals, spaced, between, Piece, aByte, list, didPieces, Names}
 use Rattle.line_laws.specs.FirstFaults.{EachLineNames}
 use Rattle.line_laws.specs.pieces.ReadPieces.{readPiece, readPieces, pieces-stay}
 use Rattle.line_laws.specs.faults.GrammarTheorem.{lineRead}
@@ -36,7 +36,7 @@ unfoldable pub firstRead : List ℕ → Read
 firstRead s = thenClose s 1 8 (thenList s true processLimit (headRead s (ascii "(did (")) .read)
 
 abbrev pub rest : ℕ → ℕ → List Piece
-rest k n = one 32 ∷ one 40 ∷ list false countLimit k k ∷ one 32 ∷ one 40 ∷ list false labelLimit n n ∷ one 41 ∷ []
+rest k n = aByte 32 ∷ aByte 40 ∷ list false countLimit k k ∷ aByte 32 ∷ aByte 40 ∷ list false labelLimit n n ∷ aByte 41 ∷ []
 
 pub line-after : (s : List ℕ) (k n : ℕ) → lineRead s (didPieces k n) ≡ thenEnd s (readPieces s (rest k n) (firstRead s))
 unfolding didPieces lineRead readPieces readPiece thenBytes firstRead
@@ -53,8 +53,8 @@ first-named s n e c names q =
     (span-append (head-met s (ascii "(did (") j v r) (span-append (l .said .stands) (l .bracket)) .stands))
 
 pub named-is : (s : List ℕ) (e c : ℕ) → firstRead s ≡ At e c → named s ≡ c
-unfolding named firstRead valueOf
-named-is s e c q = ap valueOf q
+unfolding named firstRead valueRead
+named-is s e c q = ap valueRead q
 
 pub same-line : (s : List ℕ) (k n : ℕ) → Names s n → lineRead s (didPieces k n) ≡ lineRead s (didPieces k (named s))
 same-line s k n names = line-after s k n ∙ go (firstRead s) refl ∙ sym (line-after s k (named s))
@@ -76,9 +76,9 @@ spaces-next : (s : List ℕ) (i c : ℕ) → byteAt s i ≡ c → c < 256
 unfolding spacesTo
 spaces-next s i c e h = rw (drop-cons s i 256 (inside s i (omega (arith, e))), add-one i, e)
 
-over-digits : (s ds xs : List ℕ) (i : ℕ) → AllDigits ds → Stands s i (ds ++ xs)
+over-digits : (s ds xs : List ℕ) (i : ℕ) → AllDigits ds → StandsAt s i (ds ++ xs)
     → spacesTo (drop i s) ≡ spacesTo (drop (i + length ds) s)
-unfolding AllDigits Stands
+unfolding AllDigits StandsAt
 over-digits s [] xs i a h = rw (add-zero i)
 over-digits s (d ∷ ds) xs i a h =
     let b = digit-bounds d (a .0) in
@@ -93,12 +93,12 @@ over-digits s (d ∷ ds) xs i a h =
       z,
     )
 
-over-spaced : (s : List ℕ) (ds : List (List ℕ)) (i : ℕ) → Numerals ds → Stands s i (spaced ds ++ 41 ∷ [])
+over-spaced : (s : List ℕ) (ds : List (List ℕ)) (i : ℕ) → Numerals ds → StandsAt s i (spaced ds ++ 41 ∷ [])
     → spacesTo (drop i s) ≡ length ds
-unfolding spaced Numerals Stands
+unfolding spaced Numerals StandsAt
 over-spaced s [] i a h = spaces-next s i 41 (h .0) (omega arith)
 over-spaced s (d ∷ ds) i a h =
-    let rest : Stands s (i + 1) (d ++ (spaced ds ++ 41 ∷ [])) = rw (append-assoc d (spaced ds) (41 ∷ [])) at (h .1) in
+    let rest : StandsAt s (i + 1) (d ++ (spaced ds ++ 41 ∷ [])) = rw (append-assoc d (spaced ds) (41 ∷ [])) at (h .1) in
     spaces-next s i 32 (h .0) (omega arith)
     ∙ rw (
       over-digits s d (spaced ds ++ 41 ∷ []) (i + 1) (a .0 .all) rest,
@@ -108,19 +108,19 @@ over-spaced s (d ∷ ds) i a h =
     (omega arith)
 
 -- As many numbers as spaces, and one more; or none.
-counted : (s : List ℕ) (ns : List (List ℕ)) (i : ℕ) → Numerals ns → Stands s i (between ns ++ 41 ∷ [])
+counted : (s : List ℕ) (ns : List (List ℕ)) (i : ℕ) → Numerals ns → StandsAt s i (between ns ++ 41 ∷ [])
     → length ns ≡ cond (eqb (byteAt s i) 41) 0 (spacesTo (drop i s) + 1)
-unfolding between Numerals Stands AllDigits
+unfolding between Numerals StandsAt AllDigits
 counted s [] i a h = rw (h .0)
 counted s (d ∷ ds) i a h =
-    let text : Stands s i (d ++ (spaced ds ++ 41 ∷ [])) = rw (append-assoc d (spaced ds) (41 ∷ [])) at h in
+    let text : StandsAt s i (d ++ (spaced ds ++ 41 ∷ [])) = rw (append-assoc d (spaced ds) (41 ∷ [])) at h in
     let count : spacesTo (drop i s) ≡ length ds =
     over-digits s d (spaced ds ++ 41 ∷ []) i (a .0 .all) text
     ∙ over-spaced s ds (i + length d) (a .1) (stands-right s i d (spaced ds ++ 41 ∷ []) text)
     in
     rw (ne-eqb (byteAt s i) 41 (digit d (a .0) (spaced ds ++ 41 ∷ []) text), count) (omega arith)
   where
-    digit : (xs : List ℕ) → Numeral xs → (ys : List ℕ) → Stands s i (xs ++ ys) → byteAt s i ≡ 41 → ⊥
+    digit : (xs : List ℕ) → Numeral xs → (ys : List ℕ) → StandsAt s i (xs ++ ys) → byteAt s i ≡ 41 → ⊥
     digit [] n ys h e = omega (arith, n .some)
     digit (x ∷ xs) n ys h e = let b = digit-bounds x (n .all .0) in omega (arith, b .0, h .0, e)
 

@@ -14,9 +14,9 @@ use borrow.Author.Tests.{ltb-true, ltb-false}
 use Rattle.clocks.specs.stored.BoundedLaws.{and-true}
 use Rattle.codec.specs.Ascii.{ascii}
 use Rattle.rules.specs.Text.{byteAt}
-use Rattle.rules.specs.Fault.{Stands}
+use Rattle.rules.specs.Fault.{StandsAt}
 use Rattle.rules.specs.Formula.{Formula}
-use Rattle.rules.specs.Reader.{Reading, formed, refused, readRule}
+use Rattle.rules.specs.Reader.{Reading, formed, faulty, readRule}
 use Rattle.rules.specs.grammar.GrammarTheorem.{reader-first-fault}
 use Rattle.rules.specs.reading.WordLaws.{if-byte}
 use Rattle.line_pieces.specs.declared.Read.{Read}
@@ -36,9 +36,9 @@ use Rattle.line_laws.specs.says.LineNumbers.{stands-bytes}
 -- The bytes stand from place j on and are passed; or the first other one turns the line back by 1.
 unfoldable Headed : List ℕ → List ℕ → ℕ → Read → Type 0
 Headed s bs j r =
-    (Stands s j bs × ((i : ℕ) × (v : ℕ) × (r ≡ At i v)))
+    (StandsAt s j bs × ((i : ℕ) × (v : ℕ) × (r ≡ At i v)))
     ⊎ ((i : ℕ) × ((i < length bs)
-    × (Stands s j (take i bs) × ((byteAt s (j + i) ≡ byteAt bs i → ⊥) × (r ≡ Refused 1 (j + i))))))
+    × (StandsAt s j (take i bs) × ((byteAt s (j + i) ≡ byteAt bs i → ⊥) × (r ≡ Refused 1 (j + i))))))
 
 fault-stays : (s bs : List ℕ) (n i : ℕ) → thenBytes s bs (Refused n i) ≡ Refused n i
 unfolding thenBytes thenByte
@@ -46,7 +46,7 @@ fault-stays s [] n i = refl
 fault-stays s (b ∷ bs) n i = fault-stays s bs n i
 
 headed : (s bs : List ℕ) (j v : ℕ) → Headed s bs j (thenBytes s bs (At j v))
-unfolding Headed thenBytes thenByte Stands
+unfolding Headed thenBytes thenByte StandsAt
 headed s [] j v = inl (tt, (j, v, refl))
 headed s (b ∷ bs) j v =
     if-byte (λ (r : Read). Headed s (b ∷ bs) j (thenBytes s bs r)) (byteAt s j) b (At (j + 1) v) (Refused 1 j)
@@ -61,7 +61,7 @@ headed s (b ∷ bs) j v =
         inr (suc i, (omega arith, ((e, h), (rw z at f, rw z at q))))
 
 -- Where the bytes stand, the line does not depart from them.
-never-departs : (s bs : List ℕ) (i : ℕ) → Stands s 0 bs → Departs bs s i → ⊥
+never-departs : (s bs : List ℕ) (i : ℕ) → StandsAt s 0 bs → Departs bs s i → ⊥
 never-departs s bs i h d = let z : 0 + i ≡ i = omega arith in d .other (rw z at (stands-bytes s bs 0 i h (d .within)))
 
 departs-not-before : (s bs : List ℕ) (i j : ℕ) → i < j → Departs bs s i → Departs bs s j → ⊥
@@ -87,35 +87,35 @@ Answered s k (RuleRefused n i) = RuleFirstFault n s k i
 
 module _ (s : List ℕ) (k : ℕ) where
   -- Behind the head.
-  after-head : Stands s 0 (ascii "(rule ") → (t m j : ℕ) → t < 1 → RuleFault t m s k j → ⊥
+  after-head : StandsAt s 0 (ascii "(rule ") → (t m j : ℕ) → t < 1 → RuleFault t m s k j → ⊥
   unfolding RuleFault
   after-head h zero m j l (q, d) = never-departs s (ascii "(rule ") j h d
   after-head h (suc t) m j l f = omega arith
 
   -- And with a length within the limit.
-  after-length : Stands s 0 (ascii "(rule ") → length s ≤ lineLimit → (t m j : ℕ) → t < 2 → RuleFault t m s k j → ⊥
+  after-length : StandsAt s 0 (ascii "(rule ") → length s ≤ lineLimit → (t m j : ℕ) → t < 2 → RuleFault t m s k j → ⊥
   unfolding RuleFault
   after-length h short zero m j l f = after-head h zero m j (omega arith) f
   after-length h short (suc zero) m j l (q, (p, o)) = omega arith
   after-length h short (suc (suc t)) m j l f = omega arith
 
   -- And with a rule that is read.
-  after-rule : Stands s 0 (ascii "(rule ") → length s ≤ lineLimit → (e : ℕ) (g : Formula)
+  after-rule : StandsAt s 0 (ascii "(rule ") → length s ≤ lineLimit → (e : ℕ) (g : Formula)
       → readRule (ruleText s) k ≡ formed e g
       → (t m j : ℕ) → t < 3 → RuleFault t m s k j → ⊥
   unfolding RuleFault
   after-rule h short e g r zero m j l f = after-head h zero m j (omega arith) f
   after-rule h short e g r (suc zero) m j l f = after-length h short (suc zero) m j (omega arith) f
   after-rule h short e g r (suc (suc zero)) m j l f =
-      let q : formed e g ≡ refused m j = sym r ∙ reader-first-fault (ruleText s) k m j .1 f in
+      let q : formed e g ≡ faulty m j = sym r ∙ reader-first-fault (ruleText s) k m j .1 f in
       let z : _≡_ {A = ℕ} 0 1 = cc in
       omega arith
   after-rule h short e g r (suc (suc (suc t))) m j l f = omega arith
 
-  closed-answered : Stands s 0 (ascii "(rule ") → length s ≤ lineLimit → (r : Reading) → readRule (ruleText s) k ≡ r
+  closed-answered : StandsAt s 0 (ascii "(rule ") → length s ≤ lineLimit → (r : Reading) → readRule (ruleText s) k ≡ r
       → Answered s k (ruleClosed s r)
   unfolding Answered ruleClosed RuleFault
-  closed-answered h short (refused n i) e =
+  closed-answered h short (faulty n i) e =
       record { turn = 2; here = reader-first-fault (ruleText s) k n i .0 e; none-before = after-length h short }
   closed-answered h short (formed i f) e =
       if-byte (Answered s k) (byteAt s (length s - 1)) 41 (Rule 6 (length s - 1)) (RuleRefused 1 (length s - 1))
@@ -167,7 +167,7 @@ module _ (s : List ℕ) (k : ℕ) where
   same-turn zero n m i j (a, d) (b, e) = (a ∙ sym b, departs-once s (ascii "(rule ") i j d e)
   same-turn (suc zero) n m i j (a, (p, _)) (b, (q, _)) = (a ∙ sym b, p ∙ sym q)
   same-turn (suc (suc zero)) n m i j x y =
-      let e : refused n i ≡ refused m j =
+      let e : faulty n i ≡ faulty m j =
       sym (reader-first-fault (ruleText s) k n i .1 x) ∙ reader-first-fault (ruleText s) k m j .1 y in (cc, cc)
   same-turn (suc (suc (suc zero))) n m i j (a, (p, _)) (b, (q, _)) = (a ∙ sym b, p ∙ sym q)
   same-turn (suc (suc (suc (suc t)))) n m i j x y = absurd x

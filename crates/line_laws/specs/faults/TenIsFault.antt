@@ -15,12 +15,12 @@ use Rattle.line_pieces.specs.declared.Read.the-variants.{At, Refused}
 use Rattle.codec.specs.Decimal.{isDigit, digits, value}
 use Rattle.line_pieces.specs.Number.{numberOf, numberAt}
 use Rattle.line_pieces.specs.NumberLaws.{digits-next, digits-end, digits-first}
-use Rattle.line_laws.specs.Grammar.{Numeral, Numerals, spaced, between, Piece, one, number, list, spacedList}
+use Rattle.line_laws.specs.Grammar.{Numeral, Numerals, spaced, between, Piece, aByte, aNumber, list, spacedList}
 use Rattle.line_laws.specs.pieces.ReadPieces.{if-test, readPiece}
 use Rattle.line_laws.specs.Fault.{NumberOut, trailed, leastBehind, Miscounted, TenIn}
 use Rattle.line_laws.specs.pieces.NumberTextRead.{if-known}
 use Rattle.line_pieces.specs.Reading.{thenByte, thenNumber}
-use Rattle.line_pieces.specs.NumberList.{Listed, afterNumber, numbersAt, thenList, thenSpacedList, thenClose}
+use Rattle.line_pieces.specs.NumberList.{ListRead, afterNumber, numbersAt, thenList, thenSpacedList, thenClose}
 use Rattle.line_laws.specs.pieces.PieceBegun.{digits-all}
 use Rattle.rules.specs.Fault.{Span}
 
@@ -126,7 +126,7 @@ numbers-judged (suc left) s ascending most least ns j =
         (afterNumber s ascending (numbersAt left s ascending most) ns r .read)
     go (Refused n i) q further = λ h. let w = q h in ([], (tt, (rw (w .0) (span-nil s j), rw (w .0) (w .1))))
     go (At e v) (m, (p, w)) further =
-        if-known (λ (x : Listed). ListJudged s ascending most least (length ns) j (x .read)) (eqb (byteAt s e) 32) _ _
+        if-known (λ (x : ListRead). ListJudged s ascending most least (length ns) j (x .read)) (eqb (byteAt s e) 32) _ _
         (λ t. let more = further (cond ascending (v + 1) 0) (ns ++ v ∷ []) (e + 1) in
         let count : length (ns ++ v ∷ []) ≡ length ns + 1 = length-append ns (v ∷ []) in
         list-more s ascending most least (length ns) j (e + 1) (digits (drop j s))
@@ -180,7 +180,7 @@ pub list-judged : (s : List ℕ) (ascending : Bool) (most j v : ℕ)
     → InnerJudged between (ListOut s ascending most j) s j (thenList s ascending most (At j v) .read)
 unfolding InnerJudged thenList Numerals between
 list-judged s ascending most j v =
-    if-test (λ (x : Listed). InnerJudged between (ListOut s ascending most j) s j (x .read)) (eqb (byteAt s j) 41) _ _
+    if-test (λ (x : ListRead). InnerJudged between (ListOut s ascending most j) s j (x .read)) (eqb (byteAt s j) 41) _ _
     ([], (tt, (span-nil s j, refl)))
     (inner-judged s ascending most j _ (numbers-judged (length s + 1) s ascending most 0 [] j))
 
@@ -219,7 +219,7 @@ spaced-judged : (s : List ℕ) (most j v : ℕ)
     → InnerJudged spaced (SpacedOut s most j) s j (thenSpacedList s most (At j v) .read)
 unfolding InnerJudged thenSpacedList Numerals spaced
 spaced-judged s most j v =
-    if-known (λ (x : Listed). InnerJudged spaced (SpacedOut s most j) s j (x .read)) (eqb (byteAt s j) 32) _ _
+    if-known (λ (x : ListRead). InnerJudged spaced (SpacedOut s most j) s j (x .read)) (eqb (byteAt s j) 32) _ _
     (λ t. spaced-inner s most j _ (eqb-true (byteAt s j) 32 t)
     (numbers-judged (length s + 1) s false most 0 [] (j + 1)))
     (λ _. ([], (tt, (span-nil s j, refl))))
@@ -233,8 +233,8 @@ byte-not-ten s b k v i q =
 
 pub piece-ten : (s : List ℕ) (p : Piece) (j v i : ℕ) → readPiece s p (At j v) ≡ Refused 10 i → TenIn p s j i
 unfolding readPiece TenIn thenNumber thenByte Judged
-piece-ten s (one b) j v i q = byte-not-ten s b j v i q
-piece-ten s (number least most b) j v i q = go (numberAt s j least most) (number-judged s j least most) q
+piece-ten s (aByte b) j v i q = byte-not-ten s b j v i q
+piece-ten s (aNumber least most b) j v i q = go (numberAt s j least most) (number-judged s j least most) q
   where
     go : (r : Read) → Judged s j least most r → thenByte s b r ≡ Refused 10 i → (i ≡ j) × NumberOut s i least most
     go (At k w) g e = absurd (byte-not-ten s b k w i e)

@@ -11,7 +11,7 @@ use lib.Dec.{leb}
 use lib.ListN.{length, length-append, drop}
 use borrow.Author.Tests.{eq-eqb, ne-eqb, lt-leb}
 use Rattle.rules.specs.Text.{byteAt}
-use Rattle.rules.specs.Fault.{Stands, Span}
+use Rattle.rules.specs.Fault.{StandsAt, Span}
 use Rattle.rules.specs.reading.WordLaws.{span-byte, span-append}
 use Rattle.line_pieces.specs.declared.Read.{Read}
 use Rattle.line_pieces.specs.declared.Read.the-variants.{At, Refused}
@@ -20,7 +20,7 @@ use Rattle.line_pieces.specs.Number.{numberOf, numberAt}
 use Rattle.line_pieces.specs.NumberLaws.{inside, digit-bounds, digits-next, digits-end}
 use Rattle.line_pieces.specs.Reading.{thenByte, thenNumber}
 use Rattle.line_pieces.specs.NumberList.{afterNumber, numbersAt, allNumbersAt, thenList, thenSpacedList, thenClose}
-use Rattle.line_laws.specs.Grammar.{AllDigits, Numeral, Numerals, spaced, between, Piece, one, number, list, spacedList, PieceText}
+use Rattle.line_laws.specs.Grammar.{AllDigits, Numeral, Numerals, spaced, between, Piece, aByte, aNumber, list, spacedList, PieceText}
 use Rattle.line_laws.specs.Fault.{NumberOut, trailed, leastBehind, TenIn}
 use Rattle.line_laws.specs.pieces.ReadPieces.{if-test, readPiece}
 use Rattle.line_laws.specs.pieces.NumberTextRead.{plain-test}
@@ -38,8 +38,8 @@ StopsBefore e r = (n : ℕ) × (k : ℕ) × ((r ≡ Refused n k) × (k < e))
 
 -- Digits that stand before another byte are all the digits there.
 pub exact-digits : (s : List ℕ) (ds : List ℕ) (i c : ℕ) (xs : List ℕ) → AllDigits ds → isDigit c ≡ false
-    → Stands s i (ds ++ c ∷ xs) → digits (drop i s) ≡ ds
-unfolding AllDigits Stands
+    → StandsAt s i (ds ++ c ∷ xs) → digits (drop i s) ≡ ds
+unfolding AllDigits StandsAt
 exact-digits s [] i c xs a q h = digits-end s i (rw (h .0) q)
 exact-digits s (d ∷ ds) i c xs a q h =
     digits-next s i (rw (h .0) (a .0)) ∙ rw (h .0, exact-digits s ds (i + 1) c xs (a .1) q (h .1))
@@ -73,7 +73,7 @@ numeral-judged (d ∷ ds) i least most n =
     (inl refl) (inr refl))
 
 pub number-passes : (s : List ℕ) (ds : List ℕ) (i c : ℕ) (xs : List ℕ) (least most : ℕ) → Numeral ds
-    → isDigit c ≡ false → Stands s i (ds ++ c ∷ xs)
+    → isDigit c ≡ false → StandsAt s i (ds ++ c ∷ xs)
     → (numberAt s i least most ≡ At (i + length ds) (value ds)) ⊎ (numberAt s i least most ≡ Refused 10 i)
 unfolding numberAt
 number-passes s ds i c xs least most n q h =
@@ -82,19 +82,19 @@ number-passes s ds i c xs least most n q h =
 -- ---- Lists
 
 -- A text in two parts.
-pub stands-left : (s : List ℕ) (i : ℕ) (xs ys : List ℕ) → Stands s i (xs ++ ys) → Stands s i xs
-unfolding Stands
+pub stands-left : (s : List ℕ) (i : ℕ) (xs ys : List ℕ) → StandsAt s i (xs ++ ys) → StandsAt s i xs
+unfolding StandsAt
 stands-left s i [] ys h = tt
 stands-left s i (x ∷ xs) ys h = (h .0, stands-left s (i + 1) xs ys (h .1))
 
-pub stands-right : (s : List ℕ) (i : ℕ) (xs ys : List ℕ) → Stands s i (xs ++ ys) → Stands s (i + length xs) ys
-unfolding Stands
+pub stands-right : (s : List ℕ) (i : ℕ) (xs ys : List ℕ) → StandsAt s i (xs ++ ys) → StandsAt s (i + length xs) ys
+unfolding StandsAt
 stands-right s i [] ys h = rw (add-zero i) h
 stands-right s i (x ∷ xs) ys h = let z : i + 1 + length xs ≡ i + suc (length xs) = omega arith in
     rw (← z) (stands-right s (i + 1) xs ys (h .1))
 
-pub first-inside : (s : List ℕ) (i : ℕ) (ds xs : List ℕ) → Numeral ds → Stands s i (ds ++ xs) → i < length s
-unfolding AllDigits Stands
+pub first-inside : (s : List ℕ) (i : ℕ) (ds xs : List ℕ) → Numeral ds → StandsAt s i (ds ++ xs) → i < length s
+unfolding AllDigits StandsAt
 first-inside s i [] xs n h = absurd (omega (arith, n .some))
 first-inside s i (d ∷ ds) xs n h = let b = digit-bounds d (n .all .0) in inside s i (omega (arith, h .0, b .1))
 
@@ -109,11 +109,11 @@ pub record Due (s : List ℕ) (ascending : Bool) (most least i : ℕ) (count : �
 
 pub trailed-due : (ns : List (List ℕ)) (left : ℕ) (s : List ℕ) (ascending : Bool) (most least : ℕ) (acc : List ℕ)
     (j : ℕ) → Numerals ns
-    → length s < j + left → Stands s j (trailed ns)
+    → length s < j + left → StandsAt s j (trailed ns)
     → StopsBefore (j + length (trailed ns)) (numbersAt left s ascending most least acc j .read)
     ⊎ Due s ascending most (leastBehind ascending least ns) (j + length (trailed ns)) (length acc + length ns)
     (numbersAt left s ascending most least acc j .read)
-unfolding trailed Numerals leastBehind numbersAt afterNumber Stands
+unfolding trailed Numerals leastBehind numbersAt afterNumber StandsAt
 trailed-due [] left s ascending most least acc j a f h =
     inr (record { left = left; before = acc; goes = rw (add-zero j); enough = omega arith; counted = omega arith })
 trailed-due (d ∷ ds) zero s ascending most least acc j a f h =
@@ -122,14 +122,14 @@ trailed-due (d ∷ ds) (suc left) s ascending most least acc j a f h =
     go (numberAt s j least most) (number-passes s d j 32 (trailed ds) least most (a .0) refl h)
     (λ (x : ℕ) (l : List ℕ) (e : ℕ) p q. trailed-due ds left s ascending most x l e (a .1) p q)
   where
-    right : Stands s (j + length d) (32 ∷ trailed ds)
+    right : StandsAt s (j + length d) (32 ∷ trailed ds)
     right = stands-right s j d (32 ∷ trailed ds) h
 
     total : j + length d + 1 + length (trailed ds) ≡ j + length (d ++ 32 ∷ trailed ds)
     total = omega (arith, length-append d (32 ∷ trailed ds))
 
     go : (r : Read) → (r ≡ At (j + length d) (value d)) ⊎ (r ≡ Refused 10 j)
-        → ((x : ℕ) (l : List ℕ) (e : ℕ) → length s < e + left → Stands s e (trailed ds)
+        → ((x : ℕ) (l : List ℕ) (e : ℕ) → length s < e + left → StandsAt s e (trailed ds)
         → StopsBefore (e + length (trailed ds)) (numbersAt left s ascending most x l e .read)
         ⊎ Due s ascending most (leastBehind ascending x ds) (e + length (trailed ds)) (length l + length ds)
         (numbersAt left s ascending most x l e .read))
@@ -148,11 +148,11 @@ trailed-due (d ∷ ds) (suc left) s ascending most least acc j a f h =
 -- Numbers with spaces between and the closing bracket behind them are all read and counted; or it has stopped.
 between-read : (ds : List (List ℕ)) (left : ℕ) (s : List ℕ) (ascending : Bool) (most least : ℕ) (acc : List ℕ) (j : ℕ)
     (d : List ℕ) → Numeral d → Numerals ds
-    → length s < j + left → Stands s j (d ++ (spaced ds ++ 41 ∷ []))
+    → length s < j + left → StandsAt s j (d ++ (spaced ds ++ 41 ∷ []))
     → StopsBefore (j + length (d ++ spaced ds)) (numbersAt left s ascending most least acc j .read)
     ⊎ (numbersAt left s ascending most least acc j .read
     ≡ At (j + length (d ++ spaced ds)) (length acc + suc (length ds)))
-unfolding spaced Numerals numbersAt afterNumber Stands
+unfolding spaced Numerals numbersAt afterNumber StandsAt
 between-read ds zero s ascending most least acc j d n a f h =
     absurd (let p = first-inside s j d (spaced ds ++ 41 ∷ []) n h in omega (arith, p))
 between-read [] (suc left) s ascending most least acc j d n a f h =
@@ -171,14 +171,14 @@ between-read (g ∷ gs) (suc left) s ascending most least acc j d n a f h =
     go (numberAt s j least most) (number-passes s d j 32 ((g ++ spaced gs) ++ 41 ∷ []) least most n refl h)
     (λ (x : ℕ) (l : List ℕ) (e : ℕ) p q. between-read gs left s ascending most x l e g (a .0) (a .1) p q)
   where
-    right : Stands s (j + length d) (32 ∷ ((g ++ spaced gs) ++ 41 ∷ []))
+    right : StandsAt s (j + length d) (32 ∷ ((g ++ spaced gs) ++ 41 ∷ []))
     right = stands-right s j d (32 ∷ ((g ++ spaced gs) ++ 41 ∷ [])) h
 
     total : j + length d + 1 + length (g ++ spaced gs) ≡ j + length (d ++ 32 ∷ (g ++ spaced gs))
     total = omega (arith, length-append d (32 ∷ (g ++ spaced gs)))
 
     go : (r : Read) → (r ≡ At (j + length d) (value d)) ⊎ (r ≡ Refused 10 j)
-        → ((x : ℕ) (l : List ℕ) (e : ℕ) → length s < e + left → Stands s e (g ++ (spaced gs ++ 41 ∷ []))
+        → ((x : ℕ) (l : List ℕ) (e : ℕ) → length s < e + left → StandsAt s e (g ++ (spaced gs ++ 41 ∷ []))
         → StopsBefore (e + length (g ++ spaced gs)) (numbersAt left s ascending most x l e .read)
         ⊎ (numbersAt left s ascending most x l e .read ≡ At (e + length (g ++ spaced gs)) (length l + suc (length gs))))
         → StopsBefore (j + length (d ++ 32 ∷ (g ++ spaced gs)))
@@ -194,7 +194,7 @@ between-read (g ∷ gs) (suc left) s ascending most least acc j d n a f h =
         (rw (append-assoc g (spaced gs) (41 ∷ [])) at (right .1)))
 
 all-run : (s : List ℕ) (ascending : Bool) (most j : ℕ) (d : List ℕ) (ds : List (List ℕ)) → Numeral d → Numerals ds
-    → Stands s j (d ++ (spaced ds ++ 41 ∷ []))
+    → StandsAt s j (d ++ (spaced ds ++ 41 ∷ []))
     → StopsBefore (j + length (d ++ spaced ds)) (allNumbersAt s ascending most j .read)
     ⊎ (allNumbersAt s ascending most j .read ≡ At (j + length (d ++ spaced ds)) (suc (length ds)))
 all-run s ascending most j d ds n a h =
@@ -206,25 +206,25 @@ abbrev Ran : ℕ → ℕ → Read → Type 0
 Ran e n r = StopsBefore e r ⊎ (r ≡ At e n)
 
 list-run : (s : List ℕ) (ascending : Bool) (most j v : ℕ) (ns : List (List ℕ)) → Numerals ns
-    → Stands s j (between ns ++ 41 ∷ [])
+    → StandsAt s j (between ns ++ 41 ∷ [])
     → Ran (j + length (between ns)) (length ns) (thenList s ascending most (At j v) .read)
-unfolding thenList between Numerals Stands AllDigits
+unfolding thenList between Numerals StandsAt AllDigits
 list-run s ascending most j v [] a h = rw (h .0) (inr (rw (add-zero j)))
 list-run s ascending most j v (d ∷ ds) a h =
-    let h′ : Stands s j (d ++ (spaced ds ++ 41 ∷ [])) = rw (append-assoc d (spaced ds) (41 ∷ [])) at h in
+    let h′ : StandsAt s j (d ++ (spaced ds ++ 41 ∷ [])) = rw (append-assoc d (spaced ds) (41 ∷ [])) at h in
     rw (ne-eqb (byteAt s j) 41 (λ e. bracket d (a .0) (spaced ds ++ 41 ∷ []) h′ e))
     (all-run s ascending most j d ds (a .0) (a .1) h′)
   where
-    bracket : (xs : List ℕ) → Numeral xs → (ys : List ℕ) → Stands s j (xs ++ ys) → byteAt s j ≡ 41 → ⊥
+    bracket : (xs : List ℕ) → Numeral xs → (ys : List ℕ) → StandsAt s j (xs ++ ys) → byteAt s j ≡ 41 → ⊥
     bracket [] n ys q e = omega (arith, n .some)
     bracket (x ∷ xs) n ys q e = let b = digit-bounds x (n .all .0) in omega (arith, b .0, q .0)
 
-spaced-run : (s : List ℕ) (most j v : ℕ) (ns : List (List ℕ)) → Numerals ns → Stands s j (spaced ns ++ 41 ∷ [])
+spaced-run : (s : List ℕ) (most j v : ℕ) (ns : List (List ℕ)) → Numerals ns → StandsAt s j (spaced ns ++ 41 ∷ [])
     → Ran (j + length (spaced ns)) (length ns) (thenSpacedList s most (At j v) .read)
-unfolding thenSpacedList spaced Numerals Stands
+unfolding thenSpacedList spaced Numerals StandsAt
 spaced-run s most j v [] a h = rw (h .0) (inr (rw (add-zero j)))
 spaced-run s most j v (d ∷ ds) a h =
-    let h′ : Stands s (j + 1) (d ++ (spaced ds ++ 41 ∷ [])) = rw (append-assoc d (spaced ds) (41 ∷ [])) at (h .1) in
+    let h′ : StandsAt s (j + 1) (d ++ (spaced ds ++ 41 ∷ [])) = rw (append-assoc d (spaced ds) (41 ∷ [])) at (h .1) in
     let z : j + 1 + length (d ++ spaced ds) ≡ j + suc (length (d ++ spaced ds)) = omega arith in
     rw (h .0, ← z) (all-run s false most (j + 1) d ds (a .0) (a .1) h′)
 
@@ -273,8 +273,8 @@ out-digit s i least most (n, o) = go (isDigit (byteAt s i)) refl
     go true e = refl
     go false e = absurd (omega (arith, n .some, ap length (digits-end s i e)))
 
-digit-first : (s : List ℕ) (j : ℕ) (d xs : List ℕ) → Numeral d → Stands s j (d ++ xs) → isDigit (byteAt s j) ≡ true
-unfolding Stands AllDigits
+digit-first : (s : List ℕ) (j : ℕ) (d xs : List ℕ) → Numeral d → StandsAt s j (d ++ xs) → isDigit (byteAt s j) ≡ true
+unfolding StandsAt AllDigits
 digit-first s j [] xs n h = absurd (omega (arith, n .some))
 digit-first s j (x ∷ d) xs n h = rw (h .0) (n .all .0)
 
@@ -305,13 +305,13 @@ trailed-stops s ascending most j i ns a p o =
 
 -- ---- Pieces
 
-span-then : (s : List ℕ) (j i b : ℕ) (x : List ℕ) → Span s j x i → byteAt s i ≡ b → Stands s j (x ++ b ∷ [])
+span-then : (s : List ℕ) (j i b : ℕ) (x : List ℕ) → Span s j x i → byteAt s i ≡ b → StandsAt s j (x ++ b ∷ [])
 span-then s j i b x p e = span-append p (span-byte s i b e) .stands
 
 pub piece-stops : (s : List ℕ) (p : Piece) (j v i : ℕ) → TenIn p s j i → Stops i (readPiece s p (At j v))
-unfolding TenIn readPiece thenNumber thenByte thenList thenSpacedList Stands
-piece-stops s (one b) j v i t = absurd t
-piece-stops s (number least most b) j v i (e, o) = let q : numberAt s j least most ≡ Refused 10 j =
+unfolding TenIn readPiece thenNumber thenByte thenList thenSpacedList StandsAt
+piece-stops s (aByte b) j v i t = absurd t
+piece-stops s (aNumber least most b) j v i (e, o) = let q : numberAt s j least most ≡ Refused 10 j =
     number-stops s j least most (rw e at o) in
     rw q (10, j, (refl, omega arith))
 piece-stops s (list ascending most fewest fullest) j v i (inl (ns, (a, (p, o)))) =
@@ -341,12 +341,12 @@ Passes e r = ((w : ℕ) × (r ≡ At e w)) ⊎ StopsBefore e r
 
 pub piece-passes : (s : List ℕ) (p : Piece) (x : List ℕ) (j v e : ℕ) → PieceText p x → Ended p → Span s j x e
     → Passes e (readPiece s p (At j v))
-unfolding PieceText readPiece thenNumber thenByte Stands Passes
-piece-passes s (one b) x j v e t d p =
+unfolding PieceText readPiece thenNumber thenByte StandsAt Passes
+piece-passes s (aByte b) x j v e t d p =
     let p′ : Span s j (b ∷ []) e = rw t at p in
     let z : e ≡ j + 1 = p′ .ends in
     rw (z, eq-eqb (byteAt s j) b (p′ .stands .0)) (inl (v, refl))
-piece-passes s (number least most b) x j v e (ds, (n, t)) d p =
+piece-passes s (aNumber least most b) x j v e (ds, (n, t)) d p =
     go (numberAt s j least most) (number-passes s ds j b [] least most n (d .0) (p′ .stands))
   where
     p′ : Span s j (ds ++ b ∷ []) e

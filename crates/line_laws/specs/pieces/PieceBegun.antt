@@ -18,9 +18,9 @@ use Rattle.line_pieces.specs.declared.Read.the-variants.{At, Refused}
 use Rattle.codec.specs.Decimal.{isDigit, digits, value}
 use Rattle.line_pieces.specs.Number.{numberOf, numberAt}
 use Rattle.line_pieces.specs.NumberLaws.{digit-bounds, digits-first}
-use Rattle.line_laws.specs.Grammar.{AllDigits, Numeral, Numerals, spaced, between, Piece, one, number, list, spacedList, PieceText, TextOf}
+use Rattle.line_laws.specs.Grammar.{AllDigits, Numeral, Numerals, spaced, between, Piece, aByte, aNumber, list, spacedList, PieceText, TextOf}
 use Rattle.line_pieces.specs.Reading.{thenByte, thenNumber}
-use Rattle.line_pieces.specs.NumberList.{Listed, afterNumber, numbersAt, thenList, thenSpacedList, thenClose}
+use Rattle.line_pieces.specs.NumberList.{ListRead, afterNumber, numbersAt, thenList, thenSpacedList, thenClose}
 use Rattle.line_laws.specs.pieces.ReadPieces.{if-test, readPiece, readPieces, pieces-stay}
 use Rattle.line_laws.specs.pieces.PieceTextRead.{Ended, AllEnded}
 use Rattle.line_laws.specs.pieces.NumberTextRead.{if-known}
@@ -154,7 +154,7 @@ numbers-stood (suc left) s bs ascending most least ns i b =
         → NumbersStood s bs (afterNumber s ascending (numbersAt left s ascending most) ns r .read)
     go (Refused n j) (d, (m, q)) further = (d, [], (m, (tt, rw (append-nil d) q)))
     go (At j v) (d, (m, q)) further =
-        if-byte (λ (x : Listed). NumbersStood s bs (x .read)) (byteAt s j) 32 _ _
+        if-byte (λ (x : ListRead). NumbersStood s bs (x .read)) (byteAt s j) 32 _ _
         (λ e. let x = cond ascending (v + 1) 0 in
         let l = ns ++ v ∷ [] in
         let c : Begun s (bs ++ (d ++ 32 ∷ [])) (j + 1) =
@@ -220,7 +220,7 @@ list-stood : (s bs : List ℕ) (ascending : Bool) (most i v : ℕ) → Begun s b
     → Stood Inner s bs (thenList s ascending most (At i v) .read)
 unfolding thenList Stood Numerals between
 list-stood s bs ascending most i v b =
-    if-test (λ (x : Listed). Stood Inner s bs (x .read)) (eqb (byteAt s i) 41) _ _
+    if-test (λ (x : ListRead). Stood Inner s bs (x .read)) (eqb (byteAt s i) 41) _ _
     ([], (([], (tt, refl)), rw (append-nil bs) b))
     (inner-stood s bs _ (numbers-stood (length s + 1) s bs ascending most 0 [] i b))
 
@@ -228,7 +228,7 @@ spacedList-stood : (s bs : List ℕ) (most i v : ℕ) → Begun s bs i
     → Stood SpacedInner s bs (thenSpacedList s most (At i v) .read)
 unfolding thenSpacedList Stood Numerals spaced
 spacedList-stood s bs most i v b =
-    if-byte (λ (x : Listed). Stood SpacedInner s bs (x .read)) (byteAt s i) 32 _ _
+    if-byte (λ (x : ListRead). Stood SpacedInner s bs (x .read)) (byteAt s i) 32 _ _
     (λ e. spaced-stood s bs _
     (numbers-stood (length s + 1) s (bs ++ 32 ∷ []) false most 0 [] (i + 1) (begun-next b e (omega arith))))
     (λ _. ([], (([], (tt, refl)), rw (append-nil bs) b)))
@@ -241,13 +241,13 @@ numeral-stood s bs (Refused n j) q = q
 pub piece-stood : (s bs : List ℕ) (p : Piece) (i v : ℕ) → Ended p → Begun s bs i
     → Stood (PieceText p) s bs (readPiece s p (At i v))
 unfolding readPiece PieceText thenNumber Stood
-piece-stood s bs (one b) i v d g =
+piece-stood s bs (aByte b) i v d g =
     stood-byte (λ (x : List ℕ). x ≡ []) (λ (x : List ℕ). x ≡ b ∷ []) s bs b (At i v) d (λ x e. rw e) (here g)
   where
     here : Begun s bs i → Stood (λ (x : List ℕ). x ≡ []) s bs (At i v)
     here q = ([], (refl, rw (append-nil bs) q))
-piece-stood s bs (number least most b) i v d g =
-    stood-byte Numeral (PieceText (number least most b)) s bs b (numberAt s i least most) (d .1) (λ x n. (x, (n, refl)))
+piece-stood s bs (aNumber least most b) i v d g =
+    stood-byte Numeral (PieceText (aNumber least most b)) s bs b (numberAt s i least most) (d .1) (λ x n. (x, (n, refl)))
     (numeral-stood s bs _ (number-stood s bs i least most g))
 piece-stood s bs (list ascending most fewest fullest) i v d g =
     stood-close Inner (PieceText (list ascending most fewest fullest)) s bs fewest fullest
@@ -263,8 +263,8 @@ piece-stood s bs (spacedList most fewest fullest) i v d g =
 -- Each piece has a text.
 sample : (p : Piece) → (x : List ℕ) × PieceText p x
 unfolding PieceText Numerals between spaced
-sample (one b) = (b ∷ [], refl)
-sample (number least most b) = (48 ∷ b ∷ [], (48 ∷ [], (numeral-one 48 refl, refl)))
+sample (aByte b) = (b ∷ [], refl)
+sample (aNumber least most b) = (48 ∷ b ∷ [], (48 ∷ [], (numeral-one 48 refl, refl)))
 sample (list ascending most fewest fullest) = (41 ∷ [], ([], (tt, refl)))
 sample (spacedList most fewest fullest) = (41 ∷ [], ([], (tt, refl)))
 

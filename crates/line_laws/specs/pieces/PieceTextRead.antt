@@ -19,8 +19,8 @@ use Rattle.codec.specs.Decimal.{isDigit}
 use Rattle.line_pieces.specs.Number.{numberAt}
 use Rattle.line_pieces.specs.NumberLaws.{inside, digit-bounds}
 use Rattle.line_pieces.specs.Reading.{thenByte, thenNumber}
-use Rattle.line_pieces.specs.NumberList.{Listed, afterNumber, numbersAt, allNumbersAt, thenList, thenSpacedList, thenClose}
-use Rattle.line_laws.specs.Grammar.{AllDigits, Numeral, Numerals, spaced, between, Piece, one, number, list, spacedList, PieceText, TextOf}
+use Rattle.line_pieces.specs.NumberList.{ListRead, afterNumber, numbersAt, allNumbersAt, thenList, thenSpacedList, thenClose}
+use Rattle.line_laws.specs.Grammar.{AllDigits, Numeral, Numerals, spaced, between, Piece, aByte, aNumber, list, spacedList, PieceText, TextOf}
 use Rattle.line_laws.specs.pieces.ReadPieces.{readPiece, readPieces, placeIn, if-test, numbers-from, piece-from, piece-stays}
 use Rattle.line_laws.specs.pieces.NumberTextRead.{Behind, Near, byte-met, number-met}
 
@@ -45,7 +45,7 @@ late-after : (m : ℕ) (s : List ℕ) (ascending : Bool) (left most : ℕ) (ns :
     → Near m e (afterNumber s ascending (numbersAt left s ascending most) ns (At j v) .read)
 unfolding afterNumber placeIn
 late-after m s ascending left most ns j v e l =
-    if-test (λ (x : Listed). Near m e (x .read)) (eqb (byteAt s j) 32) _ _
+    if-test (λ (x : ListRead). Near m e (x .read)) (eqb (byteAt s j) 32) _ _
     (let q = numbers-from left s ascending most (cond ascending (v + 1) 0) (ns ++ v ∷ []) (j + 1) in
     inr (inl (omega (arith, q, l)))) (inr (inl l))
 
@@ -129,7 +129,7 @@ list-late : (m : ℕ) (s : List ℕ) (ascending : Bool) (most i v e : ℕ) → m
     → Near m e (thenList s ascending most (At i v) .read)
 unfolding thenList placeIn
 list-late m s ascending most i v e l =
-    if-test (λ (x : Listed). Near m e (x .read)) (eqb (byteAt s i) 41) _ _ (inr (inl l))
+    if-test (λ (x : ListRead). Near m e (x .read)) (eqb (byteAt s i) 41) _ _ (inr (inl l))
     (let q = numbers-from (length s + 1) s ascending most 0 [] i in inr (inl (omega (arith, q, l))))
 
 list-met : (m : ℕ) (s : List ℕ) (ascending : Bool) (most i v : ℕ) (ns : List (List ℕ)) → Numerals ns
@@ -148,7 +148,7 @@ list-met m s ascending most i v (d ∷ ds) a h =
 spaced-late : (m : ℕ) (s : List ℕ) (most i v e : ℕ) → m ≤ i → Near m e (thenSpacedList s most (At i v) .read)
 unfolding thenSpacedList placeIn
 spaced-late m s most i v e l =
-    if-test (λ (x : Listed). Near m e (x .read)) (eqb (byteAt s i) 32) _ _
+    if-test (λ (x : ListRead). Near m e (x .read)) (eqb (byteAt s i) 32) _ _
     (let q = numbers-from (length s + 1) s false most 0 [] (i + 1) in inr (inl (omega (arith, q, l)))) (inr (inl l))
 
 spaced-met : (m : ℕ) (s : List ℕ) (most i v : ℕ) (ns : List (List ℕ)) → Numerals ns
@@ -167,8 +167,8 @@ spaced-met m s most i v (d ∷ ds) a h =
 
 -- A piece whose own bytes are bytes, and whose number ends at its byte.
 abbrev pub Ended : Piece → Type 0
-Ended (one b) = b < 256
-Ended (number least most b) = (isDigit b ≡ false) × (b < 256)
+Ended (aByte b) = b < 256
+Ended (aNumber least most b) = (isDigit b ≡ false) × (b < 256)
 Ended (list ascending most fewest fullest) = Unit {0}
 Ended (spacedList most fewest fullest) = Unit {0}
 
@@ -188,9 +188,9 @@ byte-near m s b i (Refused n j) h (inr q) = inr q
 piece-read : (m : ℕ) (s : List ℕ) (p : Piece) (x : List ℕ) (i v : ℕ) → PieceText p x → Ended p → StandsTo m s i x
     → Near m (i + length x) (readPiece s p (At i v))
 unfolding PieceText readPiece StandsTo thenNumber
-piece-read m s (one b) x i v e d h = let h′ : StandsTo m s i (b ∷ []) = rw e at h in
+piece-read m s (aByte b) x i v e d h = let h′ : StandsTo m s i (b ∷ []) = rw e at h in
     rw e (byte-met m s b i (At i v) (h′ .0) (v, refl))
-piece-read m s (number least most b) x i v (ds, (n, e)) d h =
+piece-read m s (aNumber least most b) x i v (ds, (n, e)) d h =
     let h′ : StandsTo m s i (ds ++ b ∷ []) = rw e at h in
     let ends : i + length ds + 1 ≡ i + length x = omega (arith, ap length e, length-append ds (b ∷ [])) in
     rw (← ends) (byte-near m s b (i + length ds) _ (standsTo-right m s i ds (b ∷ []) h′ .0)

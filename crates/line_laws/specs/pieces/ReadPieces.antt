@@ -13,13 +13,13 @@ use Rattle.line_pieces.specs.declared.Read.the-variants.{At, Refused}
 use Rattle.codec.specs.Decimal.{digits, value}
 use Rattle.line_pieces.specs.Number.{numberOf, numberAt}
 use Rattle.line_pieces.specs.Reading.{thenByte, thenNumber}
-use Rattle.line_pieces.specs.NumberList.{Listed, afterNumber, numbersAt, thenList, thenSpacedList, thenClose}
-use Rattle.line_laws.specs.Grammar.{Piece, one, number, list, spacedList}
+use Rattle.line_pieces.specs.NumberList.{ListRead, afterNumber, numbersAt, thenList, thenSpacedList, thenClose}
+use Rattle.line_laws.specs.Grammar.{Piece, aByte, aNumber, list, spacedList}
 
 -- A piece read, and pieces one after the other.
 unfoldable pub readPiece : List ℕ → Piece → Read → Read
-readPiece s (one b) r = thenByte s b r
-readPiece s (number least most b) r = thenByte s b (thenNumber s least most r)
+readPiece s (aByte b) r = thenByte s b r
+readPiece s (aNumber least most b) r = thenByte s b (thenNumber s least most r)
 readPiece s (list ascending most fewest fullest) r = thenClose s fewest fullest (thenList s ascending most r .read)
 readPiece s (spacedList most fewest fullest) r = thenClose s fewest fullest (thenSpacedList s most r .read)
 
@@ -60,7 +60,7 @@ numbers-from (suc left) s ascending most least ns i =
     go (λ (x : ℕ) (l : List ℕ) (j : ℕ). numbers-from left s ascending most x l j) (numberAt s i least most)
     (number-from s i least most)
   where
-    From : Listed → Type 0
+    From : ListRead → Type 0
     From l = i ≤ placeIn (l .read)
 
     go : ((x : ℕ) (l : List ℕ) (j : ℕ) → j ≤ placeIn (numbersAt left s ascending most x l j .read)) → (r : Read)
@@ -88,14 +88,14 @@ list-from : (s : List ℕ) (ascending : Bool) (most : ℕ) (r : Read)
     → placeIn r ≤ placeIn (thenList s ascending most r .read)
 unfolding thenList placeIn
 list-from s ascending most (At i v) =
-    if-test (λ (l : Listed). i ≤ placeIn (l .read)) (eqb (byteAt s i) 41) _ _ (omega arith)
+    if-test (λ (l : ListRead). i ≤ placeIn (l .read)) (eqb (byteAt s i) 41) _ _ (omega arith)
     (numbers-from (length s + 1) s ascending most 0 [] i)
 list-from s ascending most (Refused n i) = omega arith
 
 spaced-from : (s : List ℕ) (most : ℕ) (r : Read) → placeIn r ≤ placeIn (thenSpacedList s most r .read)
 unfolding thenSpacedList placeIn
 spaced-from s most (At i v) =
-    if-test (λ (l : Listed). i ≤ placeIn (l .read)) (eqb (byteAt s i) 32) _ _
+    if-test (λ (l : ListRead). i ≤ placeIn (l .read)) (eqb (byteAt s i) 32) _ _
     (let q = numbers-from (length s + 1) s false most 0 [] (i + 1) in omega (arith, q)) (omega arith)
 spaced-from s most (Refused n i) = omega arith
 
@@ -106,8 +106,8 @@ thenNumber-from s least most (Refused n i) = omega arith
 
 pub piece-from : (s : List ℕ) (p : Piece) (r : Read) → placeIn r ≤ placeIn (readPiece s p r)
 unfolding readPiece
-piece-from s (one b) r = byte-from s b r
-piece-from s (number least most b) r =
+piece-from s (aByte b) r = byte-from s b r
+piece-from s (aNumber least most b) r =
     let x = thenNumber-from s least most r in
     let y = byte-from s b (thenNumber s least most r) in
     omega (arith, x, y)
@@ -132,8 +132,8 @@ pieces-from s (p ∷ ps) r =
 
 pub piece-stays : (s : List ℕ) (p : Piece) (n i : ℕ) → readPiece s p (Refused n i) ≡ Refused n i
 unfolding readPiece thenByte thenNumber thenList thenSpacedList thenClose
-piece-stays s (one b) n i = refl
-piece-stays s (number least most b) n i = refl
+piece-stays s (aByte b) n i = refl
+piece-stays s (aNumber least most b) n i = refl
 piece-stays s (list ascending most fewest fullest) n i = refl
 piece-stays s (spacedList most fewest fullest) n i = refl
 
@@ -175,7 +175,7 @@ numbers-numbered (suc left) s ascending most least ns i =
         → Numbered r
         → Numbered (afterNumber s ascending (numbersAt left s ascending most) ns r .read)
     go further (At j v) h =
-        if-test (λ (l : Listed). Numbered (l .read)) (eqb (byteAt s j) 32) _ _
+        if-test (λ (l : ListRead). Numbered (l .read)) (eqb (byteAt s j) 32) _ _
         (further (cond ascending (v + 1) 0) (ns ++ v ∷ []) (j + 1)) tt
     go further (Refused n j) h = h
 
@@ -188,18 +188,18 @@ close-numbered s fewest fullest (Refused n i) h = h
 
 piece-numbered : (s : List ℕ) (p : Piece) (r : Read) → Numbered r → Numbered (readPiece s p r)
 unfolding readPiece thenNumber thenList thenSpacedList Numbered
-piece-numbered s (one b) r h = byte-numbered s b r h
-piece-numbered s (number least most b) (At i v) h =
+piece-numbered s (aByte b) r h = byte-numbered s b r h
+piece-numbered s (aNumber least most b) (At i v) h =
     byte-numbered s b (numberAt s i least most) (number-numbered s i least most)
-piece-numbered s (number least most b) (Refused n i) h = byte-numbered s b (Refused n i) h
+piece-numbered s (aNumber least most b) (Refused n i) h = byte-numbered s b (Refused n i) h
 piece-numbered s (list ascending most fewest fullest) (At i v) h =
     close-numbered s fewest fullest _
-    (if-test (λ (l : Listed). Numbered (l .read)) (eqb (byteAt s i) 41) _ _ tt
+    (if-test (λ (l : ListRead). Numbered (l .read)) (eqb (byteAt s i) 41) _ _ tt
     (numbers-numbered (length s + 1) s ascending most 0 [] i))
 piece-numbered s (list ascending most fewest fullest) (Refused n i) h = close-numbered s fewest fullest (Refused n i) h
 piece-numbered s (spacedList most fewest fullest) (At i v) h =
     close-numbered s fewest fullest _
-    (if-test (λ (l : Listed). Numbered (l .read)) (eqb (byteAt s i) 32) _ _
+    (if-test (λ (l : ListRead). Numbered (l .read)) (eqb (byteAt s i) 32) _ _
     (numbers-numbered (length s + 1) s false most 0 [] (i + 1)) tt)
 piece-numbered s (spacedList most fewest fullest) (Refused n i) h = close-numbered s fewest fullest (Refused n i) h
 

@@ -12,9 +12,9 @@ use lib.Seq.{take-all, take-take, length-take-le, getD-take}
 use borrow.Author.Tests.{leb-true, leb-false, lt-ltb}
 use Rattle.line_pieces.specs.declared.Read.{Read}
 use Rattle.line_pieces.specs.declared.Read.the-variants.{At, Refused}
-use Rattle.line_pieces.specs.Reading.{valueOf, thenBytes, headRead, lineLimit, limited}
+use Rattle.line_pieces.specs.Reading.{valueRead, thenBytes, headRead, lineLimit, limited}
 use Rattle.lines.specs.Lines.{processLimit, watchOf, watchLine, startOf, startLine, didOf, didLine, ruleOf, ruleLine}
-use Rattle.line_laws.specs.Grammar.{Piece, one, list, watchPieces, startPieces, didPieces}
+use Rattle.line_laws.specs.Grammar.{Piece, aByte, list, watchPieces, startPieces, didPieces}
 use Rattle.line_laws.specs.pieces.ReadPieces.{readPiece, readPieces, pieces-from}
 use Rattle.line_laws.specs.pieces.NumberTextRead.{if-known}
 use Rattle.line_laws.specs.faults.GrammarTheorem.{lineRead}
@@ -80,7 +80,7 @@ start-enough s k = answer-enough (λ (l : List ℕ). startLine l k) StartRefused
 -- In an event's line the first list is read alike, and then with the same number of processes; or both readings are
 -- behind the limit.
 first-pieces : List Piece
-first-pieces = map one (ascii "(did (") ++ list true processLimit 1 8 ∷ []
+first-pieces = map aByte (ascii "(did (") ++ list true processLimit 1 8 ∷ []
 
 first-modest : AllModest first-pieces
 unfolding first-pieces AllModest
@@ -90,7 +90,7 @@ first-is : (s : List ℕ) → firstRead s ≡ readPieces s first-pieces (At 0 0)
 unfolding firstRead first-pieces readPieces readPiece thenBytes
 first-is s = refl
 
-named-of : (s : List ℕ) → named s ≡ valueOf (firstRead s)
+named-of : (s : List ℕ) → named s ≡ valueRead (firstRead s)
 unfolding named firstRead
 named-of s = refl
 
@@ -109,7 +109,7 @@ did-front s front k f =
         → Same (readPieces s (rest k (named s)) (firstRead s))
         (readPieces front (rest k (named front)) (firstRead front))
     go (inl e) =
-        let n : named s ≡ named front = named-of s ∙ ap valueOf e ∙ sym (named-of front) in
+        let n : named s ≡ named front = named-of s ∙ ap valueRead e ∙ sym (named-of front) in
         rw n (pieces-same f (rest k (named front)) (firstRead s) (firstRead front) (rest-modest k (named front))
         (inl e))
     go (inr (x, y)) =
@@ -136,11 +136,11 @@ did-enough s k = go (leb (length s) enough) refl
         ∙ sym (did-refuses k s (w .0) (w .1) (w .2))
 
 -- A rule's line over the limit is turned back by its head, or by its length.
-head-is : (s : List ℕ) → headRead s (ascii "(rule ") ≡ readPieces s (map one (ascii "(rule ")) (At 0 0)
+head-is : (s : List ℕ) → headRead s (ascii "(rule ") ≡ readPieces s (map aByte (ascii "(rule ")) (At 0 0)
 unfolding readPieces readPiece thenBytes
 head-is s = refl
 
-head-modest : AllModest (map one (ascii "(rule "))
+head-modest : AllModest (map aByte (ascii "(rule "))
 unfolding AllModest
 head-modest = search (arith)
 
@@ -162,7 +162,7 @@ rule-enough s k = go (leb (length s) enough) refl
         let g = headRead (take enough s) (ascii "(rule ") in
         let near : Same h g =
         rw (head-is s, head-is (take enough s))
-        (pieces-same f (map one (ascii "(rule ")) (At 0 0) (At 0 0) head-modest (inl refl)) in
+        (pieces-same f (map aByte (ascii "(rule ")) (At 0 0) (At 0 0) head-modest (inl refl)) in
         let head = limited-same f h g near in
         let w = over-refused s (headRead s (ascii "(rule ")) (omega (arith, long)) in
         rule-refuses k (take enough s) (w .0) (w .1) (sym head ∙ w .2) ∙ sym (rule-refuses k s (w .0) (w .1) (w .2))

@@ -17,9 +17,9 @@ use Rattle.line_pieces.specs.Number.{numberAt}
 use Rattle.line_pieces.specs.NumberLaws.{digits-next, digits-end, number-after}
 use Rattle.line_pieces.specs.Reading.{thenByte, thenNumber, thenEnd, lineLimit, limited}
 use Rattle.line_laws.specs.faults.GrammarTheorem.{lineRead}
-use Rattle.line_pieces.specs.NumberList.{listed, afterNumber, numbersAt, allNumbersAt, thenList, thenSpacedList, thenClose}
+use Rattle.line_pieces.specs.NumberList.{listRead, afterNumber, numbersAt, allNumbersAt, thenList, thenSpacedList, thenClose}
 use Rattle.line_laws.specs.pieces.ReadPieces.{readPiece, readPieces, placeIn, if-test, numbers-from, byte-from, close-from, piece-from, piece-stays}
-use Rattle.line_laws.specs.Grammar.{Piece, one, number, list, spacedList}
+use Rattle.line_laws.specs.Grammar.{Piece, aByte, aNumber, list, spacedList}
 use Rattle.line_laws.specs.faults.TenIsFault.{not-at, Judged, number-judged}
 use Rattle.line_laws.specs.prefix.LongNumbers.{mostDigits, Short, long-at}
 
@@ -35,8 +35,8 @@ pub record Front (s front : List ℕ) : Type 0 where
 
 -- No number of a piece has more digits.
 abbrev pub Modest : Piece → Type 0
-Modest (one b) = Unit {0}
-Modest (number least most b) = Short most
+Modest (aByte b) = Unit {0}
+Modest (aNumber least most b) = Short most
 Modest (list ascending most fewest fullest) = Short most
 Modest (spacedList most fewest fullest) = Short most
 
@@ -118,9 +118,9 @@ module _ {s front : List ℕ} (f : Front s front) where
           → ((x : ℕ) (l : List ℕ) (j : ℕ) → j ≤ lineLimit → length s < j + left → enough < j + left′
           → Same (numbersAt left s ascending most x l j .read) (numbersAt left′ front ascending most x l j .read))
           → Same (cond t (numbersAt left s ascending most (cond ascending (v + 1) 0) (ns ++ v ∷ []) (j + 1))
-          (listed (ns ++ v ∷ []) (At j (length ns + 1))) .read)
+          (listRead (ns ++ v ∷ []) (At j (length ns + 1))) .read)
           (cond t (numbersAt left′ front ascending most (cond ascending (v + 1) 0) (ns ++ v ∷ []) (j + 1))
-          (listed (ns ++ v ∷ []) (At j (length ns + 1))) .read)
+          (listRead (ns ++ v ∷ []) (At j (length ns + 1))) .read)
       next j v p false further = inl refl
       next j v p true further = near (ltb lineLimit (j + 1)) refl
         where
@@ -183,8 +183,8 @@ module _ {s front : List ℕ} (f : Front s front) where
   unfolding thenList
   list-same ascending most i v h m = rw (f .bytes i (omega arith)) (go (eqb (byteAt s i) 41))
     where
-      go : (t : Bool) → Same (cond t (listed [] (At i 0)) (allNumbersAt s ascending most i) .read)
-          (cond t (listed [] (At i 0)) (allNumbersAt front ascending most i) .read)
+      go : (t : Bool) → Same (cond t (listRead [] (At i 0)) (allNumbersAt s ascending most i) .read)
+          (cond t (listRead [] (At i 0)) (allNumbersAt front ascending most i) .read)
       go true = inl refl
       go false = numbers-front (length s + 1) (length front + 1) ascending most 0 [] i h m (omega arith)
           (omega (arith, f .size))
@@ -205,16 +205,16 @@ module _ {s front : List ℕ} (f : Front s front) where
           numbers-front (length s + 1) (length front + 1) false most 0 [] (i + 1) (ltb-false lineLimit (i + 1) q) m
           (omega arith) (omega (arith, f .size))
 
-      go : (t : Bool) → Same (cond t (allNumbersAt s false most (i + 1)) (listed [] (At i 0)) .read)
-          (cond t (allNumbersAt front false most (i + 1)) (listed [] (At i 0)) .read)
+      go : (t : Bool) → Same (cond t (allNumbersAt s false most (i + 1)) (listRead [] (At i 0)) .read)
+          (cond t (allNumbersAt front false most (i + 1)) (listRead [] (At i 0)) .read)
       go true = near (ltb lineLimit (i + 1)) refl
       go false = inl refl
 
   piece-near : (p : Piece) (i v : ℕ) → Modest p → i ≤ lineLimit
       → Same (readPiece s p (At i v)) (readPiece front p (At i v))
   unfolding readPiece thenNumber
-  piece-near (one b) i v m h = byte-same b (At i v) (At i v) (inl refl)
-  piece-near (number least most b) i v m h =
+  piece-near (aByte b) i v m h = byte-same b (At i v) (At i v) (inl refl)
+  piece-near (aNumber least most b) i v m h =
       byte-same b (numberAt s i least most) (numberAt front i least most) (inl (sym (number-front i least most h m)))
   piece-near (list ascending most fewest fullest) i v m h =
       close-same fewest fullest (thenList s ascending most (At i v) .read)

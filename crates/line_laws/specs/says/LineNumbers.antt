@@ -11,18 +11,18 @@ use lib.Seq.{ext-getD}
 use borrow.Author.Tests.{ltb-false, eqb-true}
 use Rattle.codec.specs.Ascii.{ascii}
 use Rattle.rules.specs.Text.{byteAt}
-use Rattle.rules.specs.Fault.{Stands, Span}
+use Rattle.rules.specs.Fault.{StandsAt, Span}
 use Rattle.rules.specs.reading.WordLaws.{span-nil, span-byte, span-append}
 use Rattle.line_pieces.specs.declared.Read.{Read}
 use Rattle.line_pieces.specs.declared.Read.the-variants.{At, Refused}
 use Rattle.codec.specs.Decimal.{digits, value}
 use Rattle.line_pieces.specs.NumberLaws.{inside, number-after}
-use Rattle.line_pieces.specs.Reading.{valueOf, thenByte, thenBytes, headRead, thenNumber, thenEnd, lineLimit, limited, thenLast}
+use Rattle.line_pieces.specs.Reading.{valueRead, thenByte, thenBytes, headRead, thenNumber, thenEnd, lineLimit, limited, thenLast}
 use Rattle.line_pieces.specs.NumberList.{thenList, thenSpacedList, thenClose, eight}
 use Rattle.lines.specs.declared.WatchLine.the-variants.{Watch}
 use Rattle.lines.specs.declared.StartLine.the-variants.{Start}
 use Rattle.lines.specs.declared.DidLine.the-variants.{Did}
-use Rattle.lines.specs.Words.{word}
+use Rattle.lines.specs.Words.{packedWord}
 use Rattle.lines.specs.Lines.{kLimit, countLimit, labelLimit, processLimit, roomLimit, watchOf, watchLine, startOf, startLine, didOf, didLine}
 use Rattle.line_laws.specs.Grammar.{Numeral, between}
 use Rattle.line_laws.specs.LineSays.{WatchSays, StartSays, DidSays}
@@ -32,8 +32,8 @@ use Rattle.line_laws.specs.says.ListNumbers.{ListClosed, list-closed, sp
 
 -- ---- A line's last byte
 
-pub stands-bytes : (s : List ℕ) (t : List ℕ) (i l : ℕ) → Stands s i t → l < length t → byteAt s (i + l) ≡ byteAt t l
-unfolding Stands
+pub stands-bytes : (s : List ℕ) (t : List ℕ) (i l : ℕ) → StandsAt s i t → l < length t → byteAt s (i + l) ≡ byteAt t l
+unfolding StandsAt
 stands-bytes s [] i l h k = absurd (omega arith)
 stands-bytes s (b ∷ t) i zero h k = rw (add-zero i) (h .0)
 stands-bytes s (b ∷ t) i (suc l) h k = let z : i + suc l ≡ i + 1 + l = omega arith in
@@ -66,7 +66,7 @@ ended s (At j w) i v h =
 
 -- A byte stands inside the line.
 last-inside : (s : List ℕ) (i e : ℕ) → Span s i (41 ∷ []) e → length s ≤ e → e ≡ length s
-unfolding Stands
+unfolding StandsAt
 last-inside s i e p h = let k = inside s i (omega (arith, p .stands .0)) in omega (arith, p .ends, k)
 
 -- ---- What was met before, piece by piece
@@ -152,13 +152,13 @@ did-parts s k n j₁ e₁ m₁ j₂ e₂ m₂ j₃ e₃ m₃ i ps cs ls head p b
 -- From behind the line's end to its first byte.
 did-read-said : (s : List ℕ) (k n i v : ℕ) (first second : Read)
     → first ≡ thenClose s 1 8 (thenList s true processLimit (headRead s (ascii "(did (")) .read)
-    → n ≡ valueOf first → second ≡ thenClose s k k (thenList s false countLimit (thenBytes s (ascii " (") first) .read)
+    → n ≡ valueRead first → second ≡ thenClose s k k (thenList s false countLimit (thenBytes s (ascii " (") first) .read)
     → thenLast s (thenClose s n n (thenList s false labelLimit (thenBytes s (ascii " (") second) .read)) ≡ At i v
     → DidSays s k (thenList s true processLimit (headRead s (ascii "(did (")) .numbers)
     (thenList s false countLimit (thenBytes s (ascii " (") first) .numbers)
     (thenList s false labelLimit (thenBytes s (ascii " (") second) .numbers)
     × (n ≡ length (thenList s true processLimit (headRead s (ascii "(did (")) .numbers))
-unfolding valueOf
+unfolding valueRead
 did-read-said s k n i v first second f e g h =
     last-before s _ i v h (λ e₃ q₃ last end short.
     list-closed s false labelLimit n n (thenBytes s (ascii " (") second) e₃ v q₃ (λ j₃ v₃ r₃ l.
@@ -166,7 +166,7 @@ did-read-said s k n i v first second f e g h =
     list-closed s false countLimit k k (thenBytes s (ascii " (") first) e₂ v₃ (sym g ∙ q₂) (λ j₂ v₂ r₂ c.
     bytes-before s (ascii " (") first j₂ v₂ r₂ (λ e₁ q₁ b₁.
     list-closed s true processLimit 1 8 (headRead s (ascii "(did (")) e₁ v₂ (sym f ∙ q₁) (λ j₁ v₁ r₁ p.
-    let size = e ∙ ap valueOf q₁ ∙ sym (p .said .many) in (
+    let size = e ∙ ap valueRead q₁ ∙ sym (p .said .many) in (
       did-parts s k n j₁ e₁ v₂ j₂ e₂ v₃ j₃ e₃ v i _ _ _ (head-met s (ascii "(did (") j₁ v₁ r₁) p b₁ c b₂ l size last
           end short,
       size,
@@ -185,13 +185,13 @@ did-said s k mask c01 c23 c45 c67 labels h =
 -- ---- The line with the start labels
 
 start-answers : (ls : List ℕ) (r : Read) (labels : ℕ) → startOf ls r ≡ Start labels
-    → (i : ℕ) × (v : ℕ) × ((r ≡ At i v) × (labels ≡ word 256 ls))
+    → (i : ℕ) × (v : ℕ) × ((r ≡ At i v) × (labels ≡ packedWord 256 ls))
 unfolding startOf
 start-answers ls (At i v) labels e = (i, v, (refl, cc))
 start-answers ls (Refused m i) labels e = let z : _≡_ {A = ℕ} 0 1 = cc in absurd (omega arith)
 
 pub start-said : (s : List ℕ) (k labels : ℕ) → startLine s k ≡ Start labels
-    → (ls : List ℕ) × (StartSays s k ls × (labels ≡ word 256 (eight ls)))
+    → (ls : List ℕ) × (StartSays s k ls × (labels ≡ packedWord 256 (eight ls)))
 unfolding startLine
 start-said s k labels h =
     let a = start-answers _ _ labels h in
@@ -222,20 +222,20 @@ watch-answers n (At i v) k room e = let z : v ≡ room = cc in (i, (rw z, cc))
 watch-answers n (Refused m i) k room e = let z : _≡_ {A = ℕ} 0 1 = cc in absurd (omega arith)
 
 pub watch-said : (s : List ℕ) (k room : ℕ) → watchLine s ≡ Watch k room → WatchSays s k room
-unfolding watchLine valueOf
+unfolding watchLine valueRead
 watch-said s k room h = let a = watch-answers _ _ k room h in said (a .0) (a .1 .0) (a .1 .1)
   where
     said : (i : ℕ) → thenLast s
         (thenNumber s 1 roomLimit (thenByte s 32 (thenNumber s 0 kLimit (headRead s (ascii "(watch ")))))
         ≡ At i room
-        → valueOf (thenNumber s 0 kLimit (headRead s (ascii "(watch "))) ≡ k → WatchSays s k room
+        → valueRead (thenNumber s 0 kLimit (headRead s (ascii "(watch "))) ≡ k → WatchSays s k room
     said i q e =
         last-before s _ i room q (λ e₂ q₂ last end short.
         number-before s 1 roomLimit _ e₂ room q₂ (λ j₂ v₂ r r₂ numeral₂ span₂ is₂ low₂ high₂.
         byte-before s 32 _ j₂ v₂ r₂ (λ e₁ q₁ space.
         number-before s 0 kLimit (headRead s (ascii "(watch ")) e₁ v₂ q₁
         (λ j₁ v₁ p r₁ numeral₁ span₁ is₁ low₁ high₁.
-        let same : v₂ ≡ k = sym (ap valueOf q₁) ∙ e in
+        let same : v₂ ≡ k = sym (ap valueRead q₁) ∙ e in
         record {
           k-digits = p;
           room-digits = r;

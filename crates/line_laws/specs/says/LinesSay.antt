@@ -16,7 +16,7 @@ use Rattle.call_words.specs.Words.{unpackLabels}
 use Rattle.line_pieces.specs.declared.Read.the-variants.{At}
 use Rattle.line_pieces.specs.NumberList.{eight}
 use Rattle.lines.specs.declared.DidLine.the-variants.{Did}
-use Rattle.lines.specs.Words.{word, placed}
+use Rattle.lines.specs.Words.{packedWord, placed}
 use Rattle.lines.specs.Lines.{countLimit, labelLimit, processLimit, clockWord, didOf}
 use Rattle.line_laws.specs.LineSays.{InLimits, Named, Offers, WatchIsAsSaid, StartIsAsSaid, StartSaidIsRead, EventIsAsSaid, EventSaidIsRead}
 use Rattle.line_laws.specs.says.LineNumbers.{did-said, start-said, watch-said}
@@ -61,19 +61,19 @@ module _ (ps cs ls : List ℕ) (processes : InLimits true 0 processLimit ps) (co
       (λ i l. let q = at-most true 0 processLimit ps processes i in omega (arith, q))
       (λ i l k m e. let q = ascends 0 processLimit ps processes i l k m in omega (arith, q, e))
 
-  marked : (p : ℕ) → (bit (word 2 (placed (length ps) (at ps) (λ j. 1))) p ≡ true) ↔ Named p ps
+  marked : (p : ℕ) → (bit (packedWord 2 (placed (length ps) (at ps) (λ j. 1))) p ≡ true) ↔ Named p ps
   marked p = (λ e. to e (among (length ps) (at ps) p), from)
     where
-      here : bit (word 2 (placed (length ps) (at ps) (λ j. 1))) p
+      here : bit (packedWord 2 (placed (length ps) (at ps) (λ j. 1))) p
           ≡ eqb (at (placed (length ps) (at ps) (λ j. 1)) p % 2) 1
       here = word-bit (placed (length ps) (at ps) (λ j. 1)) p
 
-      to : bit (word 2 (placed (length ps) (at ps) (λ j. 1))) p ≡ true
+      to : bit (packedWord 2 (placed (length ps) (at ps) (λ j. 1))) p ≡ true
           → Named p ps ⊎ ((j : ℕ) → j < length ps → at ps j ≡ p → ⊥) → Named p ps
       to e (inl x) = x
       to e (inr f) = absurd (false≢true (sym (here ∙ rw (placed-other (length ps) (at ps) (λ j. 1) p f)) ∙ e))
 
-      from : Named p ps → bit (word 2 (placed (length ps) (at ps) (λ j. 1))) p ≡ true
+      from : Named p ps → bit (packedWord 2 (placed (length ps) (at ps) (λ j. 1))) p ≡ true
       from (j, (l, e)) = here ∙ rw (← e, own (λ i. 1) j l)
 
   -- What is placed is a label byte, or 0.
@@ -86,16 +86,16 @@ module _ (ps cs ls : List ℕ) (processes : InLimits true 0 processLimit ps) (co
       go (inr f) = rw (placed-other (length ps) (at ps) (at ls) p f) (lit< tt)
 
   -- A label that is unpacked is the one that was placed.
-  unpacked : (p : ℕ) → at (unpackLabels (word 256 (placed (length ps) (at ps) (at ls)))) p
+  unpacked : (p : ℕ) → at (unpackLabels (packedWord 256 (placed (length ps) (at ps) (at ls)))) p
       ≡ at (placed (length ps) (at ps) (at ls)) p
   unpacked p =
       let l = placed (length ps) (at ps) (at ls) in
       ap (λ (x : List ℕ). at x p)
       (labels-unpacked l placed-small ∙ listOf-at 8 l (length-placed (length ps) (at ps) (at ls)))
 
-  pub words-offer : Offers (word 2 (placed (length ps) (at ps) (λ j. 1))) (clockWord cs 0)
+  pub words-offer : Offers (packedWord 2 (placed (length ps) (at ps) (λ j. 1))) (clockWord cs 0)
       (clockWord cs 1) (clockWord cs 2) (clockWord cs 3)
-      (word 256 (placed (length ps) (at ps) (at ls))) ps cs ls
+      (packedWord 256 (placed (length ps) (at ps) (at ls))) ps cs ls
   words-offer = record {
     take-part = marked;
     counts = counts-unpacked cs (λ p. let q = at-most false 0 countLimit cs counts p in omega (arith, q));
@@ -109,12 +109,12 @@ offered : (ps cs ls : List ℕ) (mask c01 c23 c45 c67 labels : ℕ) → InLimits
     → Offers mask c01 c23 c45 c67 labels ps cs ls
 unfolding didOf
 offered ps cs ls mask c01 c23 c45 c67 labels p c l e =
-    let m : mask ≡ word 2 (placed (length ps) (at ps) (λ j. 1)) = cc in
+    let m : mask ≡ packedWord 2 (placed (length ps) (at ps) (λ j. 1)) = cc in
     let w₀ : c01 ≡ clockWord cs 0 = cc in
     let w₁ : c23 ≡ clockWord cs 1 = cc in
     let w₂ : c45 ≡ clockWord cs 2 = cc in
     let w₃ : c67 ≡ clockWord cs 3 = cc in
-    let w : labels ≡ word 256 (placed (length ps) (at ps) (at ls)) = cc in
+    let w : labels ≡ packedWord 256 (placed (length ps) (at ps) (at ls)) = cc in
     rw (m, w₀, w₁, w₂, w₃, w) (words-offer ps cs ls p c l)
 
 -- ---- Start labels
@@ -126,7 +126,7 @@ eight-small ls h p = go (decLt p 8)
     go (yes l) = let q = at-most false 0 labelLimit ls h p in rw (at-listOf 8 (at ls) p l) (omega (arith, q))
     go (no l) = rw (at-beyond (eight ls) p (omega (arith, length-listOf 8 (at ls)))) (lit< tt)
 
-eight-unpacked : (ls : List ℕ) → InLimits false 0 labelLimit ls → unpackLabels (word 256 (eight ls)) ≡ eight ls
+eight-unpacked : (ls : List ℕ) → InLimits false 0 labelLimit ls → unpackLabels (packedWord 256 (eight ls)) ≡ eight ls
 eight-unpacked ls h = labels-unpacked (eight ls) (eight-small ls h) ∙ listOf-at 8 (eight ls) (length-listOf 8 (at ls))
 
 -- ---- The theorem
@@ -154,7 +154,7 @@ event-is-as-said s k mask c01 c23 c45 c67 labels h =
     )
 
 pub start-said-is-read : StartSaidIsRead
-start-said-is-read s k ls x = (word 256 (eight ls), (start-said-read s k ls x, eight-unpacked ls (x .limits)))
+start-said-is-read s k ls x = (packedWord 256 (eight ls), (start-said-read s k ls x, eight-unpacked ls (x .limits)))
 
 pub event-said-is-read : EventSaidIsRead
 unfolding didOf

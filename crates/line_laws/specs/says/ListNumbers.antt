@@ -14,7 +14,7 @@ use Rattle.line_pieces.specs.declared.Read.the-variants.{At, Refused}
 use Rattle.codec.specs.Decimal.{digits, value}
 use Rattle.line_pieces.specs.Number.{numberAt}
 use Rattle.line_pieces.specs.NumberLaws.{number-after}
-use Rattle.line_pieces.specs.NumberList.{Listed, afterNumber, numbersAt, thenList, thenSpacedList, thenClose}
+use Rattle.line_pieces.specs.NumberList.{ListRead, afterNumber, numbersAt, thenList, thenSpacedList, thenClose}
 use Rattle.line_laws.specs.Grammar.{Numeral, Numerals, spaced, between}
 use Rattle.line_laws.specs.LineSays.{InLimits}
 use Rattle.line_laws.specs.pieces.NumberTextRead.{if-known}
@@ -71,7 +71,7 @@ numbers-said (suc left) s ascending most least before j =
         let a = number-after s j least most e v q in
         let low : least ≤ value (digits (drop j s)) = rw w at (a .low) in
         let high : value (digits (drop j s)) ≤ most = rw w at (a .high) in
-        if-known (λ (x : Listed). Said s ascending most least before j (x .numbers) (x .read)) (eqb (byteAt s e) 32) _ _
+        if-known (λ (x : ListRead). Said s ascending most least before j (x .numbers) (x .read)) (eqb (byteAt s e) 32) _ _
         (λ t. let x = numbersAt left s ascending most (cond ascending (v + 1) 0) (before ++ v ∷ []) (e + 1) in
         let more = further (cond ascending (v + 1) 0) (before ++ v ∷ []) (e + 1) in
         said-more s ascending most least before j (e + 1) (digits (drop j s)) (x .numbers) (x .read) m
@@ -101,7 +101,7 @@ pub record ListSaid (text : List (List ℕ) → List ℕ) (s : List ℕ) (ascend
   pub limits : InLimits ascending 0 most ns
 
 -- Where the reader stands behind a list, it stood before it.
-abbrev Behind : (List (List ℕ) → List ℕ) → List ℕ → Bool → ℕ → Read → Listed → Type 0
+abbrev Behind : (List (List ℕ) → List ℕ) → List ℕ → Bool → ℕ → Read → ListRead → Type 0
 Behind text s ascending most r l =
     (i n : ℕ) → l .read ≡ At i n
     → (j : ℕ) × (v : ℕ) × ((r ≡ At j v) × ListSaid text s ascending most j (l .numbers) i n)
@@ -152,7 +152,7 @@ list-said s ascending most (At j v) i n e = (
   v,
   (
     refl,
-    if-known (λ (l : Listed). l .read ≡ At i n → ListSaid between s ascending most j (l .numbers) i n)
+    if-known (λ (l : ListRead). l .read ≡ At i n → ListSaid between s ascending most j (l .numbers) i n)
         (eqb (byteAt s j) 41) _ _
         (λ _ q. none-said between s ascending most j i n refl q)
         (λ _ q. said-between s ascending most j i n _ _ q (numbers-said (length s + 1) s ascending most 0 [] j)) e,
@@ -167,7 +167,7 @@ spaced-said s most (At j v) i n e = (
   v,
   (
     refl,
-    if-known (λ (l : Listed). l .read ≡ At i n → ListSaid spaced s false most j (l .numbers) i n)
+    if-known (λ (l : ListRead). l .read ≡ At i n → ListSaid spaced s false most j (l .numbers) i n)
         (eqb (byteAt s j) 32) _ _
         (λ b q. said-spaced s most j i n _ _ (eqb-true (byteAt s j) 32 b) q
         (numbers-said (length s + 1) s false most 0 [] (j + 1)))

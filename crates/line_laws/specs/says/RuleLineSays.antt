@@ -11,8 +11,8 @@ use borrow.Author.Tests.{ltb-false, le-ltb}
 use Rattle.rules.specs.Formula.{Formula, atom, constant, unary, binary}
 use Rattle.codec.specs.Ascii.{ascii}
 use Rattle.rules.specs.Text.{byteAt, textOf}
-use Rattle.rules.specs.Fault.{Stands, Span}
-use Rattle.rules.specs.Reader.{Reading, formed, refused, readRule}
+use Rattle.rules.specs.Fault.{StandsAt, Span}
+use Rattle.rules.specs.Reader.{Reading, formed, faulty, readRule}
 use Rattle.rules.specs.reading.ReaderAccepts.{reader-accepts}
 use Rattle.rules.specs.reading.WordLaws.{span-byte, span-append, if-byte}
 use Rattle.line_pieces.specs.declared.Read.{Read}
@@ -51,7 +51,7 @@ accepted s k start end h = go (headRead s (ascii "(rule ")) refl h
     closed : (i v : ℕ) → headRead s (ascii "(rule ") ≡ At i v → length s ≤ lineLimit → (r : Reading)
         → readRule (ruleText s) k ≡ r
         → ruleClosed s r ≡ Rule start end → Accepted s k start end
-    closed i v e short (refused n j) f q = absurd (not-rule start end n j (sym q))
+    closed i v e short (faulty n j) f q = absurd (not-rule start end n j (sym q))
     closed i v e short (formed j g) f q =
         if-byte (λ (x : RuleLine). x ≡ Rule start end → Accepted s k start end) (byteAt s (length s - 1)) 41
         (Rule 6 (length s - 1)) (RuleRefused 1 (length s - 1))
@@ -139,7 +139,7 @@ pub rule-bytes-are-the-form : RuleBytesAreTheForm
 rule-bytes-are-the-form s k f x = ap ruleText (x .text) ∙ rule-text (textOf f)
 
 said-accepted : (s : List ℕ) (k : ℕ) (f : Formula) → RuleSays s k f → ruleLine s k ≡ Rule 6 (length s - 1)
-unfolding ruleLine ruleOf ruleClosed limited Stands
+unfolding ruleLine ruleOf ruleClosed limited StandsAt
 said-accepted s k f x =
     let all = ends-all s (ascii "(rule " ++ (textOf f ++ 41 ∷ [])) (x .text) in
     let head = bytes-within s (ascii "(rule ") (textOf f ++ 41 ∷ []) 0 0 (all .stands) in

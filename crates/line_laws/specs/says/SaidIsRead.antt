@@ -9,16 +9,16 @@ use lib.ListN.{length, length-append, length-map}
 use borrow.Author.Tests.{eq-eqb, ne-eqb, le-leb, le-ltb}
 use Rattle.codec.specs.Ascii.{ascii}
 use Rattle.rules.specs.Text.{byteAt}
-use Rattle.rules.specs.Fault.{Stands}
+use Rattle.rules.specs.Fault.{StandsAt}
 use Rattle.line_pieces.specs.declared.Read.the-variants.{At}
 use Rattle.codec.specs.Decimal.{isDigit, value}
 use Rattle.line_pieces.specs.Number.{numberOf, numberAt}
 use Rattle.line_pieces.specs.NumberLaws.{digit-bounds}
-use Rattle.line_pieces.specs.Reading.{valueOf, thenByte, thenBytes, thenNumber, thenEnd, lineLimit, limited, thenLast}
-use Rattle.line_pieces.specs.NumberList.{listed, afterNumber, numbersAt, thenList, thenSpacedList, thenClose, eight}
+use Rattle.line_pieces.specs.Reading.{valueRead, thenByte, thenBytes, thenNumber, thenEnd, lineLimit, limited, thenLast}
+use Rattle.line_pieces.specs.NumberList.{listRead, afterNumber, numbersAt, thenList, thenSpacedList, thenClose, eight}
 use Rattle.lines.specs.declared.WatchLine.the-variants.{Watch}
 use Rattle.lines.specs.declared.StartLine.the-variants.{Start}
-use Rattle.lines.specs.Words.{word}
+use Rattle.lines.specs.Words.{packedWord}
 use Rattle.lines.specs.Lines.{kLimit, countLimit, labelLimit, processLimit, roomLimit, watchOf, watchLine, startOf, startLine, didOf, didLine}
 use Rattle.line_laws.specs.Grammar.{AllDigits, Numeral, Numerals, spaced, between}
 use Rattle.line_laws.specs.LineSays.{InLimits, WatchSays, StartSays, DidSays}
@@ -36,7 +36,7 @@ numeral-within (d ∷ ds) i least most n low high =
     rw (plain-test d ds n, le-leb least (value (d ∷ ds)) low, le-leb (value (d ∷ ds)) most high)
 
 number-within : (s ds : List ℕ) (i c : ℕ) (xs : List ℕ) (least most : ℕ) → Numeral ds → isDigit c ≡ false
-    → Stands s i (ds ++ c ∷ xs)
+    → StandsAt s i (ds ++ c ∷ xs)
     → least ≤ value ds → value ds ≤ most → numberAt s i least most ≡ At (i + length ds) (value ds)
 unfolding numberAt
 number-within s ds i c xs least most n q h low high =
@@ -45,10 +45,10 @@ number-within s ds i c xs least most n q h low high =
 numbers-within : (ds : List (List ℕ)) (left : ℕ) (s : List ℕ) (ascending : Bool) (most least : ℕ) (before : List ℕ)
     (j : ℕ) (d : List ℕ) (xs : List ℕ)
     → Numerals (d ∷ ds) → InLimits ascending least most (map value (d ∷ ds)) → length s < j + left
-    → Stands s j (d ++ (spaced ds ++ 41 ∷ xs))
+    → StandsAt s j (d ++ (spaced ds ++ 41 ∷ xs))
     → numbersAt left s ascending most least before j
-    ≡ listed (before ++ map value (d ∷ ds)) (At (j + length (d ++ spaced ds)) (length before + suc (length ds)))
-unfolding spaced Numerals InLimits numbersAt afterNumber Stands
+    ≡ listRead (before ++ map value (d ∷ ds)) (At (j + length (d ++ spaced ds)) (length before + suc (length ds)))
+unfolding spaced Numerals InLimits numbersAt afterNumber StandsAt
 numbers-within ds zero s ascending most least before j d xs n l f h =
     absurd (let p = first-inside s j d (spaced ds ++ 41 ∷ xs) (n .0) h in omega (arith, p))
 numbers-within [] (suc left) s ascending most least before j d xs n l f h =
@@ -76,28 +76,28 @@ numbers-within (g ∷ gs) (suc left) s ascending most least before j d xs n l f 
 -- A list behind its opening bracket, or behind a line's word.
 list-within : (s : List ℕ) (ascending : Bool) (most j v : ℕ) (ns : List (List ℕ)) (xs : List ℕ) → Numerals ns
     → InLimits ascending 0 most (map value ns)
-    → Stands s j (between ns ++ 41 ∷ xs)
-    → thenList s ascending most (At j v) ≡ listed (map value ns) (At (j + length (between ns)) (length ns))
-unfolding thenList between Numerals Stands AllDigits
+    → StandsAt s j (between ns ++ 41 ∷ xs)
+    → thenList s ascending most (At j v) ≡ listRead (map value ns) (At (j + length (between ns)) (length ns))
+unfolding thenList between Numerals StandsAt AllDigits
 list-within s ascending most j v [] xs a l h = rw (h .0, add-zero j)
 list-within s ascending most j v (d ∷ ds) xs a l h =
-    let h′ : Stands s j (d ++ (spaced ds ++ 41 ∷ xs)) = rw (append-assoc d (spaced ds) (41 ∷ xs)) at h in
+    let h′ : StandsAt s j (d ++ (spaced ds ++ 41 ∷ xs)) = rw (append-assoc d (spaced ds) (41 ∷ xs)) at h in
     rw (ne-eqb (byteAt s j) 41 (λ e. bracket d (a .0) (spaced ds ++ 41 ∷ xs) h′ e))
     (numbers-within ds (length s + 1) s ascending most 0 [] j d xs a l (omega arith) h′
     ∙ rw (zero-add (suc (length ds))))
   where
-    bracket : (ys : List ℕ) → Numeral ys → (zs : List ℕ) → Stands s j (ys ++ zs) → byteAt s j ≡ 41 → ⊥
+    bracket : (ys : List ℕ) → Numeral ys → (zs : List ℕ) → StandsAt s j (ys ++ zs) → byteAt s j ≡ 41 → ⊥
     bracket [] n zs q e = omega (arith, n .some)
     bracket (y ∷ ys) n zs q e = let b = digit-bounds y (n .all .0) in omega (arith, b .0, q .0)
 
 spaced-within : (s : List ℕ) (most j v : ℕ) (ns : List (List ℕ)) (xs : List ℕ) → Numerals ns
     → InLimits false 0 most (map value ns)
-    → Stands s j (spaced ns ++ 41 ∷ xs)
-    → thenSpacedList s most (At j v) ≡ listed (map value ns) (At (j + length (spaced ns)) (length ns))
-unfolding thenSpacedList spaced Numerals Stands
+    → StandsAt s j (spaced ns ++ 41 ∷ xs)
+    → thenSpacedList s most (At j v) ≡ listRead (map value ns) (At (j + length (spaced ns)) (length ns))
+unfolding thenSpacedList spaced Numerals StandsAt
 spaced-within s most j v [] xs a l h = rw (h .0, add-zero j)
 spaced-within s most j v (d ∷ ds) xs a l h =
-    let h′ : Stands s (j + 1) (d ++ (spaced ds ++ 41 ∷ xs)) = rw (append-assoc d (spaced ds) (41 ∷ xs)) at (h .1) in
+    let h′ : StandsAt s (j + 1) (d ++ (spaced ds ++ 41 ∷ xs)) = rw (append-assoc d (spaced ds) (41 ∷ xs)) at (h .1) in
     let z : j + 1 + length (d ++ spaced ds) ≡ j + suc (length (d ++ spaced ds)) = omega arith in
     rw (h .0) (numbers-within ds (length s + 1) s false most 0 [] (j + 1) d xs a l (omega arith) h′
     ∙ rw (zero-add (suc (length ds)), z))
@@ -108,8 +108,8 @@ unfolding thenClose
 close-within s fewest fullest i n b low high = rw (b, le-leb fewest n low, le-leb n fullest high)
 
 -- Bytes that stand are passed.
-pub bytes-within : (s bs xs : List ℕ) (j v : ℕ) → Stands s j (bs ++ xs) → thenBytes s bs (At j v) ≡ At (j + length bs) v
-unfolding thenBytes thenByte Stands
+pub bytes-within : (s bs xs : List ℕ) (j v : ℕ) → StandsAt s j (bs ++ xs) → thenBytes s bs (At j v) ≡ At (j + length bs) v
+unfolding thenBytes thenByte StandsAt
 bytes-within s [] xs j v h = rw (add-zero j)
 bytes-within s (b ∷ bs) xs j v h =
     let z : j + 1 + length bs ≡ j + suc (length bs) = omega arith in
@@ -122,7 +122,7 @@ end-within s i v h short = rw (le-ltb i (length s) h, le-ltb lineLimit (length s
 
 -- The rest of a line, from a place to its end, is this text.
 pub record Ends (s : List ℕ) (i : ℕ) (xs : List ℕ) : Type 0 where
-  pub stands : Stands s i xs
+  pub stands : StandsAt s i xs
   pub size : length s ≡ i + length xs
 
 pub ends-all : (s t : List ℕ) → s ≡ t → Ends s 0 t
@@ -146,14 +146,14 @@ module _ {G : Type 0} where
   pass-list : (s : List ℕ) (ascending : Bool) (most fewest fullest j v : ℕ) (ds : List (List ℕ)) (ns xs : List ℕ)
       → Numerals ds → map value ds ≡ ns
       → InLimits ascending 0 most ns → fewest ≤ length ns → length ns ≤ fullest → Ends s j (between ds ++ 41 ∷ xs)
-      → ((i e : ℕ) → thenList s ascending most (At j v) ≡ listed ns (At i (length ns))
+      → ((i e : ℕ) → thenList s ascending most (At j v) ≡ listRead ns (At i (length ns))
       → thenClose s fewest fullest (At i (length ns)) ≡ At e (length ns)
       → Ends s e xs → G) → G
-  unfolding Stands
+  unfolding StandsAt
   pass-list s ascending most fewest fullest j v ds ns xs a e l low high h then =
       let n : length ds ≡ length ns = sym (length-map ds value) ∙ ap length e in
       let i = j + length (between ds) in
-      let list : thenList s ascending most (At j v) ≡ listed ns (At i (length ns)) =
+      let list : thenList s ascending most (At j v) ≡ listRead ns (At i (length ns)) =
       list-within s ascending most j v ds xs a (rw e l) (h .stands) ∙ rw (n, e)
       in
       let behind = ends-on s j (between ds) (41 ∷ xs) h in
@@ -163,14 +163,14 @@ module _ {G : Type 0} where
   pass-spaced : (s : List ℕ) (most fewest fullest j v : ℕ) (ds : List (List ℕ)) (ns xs : List ℕ) → Numerals ds
       → map value ds ≡ ns
       → InLimits false 0 most ns → fewest ≤ length ns → length ns ≤ fullest → Ends s j (spaced ds ++ 41 ∷ xs)
-      → ((i e : ℕ) → thenSpacedList s most (At j v) ≡ listed ns (At i (length ns))
+      → ((i e : ℕ) → thenSpacedList s most (At j v) ≡ listRead ns (At i (length ns))
       → thenClose s fewest fullest (At i (length ns)) ≡ At e (length ns)
       → Ends s e xs → G) → G
-  unfolding Stands
+  unfolding StandsAt
   pass-spaced s most fewest fullest j v ds ns xs a e l low high h then =
       let n : length ds ≡ length ns = sym (length-map ds value) ∙ ap length e in
       let i = j + length (spaced ds) in
-      let list : thenSpacedList s most (At j v) ≡ listed ns (At i (length ns)) =
+      let list : thenSpacedList s most (At j v) ≡ listRead ns (At i (length ns)) =
       spaced-within s most j v ds xs a (rw e l) (h .stands) ∙ rw (n, e)
       in
       let behind = ends-on s j (spaced ds) (41 ∷ xs) h in
@@ -189,13 +189,13 @@ ended-read : (s : List ℕ) (e v : ℕ) → Ends s e [] → length s ≤ lineLim
 ended-read s e v h short = end-within s e v (omega (arith, h .size)) short
 
 last-read : (s : List ℕ) (e v : ℕ) → Ends s e (41 ∷ []) → length s ≤ lineLimit → thenLast s (At e v) ≡ At (e + 1) v
-unfolding thenLast thenByte Stands
+unfolding thenLast thenByte StandsAt
 last-read s e v h short = rw (h .stands .0) (ended-read s (e + 1) v (ends-on s e (41 ∷ []) [] h) short)
 
 -- ---- The lines
 
 pub start-said-read : (s : List ℕ) (k : ℕ) (ls : List ℕ) → StartSays s k ls
-    → startLine s k ≡ Start (word 256 (eight ls))
+    → startLine s k ≡ Start (packedWord 256 (eight ls))
 unfolding startLine startOf
 start-said-read s k ls x =
     pass-bytes s (ascii "(start") (spaced (x .label-digits) ++ 41 ∷ []) 0 0 (ends-all s _ (x .text)) (λ j head h₁.
@@ -204,7 +204,7 @@ start-said-read s k ls x =
     rw (head, list, close, ended-read s e (length ls) h₂ (x .short))))
 
 pub watch-said-read : (s : List ℕ) (k room : ℕ) → WatchSays s k room → watchLine s ≡ Watch k room
-unfolding watchLine watchOf valueOf thenByte Stands
+unfolding watchLine watchOf valueRead thenByte StandsAt
 watch-said-read s k room x =
     pass-bytes s (ascii "(watch ") (x .k-digits ++ 32 ∷ (x .room-digits ++ 41 ∷ [])) 0 0 (ends-all s _ (x .text))
     (λ j head h₁.
@@ -233,7 +233,7 @@ few least most (v ∷ vs) h l = let q = few (v + 1) most vs (h .1 .1) (omega (ar
 
 pub did-said-read : (s : List ℕ) (k : ℕ) (ps cs ls : List ℕ) → DidSays s k ps cs ls
     → didLine s k ≡ didOf (length ps) ps cs ls (At 0 0)
-unfolding didLine didOf valueOf
+unfolding didLine didOf valueRead
 did-said-read s k ps cs ls x =
     let ending : List ℕ = ascii "))" in
     let labels : List ℕ = ascii " (" ++ (between (x .label-digits) ++ ending) in

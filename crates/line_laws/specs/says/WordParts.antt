@@ -11,25 +11,25 @@ use Rattle.clocks.specs.Counts.{at, listOf}
 use Rattle.clocks.specs.stored.CountsLaws.{listOf-same}
 use Rattle.call_words.specs.Words.{part, unpackCounts, unpackLabels}
 use Rattle.line_pieces.specs.NumberList.{eight}
-use Rattle.lines.specs.Words.{word}
+use Rattle.lines.specs.Words.{packedWord}
 use Rattle.lines.specs.Lines.{countLimit, clockWord}
 
 -- Part i of a word is number i, below the base.
-word-part : (base : ℕ) → 0 < base → (vs : List ℕ) (i : ℕ) → word base vs / base ^ i % base ≡ at vs i % base
-unfolding word
+word-part : (base : ℕ) → 0 < base → (vs : List ℕ) (i : ℕ) → packedWord base vs / base ^ i % base ≡ at vs i % base
+unfolding packedWord
 word-part base h [] i = rw (zero-div (base ^ i))
 word-part base h (v ∷ vs) zero =
-    rw (pow-zero base) (ap (λ (x : ℕ). x % base) (div-one (v % base + base * word base vs))
-    ∙ add-mul-mod-self-left (v % base) base (word base vs) ∙ mod-mod v base)
+    rw (pow-zero base) (ap (λ (x : ℕ). x % base) (div-one (v % base + base * packedWord base vs))
+    ∙ add-mul-mod-self-left (v % base) base (packedWord base vs) ∙ mod-mod v base)
 word-part base h (v ∷ vs) (suc i) =
-    let low : (v % base + base * word base vs) / base ≡ word base vs =
-    add-mul-div-left (v % base) (word base vs) h ∙ rw (div-eq-of-lt (mod-lt v h)) (zero-add (word base vs))
+    let low : (v % base + base * packedWord base vs) / base ≡ packedWord base vs =
+    add-mul-div-left (v % base) (packedWord base vs) h ∙ rw (div-eq-of-lt (mod-lt v h)) (zero-add (packedWord base vs))
     in
-    rw (pow-succ', ← div-div-eq-div-mul (v % base + base * word base vs) base (base ^ i), low) (word-part base h vs i)
+    rw (pow-succ', ← div-div-eq-div-mul (v % base + base * packedWord base vs) base (base ^ i), low) (word-part base h vs i)
 
 -- ---- Bits
 
-pub word-bit : (vs : List ℕ) (p : ℕ) → bit (word 2 vs) p ≡ eqb (at vs p % 2) 1
+pub word-bit : (vs : List ℕ) (p : ℕ) → bit (packedWord 2 vs) p ≡ eqb (at vs p % 2) 1
 unfolding bit
 word-bit vs p = rw (word-part 2 (lit< tt) vs p)
 
@@ -43,17 +43,17 @@ two-to bits (suc i) =
     (mul-comm ((2 ^ bits) ^ i) (2 ^ bits) ∙ sym (pow-succ' (2 ^ bits) i))
 
 part-is : (bits base : ℕ) → 2 ^ bits ≡ base → (vs : List ℕ) (i : ℕ) → at vs i < base
-    → part bits (word base vs) i ≡ at vs i
+    → part bits (packedWord base vs) i ≡ at vs i
 unfolding part
 part-is bits base e vs i h = rw (two-to bits i, e) (word-part base (omega (arith, h)) vs i ∙ mod-eq-of-lt h)
 
-pub labels-unpacked : (vs : List ℕ) → ((p : ℕ) → at vs p < 256) → unpackLabels (word 256 vs) ≡ eight vs
+pub labels-unpacked : (vs : List ℕ) → ((p : ℕ) → at vs p < 256) → unpackLabels (packedWord 256 vs) ≡ eight vs
 unfolding unpackLabels
-labels-unpacked vs h = listOf-same 8 (part 8 (word 256 vs)) (at vs) (λ p _. part-is 8 256 refl vs p (h p))
+labels-unpacked vs h = listOf-same 8 (part 8 (packedWord 256 vs)) (at vs) (λ p _. part-is 8 256 refl vs p (h p))
 
 -- Two counts in a word.
 two-parts : (a b : ℕ) → a < countLimit + 1 → b < countLimit + 1
-    → (part 32 (word (countLimit + 1) (a ∷ b ∷ [])) 0 ≡ a) × (part 32 (word (countLimit + 1) (a ∷ b ∷ [])) 1 ≡ b)
+    → (part 32 (packedWord (countLimit + 1) (a ∷ b ∷ [])) 0 ≡ a) × (part 32 (packedWord (countLimit + 1) (a ∷ b ∷ [])) 1 ≡ b)
 two-parts a b h l = (
   part-is 32 (countLimit + 1) refl (a ∷ b ∷ []) 0 h,
   part-is 32 (countLimit + 1) refl (a ∷ b ∷ []) 1 l,

@@ -15,7 +15,7 @@ use Rattle.line_pieces.specs.declared.Read.{Read}
 use Rattle.line_pieces.specs.declared.Read.the-variants.{At, Refused}
 use Rattle.line_pieces.specs.Number.{numberAt}
 use Rattle.line_pieces.specs.NumberLaws.{inside, number-after}
-use Rattle.line_pieces.specs.NumberList.{afterNumber, numbersAt, allNumbersAt, eight, kept}
+use Rattle.line_pieces.specs.NumberList.{afterNumber, numbersAt, allNumbersAt, eight, numbersRead}
 
 -- ---- The numbers kept
 
@@ -81,13 +81,13 @@ module _ {s : List ℕ} {ascending : Bool} {most start : ℕ} {values : List ℕ
       g .goes ∙ rw e
 
   pub going-refused : (n i : ℕ) → numberAt s here least most ≡ Refused n i
-      → kept (allNumbersAt s ascending most start) ≡ record { values = values; read = Refused n i }
-  unfolding kept afterNumber
+      → numbersRead (allNumbersAt s ascending most start) ≡ record { values = values; read = Refused n i }
+  unfolding numbersRead afterNumber
   going-refused n i h = rw (going-step, h, g .values-are)
 
   pub going-last : (i v : ℕ) → numberAt s here least most ≡ At i v → (byteAt s i ≡ 32 → ⊥)
-      → kept (allNumbersAt s ascending most start) ≡ record { values = set values count v; read = At i (count + 1) }
-  unfolding kept afterNumber
+      → numbersRead (allNumbersAt s ascending most start) ≡ record { values = set values count v; read = At i (count + 1) }
+  unfolding numbersRead afterNumber
   going-last i v h q = rw (going-step, h, ne-eqb (byteAt s i) 32 q, g .values-are, g .count-is, eight-more)
 
   pub going-on : (i v : ℕ) → numberAt s here least most ≡ At i v → byteAt s i ≡ 32 → i < length s

@@ -14,9 +14,9 @@ use Rattle.line_pieces.specs.declared.Read.the-variants.{At, Refused}
 use Rattle.lines.specs.declared.DidLine.{DidLine}
 use Rattle.lines.specs.declared.DidLine.the-variants.{Did}
 use Rattle.line_pieces.specs.declared.Numbers.{Numbers}
-use Rattle.line_pieces.specs.Reading.{valueOf, thenBytes, headRead, thenLast}
-use Rattle.line_pieces.specs.NumberList.{thenList, thenClose, eight, kept}
-use Rattle.lines.specs.Words.{word, placed}
+use Rattle.line_pieces.specs.Reading.{valueRead, thenBytes, headRead, thenLast}
+use Rattle.line_pieces.specs.NumberList.{thenList, thenClose, eight, numbersRead}
+use Rattle.lines.specs.Words.{packedWord, placed}
 use Rattle.lines.proofs.words.WordSteps.{placed-same, length-placed}
 use Rattle.lines.specs.Lines.{countLimit, labelLimit, processLimit, didOf, didLine}
 
@@ -41,12 +41,12 @@ all-eight l h = take-all 8 l (omega (arith, h))
 -- The words as the code makes them, each of what is made before.
 pub words-made : (n : ℕ) (processes counts labels marks placed′ : List ℕ) (i v mask c01 c23 c45 c67 word′ : ℕ) → n ≤ 8
     → length counts ≡ 8
-    → marks ≡ placed n (at processes) (at (replicate 8 1)) → mask ≡ word 2 (take (8 - 0) (drop 0 marks))
-    → c01 ≡ word (countLimit + 1) (take (2 - 0) (drop 0 counts))
-    → c23 ≡ word (countLimit + 1) (take (4 - 2) (drop 2 counts))
-    → c45 ≡ word (countLimit + 1) (take (6 - 4) (drop 4 counts))
-    → c67 ≡ word (countLimit + 1) (take (8 - 6) (drop 6 counts))
-    → placed′ ≡ placed n (at processes) (at labels) → word′ ≡ word 256 (take (8 - 0) (drop 0 placed′))
+    → marks ≡ placed n (at processes) (at (replicate 8 1)) → mask ≡ packedWord 2 (take (8 - 0) (drop 0 marks))
+    → c01 ≡ packedWord (countLimit + 1) (take (2 - 0) (drop 0 counts))
+    → c23 ≡ packedWord (countLimit + 1) (take (4 - 2) (drop 2 counts))
+    → c45 ≡ packedWord (countLimit + 1) (take (6 - 4) (drop 4 counts))
+    → c67 ≡ packedWord (countLimit + 1) (take (8 - 6) (drop 6 counts))
+    → placed′ ≡ placed n (at processes) (at labels) → word′ ≡ packedWord 256 (take (8 - 0) (drop 0 placed′))
     → Did mask c01 c23 c45 c67 word′ ≡ didOf n processes counts labels (At i v)
 unfolding didOf
 words-made n processes counts labels marks placed′ i v mask c01 c23 c45 c67 word′ h l m e e₀ e₁ e₂ e₃ p w =
@@ -75,14 +75,14 @@ words-made n processes counts labels marks placed′ i v mask c01 c23 c45 c67 wo
 pub did-made : (s : List ℕ) (k n : ℕ) {head first firstBytes second secondBytes third whole : Read}
     {processes counts labels : Numbers}
     {answer : DidLine} → n ≤ 8
-    → head ≡ headRead s (ascii "(did (") → processes ≡ kept (thenList s true processLimit head)
-    → first ≡ thenClose s 1 8 (processes .read) → n ≡ valueOf first
-    → firstBytes ≡ thenBytes s (ascii " (") first → counts ≡ kept (thenList s false countLimit firstBytes)
+    → head ≡ headRead s (ascii "(did (") → processes ≡ numbersRead (thenList s true processLimit head)
+    → first ≡ thenClose s 1 8 (processes .read) → n ≡ valueRead first
+    → firstBytes ≡ thenBytes s (ascii " (") first → counts ≡ numbersRead (thenList s false countLimit firstBytes)
     → second ≡ thenClose s k k (counts .read)
-    → secondBytes ≡ thenBytes s (ascii " (") second → labels ≡ kept (thenList s false labelLimit secondBytes)
+    → secondBytes ≡ thenBytes s (ascii " (") second → labels ≡ numbersRead (thenList s false labelLimit secondBytes)
     → third ≡ thenClose s n n (labels .read) → whole ≡ thenLast s third
     → answer ≡ didOf n (processes .values) (counts .values) (labels .values) whole → answer ≡ didLine s k
-unfolding kept didLine
+unfolding numbersRead didLine
 did-made s k n {head} {first} {firstBytes} {second} {secondBytes} {third} {whole} {processes} {counts} {labels}
     {answer} few h p f e fb c d sb l t w a =
     let ps = thenList s true processLimit head in

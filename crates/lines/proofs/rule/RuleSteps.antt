@@ -9,7 +9,7 @@ use lib.ListN.{length, take, drop}
 use borrow.Author.Tests.{eq-eqb}
 use Rattle.rules.specs.declared.RuleRead.the-variants.{Accepted, Refused as TextRefused}
 use Rattle.rules.specs.Text.{byteAt}
-use Rattle.rules.specs.Reader.{Reading, formed, refused, readRule, formAt, expect, andThen}
+use Rattle.rules.specs.Reader.{Reading, formed, faulty, readRule, formAt, expect, andThen}
 use Rattle.rules.specs.RuleTable.{answerOf, ruleAnswer}
 use Rattle.lines.specs.declared.RuleLine.the-variants.{Rule, Refused}
 use Rattle.lines.specs.Lines.{ruleText, ruleClosed}
@@ -24,7 +24,7 @@ unfolding ruleText
 text-long s end h e = let q : length s - 7 ≡ end - 6 = omega arith in rw q
 
 -- No text is empty.
-empty-refused : (k : ℕ) → readRule [] k ≡ refused 1 0
+empty-refused : (k : ℕ) → readRule [] k ≡ faulty 1 0
 unfolding readRule formAt expect andThen
 empty-refused k = refl
 
@@ -43,7 +43,7 @@ module _ (s : List ℕ) (k : ℕ) where
     where
       go : (r : Reading) → answerOf r ≡ TextRefused n i → ruleClosed s r ≡ Refused n i
       go (formed j f) e = let z : _≡_ {A = ℕ} 0 1 = cc in absurd (omega arith)
-      go (refused m j) e = cc
+      go (faulty m j) e = cc
 
   pub closed-accepted : (n : ℕ) → answerOf (readRule (ruleText s) k) ≡ Accepted n
       → ruleClosed s (readRule (ruleText s) k) ≡ cond (eqb (byteAt s (length s - 1)) 41) (Rule 6 (length s - 1))
@@ -54,7 +54,7 @@ module _ (s : List ℕ) (k : ℕ) where
       go : (r : Reading) → answerOf r ≡ Accepted n
           → ruleClosed s r ≡ cond (eqb (byteAt s (length s - 1)) 41) (Rule 6 (length s - 1)) (Refused 1 (length s - 1))
       go (formed j f) e = refl
-      go (refused m j) e = let z : _≡_ {A = ℕ} 0 1 = cc in absurd (omega arith)
+      go (faulty m j) e = let z : _≡_ {A = ℕ} 0 1 = cc in absurd (omega arith)
 
   pub closed-short : length s < 7 → ruleClosed s (readRule (ruleText s) k) ≡ Refused 1 0
   unfolding ruleClosed

@@ -8,7 +8,7 @@ use mathlib.Core.List.{List, [], _∷_}
 use lib.ListN.{length, length-take, length-set, set, take, drop}
 use lib.Seq.{drop-cons}
 use Rattle.clocks.specs.Counts.{at}
-use Rattle.lines.specs.Words.{word, placed}
+use Rattle.lines.specs.Words.{packedWord, placed}
 
 -- ---- Numbers in a word
 
@@ -18,21 +18,21 @@ one-more base n w v h l =
     let m : base * suc w ≤ base * base ^ n = mul-le-mul-left base l in
     rw (pow-succ' base n) (omega (arith, mod-lt v h, m, mul-suc base w))
 
-word-below : (base : ℕ) → 0 < base → (vs : List ℕ) → word base vs < base ^ length vs
-unfolding word
+word-below : (base : ℕ) → 0 < base → (vs : List ℕ) → packedWord base vs < base ^ length vs
+unfolding packedWord
 word-below base h [] = rw (pow-zero base) (omega arith)
-word-below base h (v ∷ vs) = one-more base (length vs) (word base vs) v h (word-below base h vs)
+word-below base h (v ∷ vs) = one-more base (length vs) (packedWord base vs) v h (word-below base h vs)
 
 -- There is room for it.
 pub word-fits : (base from to i v w : ℕ) (vs : List ℕ) → 0 < base → from < i → i ≤ to
     → base ^ (to - from) ≤ 18446744073709551616
-    → w ≡ word base (take (to - i) (drop i vs))
+    → w ≡ packedWord base (take (to - i) (drop i vs))
     → (base * w < 18446744073709551616) × (v % base + base * w < 18446744073709551616)
 word-fits base from to i v w vs h k l fits e =
     let short : length (take (to - i) (drop i vs)) ≤ to - i = let n = length-take (to - i) (drop i vs) in
     omega (arith, n) in
     let room : base ^ suc (to - i) ≤ base ^ (to - from) = pow-le-pow-right h (omega arith) in
-    let below : word base (take (to - i) (drop i vs)) < base ^ (to - i) =
+    let below : packedWord base (take (to - i) (drop i vs)) < base ^ (to - i) =
     let a = word-below base h (take (to - i) (drop i vs)) in
     let b : base ^ length (take (to - i) (drop i vs)) ≤ base ^ (to - i) = pow-le-pow-right h short in
     omega (arith, a, b)
@@ -42,16 +42,16 @@ word-fits base from to i v w vs h k l fits e =
 
 -- One number more, below the others.
 pub word-next : (base : ℕ) (vs : List ℕ) (i to : ℕ) → 0 < i → i ≤ to → i ≤ length vs
-    → word base (take (to - (i - 1)) (drop (i - 1) vs))
-    ≡ at vs (i - 1) % base + base * word base (take (to - i) (drop i vs))
-unfolding word
+    → packedWord base (take (to - (i - 1)) (drop (i - 1) vs))
+    ≡ at vs (i - 1) % base + base * packedWord base (take (to - i) (drop i vs))
+unfolding packedWord
 word-next base vs i to z h l =
     let e : to - (i - 1) ≡ suc (to - i) = omega arith in
     let b : suc (i - 1) ≡ i = omega arith in
     rw (e, drop-cons vs (i - 1) 0 (omega arith), b)
 
-pub word-none : (base : ℕ) (vs : List ℕ) (to : ℕ) → 0 ≡ word base (take (to - to) (drop to vs))
-unfolding word
+pub word-none : (base : ℕ) (vs : List ℕ) (to : ℕ) → 0 ≡ packedWord base (take (to - to) (drop to vs))
+unfolding packedWord
 word-none base vs to = let e : to - to ≡ 0 = omega arith in rw e
 
 -- ---- Numbers at places

@@ -10,7 +10,7 @@ use borrow.Author.Tests.{leb-true, eq-eqb, ne-eqb}
 use Rattle.rules.specs.declared.DigitRead.the-variants.{Digit, NoDigit}
 use Rattle.rules.specs.Text.{byteAt}
 use Rattle.rules.specs.Laying.{digitAt}
-use Rattle.rules.specs.Reader.{Reading, expect, expectDigit, refused}
+use Rattle.rules.specs.Reader.{Reading, expect, expectDigit, faulty}
 
 -- A byte
 
@@ -18,7 +18,7 @@ pub expect-met : (s : List ℕ) (i b : ℕ) → byteAt s i ≡ b → (r : Readin
 unfolding expect
 expect-met s i b e r = rw (eq-eqb (byteAt s i) b e)
 
-pub expect-other : (s : List ℕ) (i b : ℕ) → (byteAt s i ≡ b → ⊥) → (r : Reading) → expect s i b r ≡ refused 1 i
+pub expect-other : (s : List ℕ) (i b : ℕ) → (byteAt s i ≡ b → ⊥) → (r : Reading) → expect s i b r ≡ faulty 1 i
 unfolding expect
 expect-other s i b e r = rw (ne-eqb (byteAt s i) b e)
 
@@ -46,7 +46,7 @@ digit-met s i bound value = go (leb 48 c) (leb c 57) (ltb (c - 48) bound) refl r
     go true false z p q l h = let z : _≡_ {A = ℕ} 0 1 = cc in absurd (omega arith)
     go false y z p q l h = let z : _≡_ {A = ℕ} 0 1 = cc in absurd (omega arith)
 
-pub digit-other : (s : List ℕ) (i bound number : ℕ) → digitAt s i bound ≡ NoDigit number → (r : Reading) → expectDigit s i bound r ≡ refused number i
+pub digit-other : (s : List ℕ) (i bound number : ℕ) → digitAt s i bound ≡ NoDigit number → (r : Reading) → expectDigit s i bound r ≡ faulty number i
 unfolding digitAt expectDigit
 digit-other s i bound number h r = go (leb 48 c && leb c 57) (ltb (c - 48) bound) h
   where
@@ -54,7 +54,7 @@ digit-other s i bound number h r = go (leb 48 c && leb c 57) (ltb (c - 48) bound
     c = byteAt s i
 
     go : (x z : Bool) → cond x (cond z (Digit (c - 48)) (NoDigit 4)) (NoDigit 1) ≡ NoDigit number
-        → cond x (cond z r (refused 4 i)) (refused 1 i) ≡ refused number i
+        → cond x (cond z r (faulty 4 i)) (faulty 1 i) ≡ faulty number i
     go true true h = let z : _≡_ {A = ℕ} 0 1 = cc in absurd (omega arith)
-    go true false h = ap (λ (n : ℕ). refused n i) (cc)
-    go false z h = ap (λ (n : ℕ). refused n i) (cc)
+    go true false h = ap (λ (n : ℕ). faulty n i) (cc)
+    go false z h = ap (λ (n : ℕ). faulty n i) (cc)

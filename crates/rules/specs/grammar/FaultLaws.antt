@@ -11,7 +11,7 @@ use lib.Seq.{take-append-le, take-take}
 use borrow.Author.Tests.{ltb-true, ltb-false}
 use Rattle.rules.specs.Text.{byteAt}
 use Rattle.rules.specs.reading.ReaderLaws.{Digit}
-use Rattle.rules.specs.Fault.{Fault2, Fault3, Stands, Fault4, Fault1, Fault, FirstFault, Span}
+use Rattle.rules.specs.Fault.{Fault2, Fault3, StandsAt, Fault4, Fault1, Fault, FirstFault, Span}
 use Rattle.rules.specs.grammar.PlainBytes.{every, plain, and-left, and-right, plain-e}
 use Rattle.rules.specs.grammar.FirstBytes.{Begun, begun-inside}
 use Rattle.rules.specs.grammar.OpenForms.{Viable}
@@ -32,7 +32,7 @@ same-byte s x y a b p q e = cc
 
 -- Fault 4 stands at a digit.
 pub fault4-digit : (s : List ℕ) (k j : ℕ) → Fault4 s k j → (48 ≤ byteAt s j) × (byteAt s j ≤ 57)
-unfolding Fault4 Stands
+unfolding Fault4 StandsAt
 fault4-digit s k j (inl (q, d, x, ten, over, e)) = omega (arith, same-byte s j _ _ _ refl (x .1 .1 .1 .1 .0) (omega arith))
 fault4-digit s k j (inr (q, c, d, x, ten₁, ten, over, e)) = omega (arith, same-byte s j _ _ _ refl (x .1 .1 .1 .1 .1 .1 .0) (omega arith))
 
@@ -51,8 +51,8 @@ clean-next s k i h q j l over = go (ltb j i) refl
     go true e = h j (ltb-true j i e) over
     go false e = q (subst (Over s k) (omega (arith, ltb-false j i e)) over)
 
-clean-stands : (s : List ℕ) (k i : ℕ) (bs : List ℕ) → Clean s k i → Stands s i bs → T (every plain bs) → Clean s k (i + length bs)
-unfolding Stands every
+clean-stands : (s : List ℕ) (k i : ℕ) (bs : List ℕ) → Clean s k i → StandsAt s i bs → T (every plain bs) → Clean s k (i + length bs)
+unfolding StandsAt every
 clean-stands s k i [] h x p = subst (Clean s k) (omega arith) h
 clean-stands s k i (b ∷ bs) h x p =
     subst (Clean s k) (omega arith)
@@ -67,7 +67,7 @@ clean-span {s} {bs} {i} {j} k h x p = subst (Clean s k) (sym (x .ends)) (clean-s
 -- None at a digit that is below its bound: two bytes behind the t of at, and four behind it.
 
 pub first-digit-below : (s : List ℕ) (k t j d : ℕ) → byteAt s t ≡ 116 → j ≡ t + 2 → Digit s j k d → Over s k j → ⊥
-unfolding Fault2 Fault3 Fault4 Stands
+unfolding Fault2 Fault3 Fault4 StandsAt
 first-digit-below s k t j d b e x (inl h) = omega (arith, x .byte, h .0)
 first-digit-below s k t j d b e x (inr (inl h)) = omega (arith, x .byte, h .0)
 first-digit-below s k t j d b e x (inr (inr (inl (q, c, st, ten, over, p)))) =
@@ -76,7 +76,7 @@ first-digit-below s k t j d b e x (inr (inr (inr (q, c, c₂, st, ten₁, ten, o
     omega (arith, same-byte s t _ _ _ b (st .1 .1 .1 .1 .0) (omega arith))
 
 pub second-digit-below : (s : List ℕ) (k t j d : ℕ) → byteAt s t ≡ 116 → j ≡ t + 4 → Digit s j 8 d → Over s k j → ⊥
-unfolding Fault2 Fault3 Fault4 Stands
+unfolding Fault2 Fault3 Fault4 StandsAt
 second-digit-below s k t j d b e x (inl h) = omega (arith, x .byte, h .0)
 second-digit-below s k t j d b e x (inr (inl h)) = omega (arith, x .byte, h .0)
 second-digit-below s k t j d b e x (inr (inr (inl (q, c, st, ten, over, p)))) =

@@ -11,7 +11,7 @@ use lib.ListN.{length, take, length-append, length-take}
 use lib.Seq.{take-suc, append-snoc}
 use borrow.Author.Tests.{ltb-false}
 use Rattle.rules.specs.Text.{byteAt}
-use Rattle.rules.specs.Fault.{Stands, Span}
+use Rattle.rules.specs.Fault.{StandsAt, Span}
 use Rattle.rules.specs.reading.TextLaws.{byteAt-behind}
 use Rattle.rules.specs.grammar.PlainBytes.{every, small, and-left, and-right}
 
@@ -40,8 +40,8 @@ begun-next {s} {bs} {i} {b} p e h = record {
   ends = omega (arith, length-append bs (b ∷ []), p .ends);
 }
 
-begun-stands : {s bs : List ℕ} {i : ℕ} (xs : List ℕ) → Begun s bs i → Stands s i xs → T (every small xs) → Begun s (bs ++ xs) (i + length xs)
-unfolding Stands every
+begun-stands : {s bs : List ℕ} {i : ℕ} (xs : List ℕ) → Begun s bs i → StandsAt s i xs → T (every small xs) → Begun s (bs ++ xs) (i + length xs)
+unfolding StandsAt every
 begun-stands {s} {bs} {i} [] p q h = rw (append-nil, add-zero) p
 begun-stands {s} {bs} {i} (x ∷ xs) p q h =
     let r = begun-stands xs (begun-next p (q .0) (ltb→lt x 256 (and-left (small x) _ h))) (q .1) (and-right (small x) _ h) in

@@ -12,11 +12,11 @@ use Rattle.rules.specs.reading.WordLaws.{span-next, span-byte, span-appe
 use Rattle.rules.specs.grammar.LimitFaults.{Outcome, Reached, stop, expect-out, digit-out, close-out, andThen-out, too-deep, opened-clean, stop-in, over-in}
 use Rattle.codec.specs.Ascii.{ascii}
 use Rattle.rules.specs.Text.{byteAt, textOf, constantLetters, unaryLetters, binaryLetters}
-use Rattle.rules.specs.Fault.{Stands, Fault4, Span}
+use Rattle.rules.specs.Fault.{StandsAt, Fault4, Span}
 use Rattle.rules.specs.Formula.{Atoms, atom, constant, unary, binary}
 use Rattle.rules.specs.grammar.PlainBytes.{every, small, text-small, every-append, plain-small, at-plain, constant-plain, unary-plain, binary-plain}
 use Rattle.rules.specs.grammar.FirstBytes.{begun-span, Begun}
-use Rattle.rules.specs.Reader.{atomAt, refused, wordAt, Reading, innerWith, unaryWith, binaryWith, bodyWith, formAt}
+use Rattle.rules.specs.Reader.{atomAt, faulty, wordAt, Reading, innerWith, unaryWith, binaryWith, bodyWith, formAt}
 use Rattle.rules.specs.declared.Constant.the-variants.{True}
 use Rattle.rules.specs.declared.Unary.{Unary}
 use Rattle.rules.specs.declared.Binary.{Binary}
@@ -29,7 +29,7 @@ use Rattle.rules.specs.grammar.PartialWords.{WordBegun, IfNoWord, wordAt
 module _ (s : List ℕ) (k : ℕ) where
   atom-out : (cs : List Frame) (closed i l : ℕ) → Reached s k cs i → closed ≡ closedLines cs → byteAt s i ≡ 40 → Span s (i + 1) (ascii "at") l
       → Clean s k l → Outcome s k (atomAt s k closed l)
-  unfolding atomAt textOf Atoms Stands Fault4 every
+  unfolding atomAt textOf Atoms StandsAt Fault4 every
   atom-out cs closed i l x lines b q clean₀ =
       let t : byteAt s (i + 1 + 1) ≡ 116 = q .stands .1 .0 in
       let span₀ = span-append (span-byte s i 40 b) q in
@@ -136,7 +136,7 @@ module _ (s : List ℕ) (k : ℕ) where
         (clean-span k clean (h .span) (h .plains))
 
   -- A byte that is no opening bracket, at a form's place.
-  no-bracket : (cs : List Frame) (i : ℕ) → Reached s k cs i → Outcome s k (refused 1 i)
+  no-bracket : (cs : List Frame) (i : ℕ) → Reached s k cs i → Outcome s k (faulty 1 i)
   unfolding Atoms
   no-bracket cs i x = stop-in s k cs i i [] (textOf (constant True)) (constant True) x (span-nil s i) refl tt (x .clean)
 

@@ -20,7 +20,7 @@ use Rattle.rules.specs.Fault.{Fault1, Fault, FirstFault, ReaderFindsFirs
 use Rattle.rules.specs.reading.FormsAnswered.{Exact, Met}
 use Rattle.rules.specs.Formula.{Formula}
 use Rattle.rules.specs.grammar.FirstBytes.{begun-inside, begun-nil, inside}
-use Rattle.rules.specs.Reader.{Reading, andThen, formAt, readRule, formed, refused}
+use Rattle.rules.specs.Reader.{Reading, andThen, formAt, readRule, formed, faulty}
 use Rattle.rules.specs.reading.ForwardLaws.{place}
 
 -- The start of a text
@@ -80,32 +80,32 @@ module _ (s : List ℕ) (k : ℕ) where
       go g l (inr y) = omega (arith, y .0)
 
   -- A byte that the form does not have.
-  inside-first : (j : ℕ) → formAt 32 s k 0 0 ≡ refused 1 j → Stopped s k j → FirstFault 1 s k j
+  inside-first : (j : ℕ) → formAt 32 s k 0 0 ≡ faulty 1 j → Stopped s k j → FirstFault 1 s k j
   unfolding Exact place
   inside-first j e x =
       stop-first s k j x (λ g digits agree _. go g (subst (Met (j + 1) (Exact 32 k 0 0 g)) e (start-met (j + 1) s k g digits agree)))
     where
-      go : (g : Formula) → Met (j + 1) (Exact 32 k 0 0 g) (refused 1 j) → ⊥
+      go : (g : Formula) → Met (j + 1) (Exact 32 k 0 0 g) (faulty 1 j) → ⊥
       go g (inl y) = omega arith
       go g (inr y) = y .0 refl
 
-  refused-first : (n i : ℕ) → readRule s k ≡ refused n i → FirstFault n s k i
+  refused-first : (n i : ℕ) → readRule s k ≡ faulty n i → FirstFault n s k i
   unfolding readRule andThen Outcome
   refused-first n i = go (formAt 32 s k 0 0) refl (start-outcome s k)
     where
       behind : (j : ℕ) (f : Formula) → formAt 32 s k 0 0 ≡ formed j f → Clean s k j → (t : Bool) → ltb j (length s) ≡ t
-          → cond t (refused 1 j) (formed j f) ≡ refused n i → FirstFault n s k i
+          → cond t (faulty 1 j) (formed j f) ≡ faulty n i → FirstFault n s k i
       behind j f e clean true q h =
           subst₂ (λ (m l : ℕ). FirstFault m s k l) (cc) (cc) (behind-first j f e clean (ltb-true j (length s) q))
       behind j f e clean false q h = let z : _≡_ {A = ℕ} 0 1 = cc in absurd (omega arith)
 
       go : (r : Reading) → formAt 32 s k 0 0 ≡ r → Outcome s k r
-          → andThen r (λ i f. cond (ltb i (length s)) (refused 1 i) (formed i f)) ≡ refused n i → FirstFault n s k i
+          → andThen r (λ i f. cond (ltb i (length s)) (faulty 1 i) (formed i f)) ≡ faulty n i → FirstFault n s k i
       go (formed j f) e x h = behind j f e x (ltb j (length s)) refl h
-      go (refused m j) e (inl x) h = subst₂ (λ (m l : ℕ). FirstFault m s k l) (cc) (cc) x
-      go (refused m j) e (inr x) h =
+      go (faulty m j) e (inl x) h = subst₂ (λ (m l : ℕ). FirstFault m s k l) (cc) (cc) x
+      go (faulty m j) e (inr x) h =
           let one : m ≡ 1 = x .0 in
-          subst₂ (λ (m l : ℕ). FirstFault m s k l) (cc) (cc) (inside-first j (e ∙ ap (λ (z : ℕ). refused z j) one) (x .1))
+          subst₂ (λ (m l : ℕ). FirstFault m s k l) (cc) (cc) (inside-first j (e ∙ ap (λ (z : ℕ). faulty z j) one) (x .1))
 
   -- An accepted text has no fault.
   accepted-faultless : (i : ℕ) (f : Formula) → readRule s k ≡ formed i f → (n j : ℕ) → Fault n s k j → ⊥
@@ -142,19 +142,19 @@ module _ (s : List ℕ) (k : ℕ) where
           let e : i ≡ j = omega (arith, ltb-false i j p, ltb-false j i q) in
           (numbers e (ltb n m) (ltb m n) refl refl, e)
 
-  first-refused : (n i : ℕ) → FirstFault n s k i → readRule s k ≡ refused n i
+  first-refused : (n i : ℕ) → FirstFault n s k i → readRule s k ≡ faulty n i
   first-refused n i x = go (readRule s k) refl
     where
-      go : (r : Reading) → readRule s k ≡ r → readRule s k ≡ refused n i
+      go : (r : Reading) → readRule s k ≡ r → readRule s k ≡ faulty n i
       go (formed j f) e = absurd (accepted-faultless j f e n i (x .here))
-      go (refused m j) e = let same = first-unique m n j i (refused-first m j e) x in e ∙ ap₂ refused (same .0) (same .1)
+      go (faulty m j) e = let same = first-unique m n j i (refused-first m j e) x in e ∙ ap₂ faulty (same .0) (same .1)
 
   faultless-accepted : ((n i : ℕ) → Fault n s k i → ⊥) → (i : ℕ) × (f : Formula) × (readRule s k ≡ formed i f)
   faultless-accepted none-at = go (readRule s k) refl
     where
       go : (r : Reading) → readRule s k ≡ r → (i : ℕ) × (f : Formula) × (readRule s k ≡ formed i f)
       go (formed j f) e = (j, f, e)
-      go (refused m j) e = absurd (none-at m j (refused-first m j e .here))
+      go (faulty m j) e = absurd (none-at m j (refused-first m j e .here))
 
 -- The reader refuses a text exactly by its first fault.
 pub reader-first-fault : ReaderFindsFirstFault

@@ -13,7 +13,7 @@ use Rattle.rules.specs.Line.{unaryWeight, binaryWeight, lineCount}
 use Rattle.codec.specs.Ascii.{ascii}
 use Rattle.rules.specs.Text.{unaryLetters, binaryLetters, textOf, Grammatical, constantLetters}
 use Rattle.rules.specs.grammar.ScanLaws.{count-append, balanced-append, balanced-plain, text-balanced, unary-weight, binary-weight, closed-word, closed-space, closed-form}
-use Rattle.rules.specs.Fault.{count, linesClosed}
+use Rattle.rules.specs.Fault.{occurring, linesClosed}
 use Rattle.rules.specs.Formula.{Formula, constant, Atoms, unary, binary, atom}
 use Rattle.rules.specs.grammar.PlainBytes.{unary-plain, binary-plain}
 use Rattle.rules.specs.declared.Constant.{Constant}
@@ -73,8 +73,8 @@ pub record Viable (bs : List ℕ) : Type 0 where
 
 -- Brackets
 
-opening-count : (c : Frame) → count 40 (opening c) ≡ count 41 (opening c) + 1
-unfolding opening count
+opening-count : (c : Frame) → occurring 40 (opening c) ≡ occurring 41 (opening c) + 1
+unfolding opening occurring
 opening-count (inOne w) =
     let c = unaryLetters w in
     omega (arith, balanced-append c (32 ∷ []) (balanced-plain c (unary-plain w)) refl)
@@ -87,8 +87,8 @@ opening-count (inSecond w f) =
     omega (arith, balanced-append c (32 ∷ (textOf f ++ 32 ∷ [])) (balanced-plain c (binary-plain w)) (omega arith))
 
 -- As many brackets are open as there are open forms.
-pub before-count : (cs : List Frame) → count 40 (before cs) ≡ count 41 (before cs) + length cs
-unfolding before count
+pub before-count : (cs : List Frame) → occurring 40 (before cs) ≡ occurring 41 (before cs) + length cs
+unfolding before occurring
 before-count [] = refl
 before-count (c ∷ cs) =
     omega (arith, before-count cs, opening-count c, count-append 40 (before cs) (opening c), count-append 41 (before cs) (opening c))

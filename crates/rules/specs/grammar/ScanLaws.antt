@@ -15,25 +15,25 @@ use Rattle.rules.specs.declared.Binary.the-variants.{And, Es, As, Or}
 use Rattle.rules.specs.Line.{constantWeight, unaryWeight, binaryWeight, lineCount}
 use Rattle.codec.specs.Ascii.{ascii}
 use Rattle.rules.specs.Text.{constantLetters, unaryLetters, binaryLetters, textOf}
-use Rattle.rules.specs.Fault.{count, begins, words, weightOf, openedAfter, linesClosed}
+use Rattle.rules.specs.Fault.{occurring, beginsWith, words, weightOf, openedAfter, linesClosed}
 use Rattle.rules.specs.Formula.{Formula, atom, constant, unary, binary}
 use Rattle.rules.specs.grammar.PlainBytes.{every, plain, and-left, and-right, plain-e, constant-plain, unary-plain, binary-plain, at-plain}
 
 -- Brackets
 
-pub count-append : (b : ℕ) (xs ys : List ℕ) → count b (xs ++ ys) ≡ count b xs + count b ys
-unfolding count
+pub count-append : (b : ℕ) (xs ys : List ℕ) → occurring b (xs ++ ys) ≡ occurring b xs + occurring b ys
+unfolding occurring
 count-append b [] ys = omega arith
 count-append b (x ∷ xs) ys = omega (arith, count-append b xs ys)
 
 -- Another byte counts nothing.
-count-other : (b c : ℕ) (s : List ℕ) → (c ≡ b → ⊥) → count b (c ∷ s) ≡ count b s
-unfolding count
-count-other b c s h = rw (ne-eqb c b h) (zero-add (count b s))
+count-other : (b c : ℕ) (s : List ℕ) → (c ≡ b → ⊥) → occurring b (c ∷ s) ≡ occurring b s
+unfolding occurring
+count-other b c s h = rw (ne-eqb c b h) (zero-add (occurring b s))
 
 -- Plain bytes hold no bracket.
-count-plain : (b : ℕ) (bs : List ℕ) → 40 ≤ b → b ≤ 57 → T (every plain bs) → count b bs ≡ 0
-unfolding count every
+count-plain : (b : ℕ) (bs : List ℕ) → 40 ≤ b → b ≤ 57 → T (every plain bs) → occurring b bs ≡ 0
+unfolding occurring every
 count-plain b [] l h p = refl
 count-plain b (c ∷ bs) l h p =
     count-other b c bs (λ e. plain-e c (and-left (plain c) _ p) .quiet (omega arith) (omega arith))
@@ -41,7 +41,7 @@ count-plain b (c ∷ bs) l h p =
 
 -- As many closing as opening brackets.
 abbrev pub Balanced : List ℕ → Type 0
-Balanced bs = count 40 bs ≡ count 41 bs
+Balanced bs = occurring 40 bs ≡ occurring 41 bs
 
 pub balanced-append : (xs ys : List ℕ) → Balanced xs → Balanced ys → Balanced (xs ++ ys)
 balanced-append xs ys p q = omega (arith, count-append 40 xs ys, count-append 41 xs ys)
@@ -53,11 +53,11 @@ balanced-digit : (d : ℕ) (bs : List ℕ) → Balanced bs → Balanced ((48 + d
 balanced-digit d bs h = count-other 40 (48 + d) bs (omega arith) ∙ h ∙ sym (count-other 41 (48 + d) bs (omega arith))
 
 -- A closing bracket more than opening ones, at the end; with an opening one before it that is made even.
-closed-once : (xs ys : List ℕ) → Balanced xs → count 40 ys + 1 ≡ count 41 ys → count 40 (xs ++ ys) + 1 ≡ count 41 (xs ++ ys)
+closed-once : (xs ys : List ℕ) → Balanced xs → occurring 40 ys + 1 ≡ occurring 41 ys → occurring 40 (xs ++ ys) + 1 ≡ occurring 41 (xs ++ ys)
 closed-once xs ys p q = omega (arith, count-append 40 xs ys, count-append 41 xs ys)
 
 pub text-balanced : (f : Formula) → Balanced (textOf f)
-unfolding textOf count
+unfolding textOf occurring
 text-balanced (atom p b) = omega (arith, balanced-digit p [] refl, balanced-digit b [] refl)
 text-balanced (constant w) =
     let c = constantLetters w in
@@ -97,16 +97,16 @@ closed-close w opened s = refl
 
 -- The word behind a bracket gives the weight.
 at-weight : (s : List ℕ) → weightOf words (ascii "at" ++ s) ≡ 1
-unfolding weightOf words begins
+unfolding weightOf words beginsWith
 at-weight s = refl
 
 constant-weight : (w : Constant) (s : List ℕ) → weightOf words (constantLetters w ++ s) ≡ constantWeight w
-unfolding weightOf words begins constantLetters unaryLetters binaryLetters constantWeight unaryWeight binaryWeight
+unfolding weightOf words beginsWith constantLetters unaryLetters binaryLetters constantWeight unaryWeight binaryWeight
 constant-weight True s = refl
 constant-weight False s = refl
 
 pub unary-weight : (w : Unary) (s : List ℕ) → weightOf words (unaryLetters w ++ s) ≡ unaryWeight w
-unfolding weightOf words begins constantLetters unaryLetters binaryLetters constantWeight unaryWeight binaryWeight
+unfolding weightOf words beginsWith constantLetters unaryLetters binaryLetters constantWeight unaryWeight binaryWeight
 unary-weight Not s = refl
 unary-weight Ey s = refl
 unary-weight Ep s = refl
@@ -116,7 +116,7 @@ unary-weight Eh s = refl
 unary-weight Ah s = refl
 
 pub binary-weight : (w : Binary) (s : List ℕ) → weightOf words (binaryLetters w ++ s) ≡ binaryWeight w
-unfolding weightOf words begins constantLetters unaryLetters binaryLetters constantWeight unaryWeight binaryWeight
+unfolding weightOf words beginsWith constantLetters unaryLetters binaryLetters constantWeight unaryWeight binaryWeight
 binary-weight And s = refl
 binary-weight Es s = refl
 binary-weight As s = refl

@@ -17,18 +17,18 @@ use Rattle.pactl.specs.Table.{tableBytes, goodTable}
 use Rattle.pactl.specs.TableBytes.{linesOf}
 use Rattle.pactl.specs.TableBytesLaws.{linesOf-tableBytes}
 use Rattle.pactl.specs.TableLaws.{length-tableBytes}
-use Rattle.rules.specs.Reader.{formed, refused, andThen, formAt, readRule}
+use Rattle.rules.specs.Reader.{formed, faulty, andThen, formAt, readRule}
 use Rattle.rules.specs.Laying.{lay}
 use Rattle.rules.specs.RuleTable.{tableOf, answerOf, tableAfter, ruleAnswer, ruleTable}
 
 -- The whole text, by its form
 
 module _ (s : List ℕ) (k : ℕ) where
-  pub rule-fault : (n i : ℕ) → formAt 32 s k 0 0 ≡ refused n i → readRule s k ≡ refused n i
+  pub rule-fault : (n i : ℕ) → formAt 32 s k 0 0 ≡ faulty n i → readRule s k ≡ faulty n i
   unfolding readRule andThen
   rule-fault n i e = rw e
 
-  pub rule-more : (i : ℕ) (f : Formula) → formAt 32 s k 0 0 ≡ formed i f → i < length s → readRule s k ≡ refused 1 i
+  pub rule-more : (i : ℕ) (f : Formula) → formAt 32 s k 0 0 ≡ formed i f → i < length s → readRule s k ≡ faulty 1 i
   unfolding readRule andThen
   rule-more i f e h = rw (e, lt-ltb i (length s) h)
 
@@ -42,7 +42,7 @@ module _ (s : List ℕ) (k : ℕ) where
   unfolding ruleAnswer ruleTable
   rule-length old z = rw (ne-eqb (length old) 192 z) (refl, refl)
 
-  pub rule-refused : (old : List ℕ) (n i : ℕ) → length old ≡ 192 → readRule s k ≡ refused n i
+  pub rule-refused : (old : List ℕ) (n i : ℕ) → length old ≡ 192 → readRule s k ≡ faulty n i
       → (Refused n i ≡ ruleAnswer s k old) × (old ≡ ruleTable s k old)
   unfolding ruleAnswer ruleTable answerOf tableAfter
   rule-refused old n i z e = rw (eq-eqb (length old) 192 z, e) (refl, refl)

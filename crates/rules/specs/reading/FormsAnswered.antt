@@ -17,7 +17,7 @@ use Rattle.rules.specs.Line.{lineCount}
 use Rattle.rules.specs.reading.WordLaws.{if-byte}
 use Rattle.rules.specs.Text.{byteAt, textOf, depth, constantLetters, unaryLetters, binaryLetters, Grammatical}
 use Rattle.rules.specs.Formula.{Formula, AtomsBelow, atom, Atoms, constant, unary, binary}
-use Rattle.rules.specs.Reader.{wordAt, Reading, andThen, expect, expectDigit, closeAt, atomAt, bodyWith, formAt, formed, refused, innerWith, unaryWith, binaryWith}
+use Rattle.rules.specs.Reader.{wordAt, Reading, andThen, expect, expectDigit, closeAt, atomAt, bodyWith, formAt, formed, faulty, innerWith, unaryWith, binaryWith}
 use Rattle.rules.specs.declared.Constant.{Constant}
 use Rattle.rules.specs.declared.Unary.{Unary}
 use Rattle.rules.specs.declared.Binary.{Binary}
@@ -25,7 +25,7 @@ use Rattle.rules.specs.declared.Binary.{Binary}
 -- What the reader answers to form g at place i: the form, or a fault other than 1, which comes only beyond the limits.
 unfoldable pub Exact : (a k closed i : ℕ) → Formula → Reading → Type 0
 Exact a k closed i g (formed j f) = (j ≡ i + length (textOf g)) × (f ≡ g)
-Exact a k closed i g (refused n l) = (n ≡ 1 → ⊥) × (depth g ≤ a → closed + lineCount g ≤ 64 → AtomsBelow k g → ⊥)
+Exact a k closed i g (faulty n l) = (n ≡ 1 → ⊥) × (depth g ≤ a → closed + lineCount g ≤ 64 → AtomsBelow k g → ⊥)
 
 -- An answer at or behind place m, or such an answer.
 abbrev pub Met : ℕ → (Reading → Type 0) → Reading → Type 0
@@ -35,9 +35,9 @@ module _ (m : ℕ) (s : List ℕ) (E : Reading → Type 0) where
   expect-met : (i b : ℕ) (r : Reading) → (i < m → byteAt s i ≡ b) → Met m E r → Met m E (expect s i b r)
   unfolding expect place
   expect-met i b r h q =
-      if-byte (Met m E) (byteAt s i) b r (refused 1 i) (λ _. q) (λ ne. inl (known m i h (λ l. l) (λ e. absurd (ne e))))
+      if-byte (Met m E) (byteAt s i) b r (faulty 1 i) (λ _. q) (λ ne. inl (known m i h (λ l. l) (λ e. absurd (ne e))))
 
-  expectDigit-met : (i bound d : ℕ) (r : Reading) → d ≤ 9 → (i < m → byteAt s i ≡ 48 + d) → (bound ≤ d → E (refused 4 i)) → Met m E r
+  expectDigit-met : (i bound d : ℕ) (r : Reading) → d ≤ 9 → (i < m → byteAt s i ≡ 48 + d) → (bound ≤ d → E (faulty 4 i)) → Met m E r
       → Met m E (expectDigit s i bound r)
   unfolding expectDigit place
   expectDigit-met i bound d r ten h over q = go (leb 48 c) (leb c 57) (ltb (c - 48) bound) refl refl refl
@@ -45,7 +45,7 @@ module _ (m : ℕ) (s : List ℕ) (E : Reading → Type 0) where
       c : ℕ
       c = byteAt s i
 
-      go : (x y z : Bool) → leb 48 c ≡ x → leb c 57 ≡ y → ltb (c - 48) bound ≡ z → Met m E (cond (x && y) (cond z r (refused 4 i)) (refused 1 i))
+      go : (x y z : Bool) → leb 48 c ≡ x → leb c 57 ≡ y → ltb (c - 48) bound ≡ z → Met m E (cond (x && y) (cond z r (faulty 4 i)) (faulty 1 i))
       go true true true e₁ e₂ e₃ = q
       go true true false e₁ e₂ e₃ = known m i h (λ l. inl l) (λ e. inr (over (omega (arith, ltb-false (c - 48) bound e₃))))
       go true false z e₁ e₂ e₃ = inl (known m i h (λ l. l) (λ e. absurd (omega (arith, leb-false c 57 e₂))))
@@ -54,12 +54,12 @@ module _ (m : ℕ) (s : List ℕ) (E : Reading → Type 0) where
   -- After a form: where the inner answer is behind m, so is the whole.
   andThen-met : (F : Reading → Type 0) (r : Reading) (next : ℕ → Formula → Reading) → Met m F r
       → ((j : ℕ) (f : Formula) → m ≤ j → m ≤ place (next j f)) → ((j : ℕ) (f : Formula) → F (formed j f) → Met m E (next j f))
-      → ((n l : ℕ) → F (refused n l) → E (refused n l)) → Met m E (andThen r next)
+      → ((n l : ℕ) → F (faulty n l) → E (faulty n l)) → Met m E (andThen r next)
   unfolding andThen place
   andThen-met F (formed j f) next (inl h) late exact over = inl (late j f h)
   andThen-met F (formed j f) next (inr h) late exact over = exact j f h
-  andThen-met F (refused n l) next (inl h) late exact over = inl h
-  andThen-met F (refused n l) next (inr h) late exact over = inr (over n l h)
+  andThen-met F (faulty n l) next (inl h) late exact over = inl h
+  andThen-met F (faulty n l) next (inr h) late exact over = inr (over n l h)
 
 module _ (m : ℕ) (s : List ℕ) (k : ℕ) where
   closeAt-met : (a closed i l : ℕ) (f g : Formula) → (l < m → byteAt s l ≡ 41) → l + 1 ≡ i + length (textOf g) → f ≡ g
@@ -68,7 +68,7 @@ module _ (m : ℕ) (s : List ℕ) (k : ℕ) where
   closeAt-met a closed i l f g h e q =
       expect-met m s (Exact a k closed i g) l 41 _ h (go (leb (closed + lineCount f) 64) refl)
     where
-      go : (t : Bool) → leb (closed + lineCount f) 64 ≡ t → Met m (Exact a k closed i g) (cond t (formed (l + 1) f) (refused 3 l))
+      go : (t : Bool) → leb (closed + lineCount f) 64 ≡ t → Met m (Exact a k closed i g) (cond t (formed (l + 1) f) (faulty 3 l))
       go true p = inr (e, q)
       go false p =
           let over : 64 < closed + lineCount g = subst (λ (x : Formula). 64 < closed + lineCount x) q (leb-false _ _ p) in
@@ -82,7 +82,7 @@ module _ (m : ℕ) (s : List ℕ) (k : ℕ) where
   -- No brackets left: a form is too deep.
   zero-met : (closed i : ℕ) (g : Formula) → 1 ≤ depth g → (i < m → byteAt s i ≡ 40) → Met m (Exact 0 k closed i g) (formAt 0 s k closed i)
   unfolding formAt Exact
-  zero-met closed i g d h = expect-met m s (Exact 0 k closed i g) i 40 (refused 2 i) h (inr ((λ z. omega arith), (λ shallow _ _. omega arith)))
+  zero-met closed i g d h = expect-met m s (Exact 0 k closed i g) i 40 (faulty 2 i) h (inr ((λ z. omega arith), (λ shallow _ _. omega arith)))
 
   -- A byte known before m, at a place written otherwise.
   at-place : {x y b : ℕ} → x ≡ y → (x < m → byteAt s x ≡ b) → y < m → byteAt s y ≡ b

@@ -12,14 +12,14 @@ use Rattle.rules.specs.Line.{lineCount}
 use Rattle.rules.specs.reading.WordLaws.{if-byte, rest-case}
 use Rattle.rules.specs.Text.{byteAt}
 use Rattle.rules.specs.Formula.{Formula, constant, unary, binary}
-use Rattle.rules.specs.Reader.{restAt, aWordAt, eWordAt, wordAt, Reading, andThen, expect, expectDigit, closeAt, atomAt, innerWith, unaryWith, binaryWith, bodyWith, formAt, formed, refused}
+use Rattle.rules.specs.Reader.{restAt, aWordAt, eWordAt, wordAt, Reading, andThen, expect, expectDigit, closeAt, atomAt, innerWith, unaryWith, binaryWith, bodyWith, formAt, formed, faulty}
 use Rattle.rules.specs.declared.WordRead.{WordRead}
 use Rattle.rules.specs.declared.WordRead.the-variants.{AtWord, ConstantWord, UnaryWord, BinaryWord, NoWord}
 
 -- The place of an answer: that of the byte behind a form, or of a fault.
 unfoldable pub place : Reading → ℕ
 place (formed j f) = j
-place (refused n j) = j
+place (faulty n j) = j
 
 -- The place of a word's answer.
 unfoldable pub wordPlace : WordRead → ℕ
@@ -76,7 +76,7 @@ word-from s i =
 
 expect-from : (m : ℕ) (s : List ℕ) (i b : ℕ) (r : Reading) → m ≤ i → m ≤ place r → m ≤ place (expect s i b r)
 unfolding expect place
-expect-from m s i b r h q = if-byte (λ x. m ≤ place x) (byteAt s i) b r (refused 1 i) (λ _. q) (λ _. h)
+expect-from m s i b r h q = if-byte (λ x. m ≤ place x) (byteAt s i) b r (faulty 1 i) (λ _. q) (λ _. h)
 
 cond-from : (m : ℕ) (t : Bool) (x y : Reading) → m ≤ place x → m ≤ place y → m ≤ place (cond t x y)
 cond-from m true x y p q = p
@@ -85,18 +85,18 @@ cond-from m false x y p q = q
 expectDigit-from : (m : ℕ) (s : List ℕ) (i bound : ℕ) (r : Reading) → m ≤ i → m ≤ place r → m ≤ place (expectDigit s i bound r)
 unfolding expectDigit place
 expectDigit-from m s i bound r h q =
-    cond-from m (leb 48 (byteAt s i) && leb (byteAt s i) 57) _ _ (cond-from m (ltb (byteAt s i - 48) bound) r (refused 4 i) q h) h
+    cond-from m (leb 48 (byteAt s i) && leb (byteAt s i) 57) _ _ (cond-from m (ltb (byteAt s i - 48) bound) r (faulty 4 i) q h) h
 
 pub closeAt-from : (m : ℕ) (s : List ℕ) (closed i : ℕ) (f : Formula) → m ≤ i → m ≤ place (closeAt s closed i f)
 unfolding closeAt place
 closeAt-from m s closed i f h =
-    expect-from m s i 41 _ h (cond-from m (leb (closed + lineCount f) 64) (formed (i + 1) f) (refused 3 i) (omega arith) h)
+    expect-from m s i 41 _ h (cond-from m (leb (closed + lineCount f) 64) (formed (i + 1) f) (faulty 3 i) (omega arith) h)
 
 andThen-from : (m : ℕ) (r : Reading) (next : ℕ → Formula → Reading) → m ≤ place r
     → ((j : ℕ) (f : Formula) → m ≤ j → m ≤ place (next j f)) → m ≤ place (andThen r next)
 unfolding andThen place
 andThen-from m (formed j f) next p q = q j f p
-andThen-from m (refused n j) next p q = p
+andThen-from m (faulty n j) next p q = p
 
 module _ (s : List ℕ) (k : ℕ) where
   -- A reader of forms that goes forward.
@@ -133,7 +133,7 @@ module _ (s : List ℕ) (k : ℕ) where
 
   pub formAt-from : (a : ℕ) → Forward (formAt a s k)
   unfolding formAt
-  formAt-from zero closed i = expect-from i s i 40 (refused 2 i) (omega arith) (unfold place in (omega arith))
+  formAt-from zero closed i = expect-from i s i 40 (faulty 2 i) (omega arith) (unfold place in (omega arith))
   formAt-from (suc a) closed i =
       expect-from i s i 40 _ (omega arith)
       (body-from (formAt a s k) (formAt-from a) closed i (wordAt s (i + 1)) (omega (arith, word-from s (i + 1))))

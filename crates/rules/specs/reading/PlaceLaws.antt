@@ -18,7 +18,7 @@ use Rattle.rules.specs.declared.WordRead.the-variants.{AtWord, ConstantW
 use Rattle.rules.specs.Formula.{Formula, atom, constant, unary, binary}
 use Rattle.rules.specs.Line.{constantWeight, unaryWeight, binaryWeight, lineCount}
 use Rattle.rules.specs.Text.{byteAt, constantLetters, unaryLetters, binaryLetters, textOf}
-use Rattle.rules.specs.Reader.{wordAt, Reading, formed, refused, andThen, expect, expectDigit, closeAt, atomAt, innerWith, unaryWith, binaryWith, bodyWith, formAt, readRule}
+use Rattle.rules.specs.Reader.{wordAt, Reading, formed, faulty, andThen, expect, expectDigit, closeAt, atomAt, innerWith, unaryWith, binaryWith, bodyWith, formAt, readRule}
 use Rattle.rules.specs.Fault.{FaultPlaceBelow1024}
 use Rattle.rules.specs.reading.WordLaws.{WordSpan, wordAt-span, if-byte}
 use Rattle.rules.specs.reading.ReaderLaws.{formAt-formed, Sound, inner-formed}
@@ -59,16 +59,16 @@ length-textOf (binary w f g) =
 -- A fault at most so far on.
 unfoldable pub FaultBy : ℕ → Reading → Type 0
 FaultBy limit (formed j f) = Unit {0}
-FaultBy limit (refused n j) = j ≤ limit
+FaultBy limit (faulty n j) = j ≤ limit
 
 weaken : (m n : ℕ) (r : Reading) → m ≤ n → FaultBy m r → FaultBy n r
 unfolding FaultBy
 weaken m n (formed j f) h p = tt
-weaken m n (refused l j) h p = omega arith
+weaken m n (faulty l j) h p = omega arith
 
 expect-by : (limit : ℕ) (s : List ℕ) (i b : ℕ) (r : Reading) → i ≤ limit → FaultBy limit r → FaultBy limit (expect s i b r)
 unfolding expect FaultBy
-expect-by limit s i b r h q = if-byte (FaultBy limit) (byteAt s i) b r (refused 1 i) (λ _. q) (λ _. h)
+expect-by limit s i b r h q = if-byte (FaultBy limit) (byteAt s i) b r (faulty 1 i) (λ _. q) (λ _. h)
 
 cond-by : (limit : ℕ) (t : Bool) (x y : Reading) → FaultBy limit x → FaultBy limit y → FaultBy limit (cond t x y)
 cond-by limit true x y p q = p
@@ -77,18 +77,18 @@ cond-by limit false x y p q = q
 expectDigit-by : (limit : ℕ) (s : List ℕ) (i bound : ℕ) (r : Reading) → i ≤ limit → FaultBy limit r → FaultBy limit (expectDigit s i bound r)
 unfolding expectDigit FaultBy
 expectDigit-by limit s i bound r h q =
-    cond-by limit (leb 48 (byteAt s i) && leb (byteAt s i) 57) _ _ (cond-by limit (ltb (byteAt s i - 48) bound) r (refused 4 i) q h) h
+    cond-by limit (leb 48 (byteAt s i) && leb (byteAt s i) 57) _ _ (cond-by limit (ltb (byteAt s i - 48) bound) r (faulty 4 i) q h) h
 
 closeAt-by : (limit : ℕ) (s : List ℕ) (closed i : ℕ) (f : Formula) → i ≤ limit → FaultBy limit (closeAt s closed i f)
 unfolding closeAt FaultBy
 closeAt-by limit s closed i f h =
-    expect-by limit s i 41 _ h (cond-by limit (leb (closed + lineCount f) 64) (formed (i + 1) f) (refused 3 i) tt h)
+    expect-by limit s i 41 _ h (cond-by limit (leb (closed + lineCount f) 64) (formed (i + 1) f) (faulty 3 i) tt h)
 
 andThen-by : (limit : ℕ) (r : Reading) (next : ℕ → Formula → Reading) → FaultBy limit r
     → ((j : ℕ) (f : Formula) → r ≡ formed j f → FaultBy limit (next j f)) → FaultBy limit (andThen r next)
 unfolding andThen FaultBy
 andThen-by limit (formed j f) next p q = q j f refl
-andThen-by limit (refused n j) next p q = p
+andThen-by limit (faulty n j) next p q = p
 
 -- How far a fault can be from a form's place, with brackets nested at most a deep and after forms with `closed` lines.
 abbrev limitFrom : ℕ → ℕ → ℕ → ℕ
@@ -142,7 +142,7 @@ module _ (s : List ℕ) (k : ℕ) where
 
   pub formAt-by : (a : ℕ) → By a (formAt a s k)
   unfolding formAt
-  formAt-by zero closed i = expect-by _ s i 40 (refused 2 i) (omega arith) (unfold FaultBy in (omega arith))
+  formAt-by zero closed i = expect-by _ s i 40 (faulty 2 i) (omega arith) (unfold FaultBy in (omega arith))
   formAt-by (suc a) closed i =
       expect-by _ s i 40 _ (omega arith)
       (body-by a (formAt a s k) (formAt-formed s k a) (formAt-by a) closed i (wordAt s (i + 1)) (wordAt-span s (i + 1)))
@@ -153,7 +153,7 @@ readRule-by s k =
     andThen-by 832 (formAt 32 s k 0 0) _ (formAt-by s k 32 0 0)
     (λ j f e.
     let x = formAt-formed s k 32 0 0 j f e in
-    cond-by 832 (ltb j (length s)) (refused 1 j) (formed j f) (omega (arith, x .span .ends, x .short, length-textOf f)) tt)
+    cond-by 832 (ltb j (length s)) (faulty 1 j) (formed j f) (omega (arith, x .span .ends, x .short, length-textOf f)) tt)
 
 -- A first fault stands below 1,024, however long the text is.
 pub fault-place : FaultPlaceBelow1024

@@ -10,7 +10,7 @@ use lib.Dec.{ltb}
 use lib.ListN.{length}
 use borrow.Author.Tests.{ltb-false, le-ltb}
 use Rattle.rules.specs.reading.WordsAnswered.{standsTo-same}
-use Rattle.rules.specs.Text.{byteAt, textOf, Grammatical, Within}
+use Rattle.rules.specs.Text.{byteAt, textOf, Grammatical, WithinLimits}
 use Rattle.rules.specs.reading.ReaderLaws.{andThen-formed, FormRead, formAt-formed}
 use Rattle.rules.specs.Fault.{ReaderAcceptsForms}
 use Rattle.rules.specs.reading.FormsAnswered.{Exact, Met, formAt-met}
@@ -18,7 +18,7 @@ use Rattle.rules.specs.Formula.{Formula}
 use Rattle.rules.specs.reading.PlaceLaws.{FaultBy, formAt-by}
 use Rattle.rules.specs.grammar.PlainBytes.{text-small}
 use Rattle.rules.specs.grammar.FirstBytes.{Begun, begun-inside, begun-nil, begun-span}
-use Rattle.rules.specs.Reader.{Reading, andThen, formAt, readRule, formed, refused}
+use Rattle.rules.specs.Reader.{Reading, andThen, formAt, readRule, formed, faulty}
 use Rattle.rules.specs.reading.ForwardLaws.{place}
 
 -- A form that stands at the start of a text is the text's first bytes.
@@ -45,7 +45,7 @@ accepted s k i f h =
     go (x .0) (x .1) (x .2) (ltb (x .0) (length s)) refl (x .3)
   where
     go : (j : ℕ) (g : Formula) → formAt 32 s k 0 0 ≡ formed j g → (t : Bool) → ltb j (length s) ≡ t
-        → cond t (refused 1 j) (formed j g) ≡ formed i f → Accepted s k i f
+        → cond t (faulty 1 j) (formed j g) ≡ formed i f → Accepted s k i f
     go j g e true q r = let z : _≡_ {A = ℕ} 0 1 = cc in absurd (omega arith)
     go j g e false q r =
         let b : Begun s (textOf g) j = read-begun (formAt-formed s k 32 0 0 j g e) in
@@ -55,7 +55,7 @@ accepted s k i f h =
         record { start = cc; whole = rw same (sym (b .taken) ∙ rw l (take-length s)); ends = place ∙ l }
 
 -- The text of a form within the limits.
-pub accepts : (s : List ℕ) (k : ℕ) (f : Formula) → textOf f ≡ s → Grammatical f → Within k f → readRule s k ≡ formed (length s) f
+pub accepts : (s : List ℕ) (k : ℕ) (f : Formula) → textOf f ≡ s → Grammatical f → WithinLimits k f → readRule s k ≡ formed (length s) f
 unfolding readRule andThen Exact FaultBy place
 accepts s k f e digits within = go (formAt 32 s k 0 0) refl (start-met m s k f digits (λ l p q. rw e)) (formAt-by s k 32 0 0)
   where
@@ -63,13 +63,13 @@ accepts s k f e digits within = go (formAt 32 s k 0 0) refl (start-met m s k f d
     m = length s + 833
 
     go : (r : Reading) → formAt 32 s k 0 0 ≡ r → Met m (Exact 32 k 0 0 f) r → FaultBy 832 r
-        → andThen r (λ i f. cond (ltb i (length s)) (refused 1 i) (formed i f)) ≡ formed (length s) f
+        → andThen r (λ i f. cond (ltb i (length s)) (faulty 1 i) (formed i f)) ≡ formed (length s) f
     go (formed j g) q (inl h) by = absurd (omega (arith, begun-inside (read-begun (formAt-formed s k 32 0 0 j g q))))
     go (formed j g) q (inr h) by =
         let l : j ≡ length s = omega (arith, ap length e, h .0) in
         rw (le-ltb j (length s) (omega arith)) (ap₂ formed l (h .1))
-    go (refused n j) q (inl h) by = absurd (omega arith)
-    go (refused n j) q (inr h) by = absurd (h .1 (within .shallow) (omega (arith, within .short)) (within .below))
+    go (faulty n j) q (inl h) by = absurd (omega arith)
+    go (faulty n j) q (inr h) by = absurd (h .1 (within .shallow) (omega (arith, within .short)) (within .below))
 
 -- The reader accepts a text exactly if that is the text of a form of the grammar within the limits, and reads that
 -- form.

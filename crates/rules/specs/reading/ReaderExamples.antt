@@ -11,8 +11,8 @@ use Rattle.rules.specs.Formula.{Formula, atom, constant, unary, binary}
 use Rattle.rules.specs.Line.{trueLines, constantLines, linesBefore, linesAfter, linesBetween, linesAfterBoth, constantWeight, unaryWeight, binaryWeight, lineCount, linesAt}
 use Rattle.codec.specs.Ascii.{ascii}
 use Rattle.rules.specs.Text.{textOf, constantLetters, unaryLetters, binaryLetters}
-use Rattle.rules.specs.Fault.{begins, words, weightOf, openedAfter, linesClosed}
-use Rattle.rules.specs.Reader.{restAt, aWordAt, eWordAt, wordAt, Reading, formed, refused, andThen, expect, expectDigit, closeAt, atomAt, innerWith, unaryWith, binaryWith, bodyWith, formAt, readRule}
+use Rattle.rules.specs.Fault.{beginsWith, words, weightOf, openedAfter, linesClosed}
+use Rattle.rules.specs.Reader.{restAt, aWordAt, eWordAt, wordAt, Reading, formed, faulty, andThen, expect, expectDigit, closeAt, atomAt, innerWith, unaryWith, binaryWith, bodyWith, formAt, readRule}
 use Rattle.pactl.specs.Line.{line}
 
 -- A text read with two processes, and a form's text and lines: all definitions open.
@@ -37,26 +37,26 @@ over (suc n) w f = unary w (over n w f)
 example-1 : map reads
     (ascii "" ∷ ascii "(ax" ∷ ascii "(ata" ∷ ascii "(tru)" ∷ ascii "(not(at 0 0))" ∷ ascii "(true )" ∷ ascii "(an" ∷ ascii "(at 0 00)"
     ∷ ascii "(true) " ∷ ascii "(and (true))" ∷ ascii " (true)" ∷ ascii "(at 10 0)" ∷ ascii "()" ∷ ascii "(or (true) x" ∷ [])
-    ≡ (refused 1 0 ∷ refused 1 2 ∷ refused 1 3 ∷ refused 1 4 ∷ refused 1 4 ∷ refused 1 5 ∷ refused 1 3 ∷ refused 1 7
-    ∷ refused 1 6 ∷ refused 1 11 ∷ refused 1 0 ∷ refused 1 5 ∷ refused 1 1 ∷ refused 1 11 ∷ [])
+    ≡ (faulty 1 0 ∷ faulty 1 2 ∷ faulty 1 3 ∷ faulty 1 4 ∷ faulty 1 4 ∷ faulty 1 5 ∷ faulty 1 3 ∷ faulty 1 7
+    ∷ faulty 1 6 ∷ faulty 1 11 ∷ faulty 1 0 ∷ faulty 1 5 ∷ faulty 1 1 ∷ faulty 1 11 ∷ [])
 unfolding reads
 example-1 = refl
 
 -- Fault 4: as soon as the wrong digit is read.
 example-4 : map reads (ascii "(at 9 x" ∷ ascii "(at 2 0)" ∷ ascii "(at 1 8)" ∷ ascii "(not (at 1 9" ∷ [])
-    ≡ (refused 4 4 ∷ refused 4 4 ∷ refused 4 6 ∷ refused 4 11 ∷ [])
+    ≡ (faulty 4 4 ∷ faulty 4 4 ∷ faulty 4 6 ∷ faulty 4 11 ∷ [])
 unfolding reads
 example-4 = refl
 
 -- Fault 2: 31 nots over an atom are taken, 32 are not.
 example-2 : map reads (written (over 31 Not (atom 0 0)) ∷ written (over 32 Not (atom 0 0)) ∷ written (over 40 Ep (constant True)) ∷ [])
-    ≡ (formed 194 (over 31 Not (atom 0 0)) ∷ refused 2 160 ∷ refused 2 128 ∷ [])
+    ≡ (formed 194 (over 31 Not (atom 0 0)) ∷ faulty 2 160 ∷ faulty 2 128 ∷ [])
 unfolding reads written over
 example-2 = refl
 
 -- Fault 3: 3 nots over 12 eps over an atom have 64 lines, a fourth not is too many. 17 open eps count nothing.
 example-3 : map reads (written (over 3 Not (over 12 Ep (atom 0 0))) ∷ written (over 4 Not (over 12 Ep (atom 0 0))) ∷ (written (over 17 Ep (atom 9 0))) ∷ [])
-    ≡ (formed 86 (over 3 Not (over 12 Ep (atom 0 0))) ∷ refused 3 91 ∷ refused 4 72 ∷ [])
+    ≡ (formed 86 (over 3 Not (over 12 Ep (atom 0 0))) ∷ faulty 3 91 ∷ faulty 4 72 ∷ [])
 unfolding reads written over
 example-3 = refl
 
@@ -81,5 +81,5 @@ example-lines = refl
 -- The plain scan of the closed forms' lines agrees with the count of a form's lines.
 example-scan : linesClosed [] (written (over 2 Ah (over 3 Ay (binary Or (binary As (atom 0 0) (constant False)) (unary Ey (unary Ap (over 1 Eh (constant True))))))))
     ≡ 51
-unfolding written over linesClosed openedAfter weightOf words begins constantLetters unaryLetters binaryLetters constantWeight unaryWeight binaryWeight
+unfolding written over linesClosed openedAfter weightOf words beginsWith constantLetters unaryLetters binaryLetters constantWeight unaryWeight binaryWeight
 example-scan = refl

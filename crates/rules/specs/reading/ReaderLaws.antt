@@ -17,20 +17,20 @@ use Rattle.rules.specs.Formula.{Formula, atom, constant, unary, binary, 
 use Rattle.rules.specs.Line.{lineCount}
 use Rattle.codec.specs.Ascii.{ascii}
 use Rattle.rules.specs.Text.{byteAt, constantLetters, unaryLetters, binaryLetters, textOf, Grammatical, depth}
-use Rattle.rules.specs.Reader.{wordAt, Reading, formed, refused, andThen, expect, expectDigit, closeAt, atomAt, innerWith, unaryWith, binaryWith, bodyWith, formAt}
+use Rattle.rules.specs.Reader.{wordAt, Reading, formed, faulty, andThen, expect, expectDigit, closeAt, atomAt, innerWith, unaryWith, binaryWith, bodyWith, formAt}
 use Rattle.rules.specs.ReaderCode.{readOf}
 use Rattle.rules.specs.reading.WordLaws.{span-next, span-byte, span-append, WordSpan, wordAt-span, if-byte}
 use Rattle.rules.specs.Fault.{Span}
 
 -- A reading that came to a form, step by step
 
-refused-formed : {n i j : ℕ} {f : Formula} → refused n i ≡ formed j f → ⊥
+refused-formed : {n i j : ℕ} {f : Formula} → faulty n i ≡ formed j f → ⊥
 refused-formed e = let z : _≡_ {A = ℕ} 0 1 = cc in omega arith
 
 pub expect-formed : (s : List ℕ) (i b : ℕ) (r : Reading) {j : ℕ} {f : Formula} → expect s i b r ≡ formed j f → (byteAt s i ≡ b) × (r ≡ formed j f)
 unfolding expect
 expect-formed s i b r {j} {f} =
-    if-byte (λ x. x ≡ formed j f → (byteAt s i ≡ b) × (r ≡ formed j f)) (byteAt s i) b r (refused 1 i)
+    if-byte (λ x. x ≡ formed j f → (byteAt s i ≡ b) × (r ≡ formed j f)) (byteAt s i) b r (faulty 1 i)
     (λ e h. (e, h))
     (λ _ h. absurd (refused-formed h))
 
@@ -49,7 +49,7 @@ expectDigit-formed s i bound r {j} {f} = go (leb 48 c) (leb c 57) (ltb (c - 48) 
     c = byteAt s i
 
     go : (x y z : Bool) → leb 48 c ≡ x → leb c 57 ≡ y → ltb (c - 48) bound ≡ z
-        → cond (x && y) (cond z r (refused 4 i)) (refused 1 i) ≡ formed j f → Digit s i bound (c - 48) × (r ≡ formed j f)
+        → cond (x && y) (cond z r (faulty 4 i)) (faulty 1 i) ≡ formed j f → Digit s i bound (c - 48) × (r ≡ formed j f)
     go true true true p q l h = (record { byte = omega (arith, leb-true 48 c p); ten = omega (arith, leb-true c 57 q); less = ltb-true _ _ l }, h)
     go true true false p q l h = absurd (refused-formed h)
     go true false z p q l h = absurd (refused-formed h)
@@ -65,11 +65,11 @@ pub record Closed (s : List ℕ) (closed i : ℕ) (f : Formula) (j : ℕ) (g : F
 pub closeAt-formed : (s : List ℕ) (closed i : ℕ) (f : Formula) {j : ℕ} {g : Formula} → closeAt s closed i f ≡ formed j g → Closed s closed i f j g
 unfolding closeAt
 closeAt-formed s closed i f {j} {g} h =
-    let e = expect-formed s i 41 (cond (leb (closed + lineCount f) 64) (formed (i + 1) f) (refused 3 i)) h in
+    let e = expect-formed s i 41 (cond (leb (closed + lineCount f) 64) (formed (i + 1) f) (faulty 3 i)) h in
     go (leb (closed + lineCount f) 64) refl (e .0) (e .1)
   where
     go : (t : Bool) → leb (closed + lineCount f) 64 ≡ t → byteAt s i ≡ 41
-        → cond t (formed (i + 1) f) (refused 3 i) ≡ formed j g → Closed s closed i f j g
+        → cond t (formed (i + 1) f) (faulty 3 i) ≡ formed j g → Closed s closed i f j g
     go true l b e = record { bracket = b; short = leb-true _ _ l; next = cc; same = cc }
     go false l b e = absurd (refused-formed e)
 
@@ -77,7 +77,7 @@ pub andThen-formed : (r : Reading) (next : ℕ → Formula → Reading) {j : ℕ
     → andThen r next ≡ formed j f → (l : ℕ) × (g : Formula) × (r ≡ formed l g) × (next l g ≡ formed j f)
 unfolding andThen
 andThen-formed (formed l g) next h = (l, g, refl, h)
-andThen-formed (refused n i) next h = absurd (refused-formed h)
+andThen-formed (faulty n i) next h = absurd (refused-formed h)
 
 -- A form that was read
 
@@ -197,7 +197,7 @@ module _ (s : List ℕ) (k : ℕ) where
   -- A form that the reader answers stands in the text at its place, and is within the limits.
   pub formAt-formed : (a : ℕ) → Sound a (formAt a s k)
   unfolding formAt
-  formAt-formed zero closed i j f h = absurd (refused-formed (expect-formed s i 40 (refused 2 i) h .1))
+  formAt-formed zero closed i j f h = absurd (refused-formed (expect-formed s i 40 (faulty 2 i) h .1))
   formAt-formed (suc a) closed i j f h =
       let x = expect-formed s i 40 (bodyWith (formAt a s k) s k closed (wordAt s (i + 1))) h in
       body-formed a (formAt a s k) (formAt-formed a) closed i j f (wordAt s (i + 1)) (x .0) (wordAt-span s (i + 1)) (x .1)
@@ -208,9 +208,9 @@ pub readOf-form : (laid closed : ℕ) (r : Reading) (i l c : ℕ) → readOf lai
     → (f : Formula) × (r ≡ formed i f) × (l ≡ laid + lineCount f) × (c ≡ closed + lineCount f)
 unfolding readOf
 readOf-form laid closed (formed j f) i l c h = (f, ap (λ (x : ℕ). formed x f) (cc), cc, cc)
-readOf-form laid closed (refused n j) i l c h = let z : _≡_ {A = ℕ} 0 1 = cc in absurd (omega arith)
+readOf-form laid closed (faulty n j) i l c h = let z : _≡_ {A = ℕ} 0 1 = cc in absurd (omega arith)
 
-pub readOf-refused : (laid closed : ℕ) (r : Reading) (n i : ℕ) → readOf laid closed r ≡ Refused n i → r ≡ refused n i
+pub readOf-refused : (laid closed : ℕ) (r : Reading) (n i : ℕ) → readOf laid closed r ≡ Refused n i → r ≡ faulty n i
 unfolding readOf
 readOf-refused laid closed (formed j f) n i h = let z : _≡_ {A = ℕ} 0 1 = cc in absurd (omega arith)
-readOf-refused laid closed (refused m j) n i h = cc
+readOf-refused laid closed (faulty m j) n i h = cc

@@ -14,26 +14,26 @@ use Rattle.rules.specs.declared.WordRead.the-variants.{AtWord, ConstantW
 use Rattle.codec.specs.Ascii.{ascii}
 use Rattle.rules.specs.Text.{byteAt, constantLetters, unaryLetters, binaryLetters}
 use Rattle.rules.specs.Reader.{restAt, aWordAt, eWordAt, wordAt}
-use Rattle.rules.specs.Fault.{Stands, Span}
+use Rattle.rules.specs.Fault.{StandsAt, Span}
 
 -- Bytes from place to place
 
 pub span-nil : (s : List ℕ) (i : ℕ) → Span s i [] i
-unfolding Stands
+unfolding StandsAt
 span-nil s i = record { stands = tt; ends = omega arith }
 
 pub span-next : (s : List ℕ) (i b j : ℕ) → byteAt s i ≡ b → j ≡ i + 1 → Span s i (b ∷ []) j
-unfolding Stands
+unfolding StandsAt
 span-next s i b j e h = record { stands = (e, tt); ends = h }
 
 pub span-byte : (s : List ℕ) (i b : ℕ) → byteAt s i ≡ b → Span s i (b ∷ []) (i + 1)
 span-byte s i b e = span-next s i b (i + 1) e refl
 
-stands-append : (s : List ℕ) (i : ℕ) (xs ys : List ℕ) → Stands s i xs → Stands s (i + length xs) ys → Stands s i (xs ++ ys)
-unfolding Stands
+stands-append : (s : List ℕ) (i : ℕ) (xs ys : List ℕ) → StandsAt s i xs → StandsAt s (i + length xs) ys → StandsAt s i (xs ++ ys)
+unfolding StandsAt
 stands-append s i [] ys p q = rw (add-zero i) at q
 stands-append s i (x ∷ xs) ys p q =
-    (p .0, stands-append s (i + 1) xs ys (p .1) (subst (λ (j : ℕ). Stands s j ys) (omega arith) q))
+    (p .0, stands-append s (i + 1) xs ys (p .1) (subst (λ (j : ℕ). StandsAt s j ys) (omega arith) q))
 
 pub span-append : {s : List ℕ} {i j l : ℕ} {xs ys : List ℕ} → Span s i xs j → Span s j ys l → Span s i (xs ++ ys) l
 span-append {s} {i} {j} {l} {xs} {ys} p q = record {
@@ -60,8 +60,8 @@ if-byte P c b x y p q = go (eqb c b) refl
 
 -- The rest of a word, by its two answers; the second names a place within the rest.
 pub rest-case : (P : WordRead → Type 0) (s : List ℕ) (i : ℕ) (bs : List ℕ) (word : WordRead)
-    → (Stands s i bs → P word) → ((j : ℕ) → i ≤ j → j < i + length bs → P (NoWord j)) → P (restAt s i bs word)
-unfolding restAt Stands
+    → (StandsAt s i bs → P word) → ((j : ℕ) → i ≤ j → j < i + length bs → P (NoWord j)) → P (restAt s i bs word)
+unfolding restAt StandsAt
 rest-case P s i [] word p q = p tt
 rest-case P s i (b ∷ bs) word p q =
     if-byte P (byteAt s i) b (restAt s (i + 1) bs word) (NoWord i)
@@ -71,8 +71,8 @@ rest-case P s i (b ∷ bs) word p q =
 two : (s : List ℕ) (i : ℕ) {a b : ℕ} → byteAt s i ≡ a → byteAt s (i + 1) ≡ b → Span s i (a ∷ b ∷ []) (i + 1 + 1)
 two s i e h = span-append (span-byte s i _ e) (span-byte s (i + 1) _ h)
 
-more : (s : List ℕ) (i : ℕ) {a j : ℕ} {bs : List ℕ} → byteAt s i ≡ a → Stands s (i + 1) bs → j ≡ i + suc (length bs) → Span s i (a ∷ bs) j
-unfolding Stands
+more : (s : List ℕ) (i : ℕ) {a j : ℕ} {bs : List ℕ} → byteAt s i ≡ a → StandsAt s (i + 1) bs → j ≡ i + suc (length bs) → Span s i (a ∷ bs) j
+unfolding StandsAt
 more s i e h q = record { stands = (e, h); ends = q }
 
 aWord-span : (s : List ℕ) (i : ℕ) → byteAt s i ≡ 97 → WordSpan s i (aWordAt s (i + 1))
@@ -85,7 +85,7 @@ aWord-span s i e =
     (λ _. if-byte P c 112 _ _ (λ h. two s i e h)
     (λ _. if-byte P c 121 _ _ (λ h. two s i e h)
     (λ _. if-byte P c 104 _ _ (λ h. two s i e h)
-    (λ _. if-byte P c 110 _ _ (λ h. rest-case P s (i + 1 + 1) (100 ∷ []) (BinaryWord And (i + 1 + 2)) (λ q. unfold Stands in (more s i e (h, q) (omega arith))) (λ j l h. omega arith))
+    (λ _. if-byte P c 110 _ _ (λ h. rest-case P s (i + 1 + 1) (100 ∷ []) (BinaryWord And (i + 1 + 2)) (λ q. unfold StandsAt in (more s i e (h, q) (omega arith))) (λ j l h. omega arith))
     (λ _. omega arith))))))
 
 eWord-span : (s : List ℕ) (i : ℕ) → byteAt s i ≡ 101 → WordSpan s i (eWordAt s (i + 1))

@@ -4,7 +4,7 @@ use mathlib.Core.Path.{_≡_, sym, _∙_}
 use mathlib.Core.Bool.{false}
 use borrow.Author.Needs.{needs}
 use Rattle.refusals.specs.Refusals.{badRecordLength, badWindowLength}
-use Rattle.call_move.specs.Move.{badLengths}
+use Rattle.call_move.specs.Move.{badMoveLengths}
 use Rattle.call_move.proofs.refused.bad_lengths.Statement.{statement}
 
 -- ---- Places in the walk: the start, and where a length is right
@@ -43,14 +43,14 @@ bad-record-length-requires : tie.Need-bad-record-length-requires
 bad-record-length-requires c κs = search needs
 
 returns : tie.Need-returns
-unfolding badLengths
+unfolding badMoveLengths
 returns c = rw (sym (c .before .bad-record-length .ensures) ∙ c .if1 .taken)
 
 bad-window-length-requires : tie.Need-bad-window-length-requires
 bad-window-length-requires c κs = search needs
 
 returns-2 : tie.Need-returns-2
-unfolding badLengths
+unfolding badMoveLengths
 returns-2 c =
     rw (record-passed (c .before .before), sym (c .before .bad-window-length .ensures) ∙ c .if2 .taken)
 
@@ -58,7 +58,7 @@ bad-record-length-requires-2 : tie.Need-bad-record-length-requires-2
 bad-record-length-requires-2 c κs = search needs
 
 returns-3 : tie.Need-returns-3
-unfolding badLengths
+unfolding badMoveLengths
 returns-3 c =
     let e = c .before .before in
     rw (record-passed (record-right e), window-passed e, sym (c .before .bad-record-length2 .ensures) ∙ c .if3 .taken)
@@ -67,7 +67,7 @@ bad-window-length-requires-2 : tie.Need-bad-window-length-requires-2
 bad-window-length-requires-2 c κs = search needs
 
 returns-4 : tie.Need-returns-4
-unfolding badLengths
+unfolding badMoveLengths
 returns-4 c =
     let e = c .before .before in
     let r = window-right e in
@@ -81,7 +81,7 @@ room-of-requires-2 : tie.Need-room-of-requires-2
 room-of-requires-2 c κs = search needs
 
 returns-5 : tie.Need-returns-5
-unfolding badLengths
+unfolding badMoveLengths
 returns-5 c =
     let e = c .before .before in
     let r = window-right (target-right e) in

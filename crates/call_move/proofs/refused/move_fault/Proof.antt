@@ -10,7 +10,7 @@ use denote.Ref.{now}
 use Rattle.codec.specs.Little.{Bytes}
 use Rattle.refusals.specs.Refusals.{roomOf, badState}
 use Rattle.call_move.specs.Parts.{recordParts, windowParts}
-use Rattle.call_move.specs.Move.{someTooLarge, badLengths, overflows}
+use Rattle.call_move.specs.Move.{someTooLarge, badMoveLengths, overflows}
 use Rattle.call_move.specs.MoveCode.{moveFault}
 use Rattle.call_move.specs.CountLaws.{none-too-large}
 use Rattle.call_move.specs.LengthLaws.{frontiers-within, Lengths, right-lengths}
@@ -36,7 +36,7 @@ record-passed c = c .before .before
 -- ---- The tests that let it pass
 
 lengths-good : (c : tie.Else1) → let a = start c .args in
-    badLengths (a .v) (a .w) (length (now (a .«record»))) (length (now (a .window))) (a .target-len)
+    badMoveLengths (a .v) (a .w) (length (now (a .«record»))) (length (now (a .window))) (a .target-len)
     (a .target-window-len) ≡ false
 lengths-good c = sym (c .before .bad-lengths .ensures) ∙ c .if1 .left
 

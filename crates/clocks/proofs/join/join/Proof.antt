@@ -6,7 +6,7 @@ use mathlib.Core.List.{List}
 use mathlib.Core.Logic.{⊎-elim}
 use borrow.Author.Needs.{needs}
 use Rattle.codec.specs.Bit.{bit}
-use Rattle.clocks.specs.Counts.{listOf, rows, at}
+use Rattle.clocks.specs.Counts.{listOf, clockRows, at}
 use Rattle.clocks.specs.Joined.{joinTo}
 use Rattle.clocks.proofs.join.JoinSteps.{join-next, join-skip}
 use Rattle.clocks.proofs.join.join.Statement.{statement}
@@ -14,7 +14,7 @@ use Rattle.clocks.proofs.join.join.Tie as tie
 use Rattle.clocks.specs.Bounds.{upper}
 
 abbrev Inv-loop : tie.InvT-loop
-Inv-loop mask last word out₀ p₀ out p = (p ≤ 8) × (out ≡ listOf 8 (joinTo p (bit mask) (rows last)))
+Inv-loop mask last word out₀ p₀ out p = (p ≤ 8) × (out ≡ listOf 8 (joinTo p (bit mask) (clockRows last)))
 
 abbrev μ-loop : tie.MeasureT-loop
 μ-loop mask last word out₀ p₀ out p = 8 - p
@@ -48,10 +48,10 @@ loop-again : tie.Need-loop-again Inv-loop μ-loop
 loop-again c =
     let a = c .before .before .before .before .args in
     let l = c .before .before .before .loop in
-    let join : List ℕ → List ℕ = λ o. listOf 8 (upper (rows (a .t1) (l .p)) (at o)) in
+    let join : List ℕ → List ℕ = λ o. listOf 8 (upper (clockRows (a .t1) (l .p)) (at o)) in
     let member = sym (c .before .has-bit .ensures) in
-    let next = join-next 8 (l .p) (bit (a .mask)) (rows (a .t1)) in
-    let skip = join-skip 8 (l .p) (bit (a .mask)) (rows (a .t1)) in
+    let next = join-next 8 (l .p) (bit (a .mask)) (clockRows (a .t1)) in
+    let skip = join-skip 8 (l .p) (bit (a .mask)) (clockRows (a .t1)) in
     let came = ⊎-elim
     (λ w. w .3 ∙ w .2 .ensures ∙ ap join (l .inv .1) ∙ next (member ∙ w .0 .taken))
     (λ w. w .1 ∙ l .inv .1 ∙ skip (member ∙ w .0 .left))

@@ -1,5 +1,5 @@
 -- By the two cases of a reading.
-use Rattle.line_pieces.specs.Reading.{valueOf}
+use Rattle.line_pieces.specs.Reading.{valueRead}
 use borrow.Author.Needs.{needs}
 use Rattle.line_pieces.proofs.reading.value_of.Statement.{statement}
 use Rattle.line_pieces.proofs.reading.value_of.Tie as tie
@@ -11,11 +11,11 @@ enum-told : tie.Need-enum-told
 enum-told c = search needs
 
 returns : tie.Need-returns
-unfolding valueOf
+unfolding valueRead
 returns c = rw (c .before .r .given .1)
 
 returns-2 : tie.Need-returns-2
-unfolding valueOf
+unfolding valueRead
 returns-2 c = rw (c .enum-told .given .1)
 
 pub value-of-spec : {M : Type 1} → statement M

@@ -4,14 +4,14 @@ use native.Mathlib.Omega.{arith}
 use mathlib.Core.Path.{_≡_, sym}
 use Prim.Native.Nat.{_≤_, _-_}
 use lib.ListN.{length, getD, take, drop}
-use Rattle.lines.specs.Words.{word}
+use Rattle.lines.specs.Words.{packedWord}
 use Rattle.lines.proofs.words.WordSteps.{word-fits, word-next, word-none}
 use borrow.Author.Needs.{needs}
 use Rattle.lines.proofs.words.word_of.Statement.{statement}
 use Rattle.lines.proofs.words.word_of.Tie as tie
 
 abbrev Inv-loop : tie.InvT-loop
-Inv-loop base from to values w₀ i₀ w i = (from ≤ i) × ((i ≤ to) × (w ≡ word base (take (to - i) (drop i values))))
+Inv-loop base from to values w₀ i₀ w i = (from ≤ i) × ((i ≤ to) × (w ≡ packedWord base (take (to - i) (drop i values))))
 
 abbrev μ-loop : tie.MeasureT-loop
 μ-loop base from to values w₀ i₀ w i = i - from
