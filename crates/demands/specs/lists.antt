@@ -16,6 +16,7 @@ pub mod Find
 pub mod Page
 pub mod DayListed
 pub mod Busiest
+pub mod BusiestTaken
 pub mod WithoutAgains
 pub mod Again
 pub mod Messages

@@ -10,5 +10,6 @@ pub mod Earlier
 pub mod Close
 pub mod Page
 pub mod Busiest
+pub mod BusiestTaken
 pub mod Moves
 pub mod BothForms

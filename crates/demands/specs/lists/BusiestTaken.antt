@@ -1,0 +1,132 @@
+-- The events of a busiest day, offered and taken one after the other: each is held, and each take takes it.
+use Prim.Native.Nat.{ℕ, suc, _+_, _*_, _%_, _^_, _≤_, _<_}
+use native.Mathlib.Omega.{arith}
+use native.Mathlib.Nat.{min-le-left}
+use mathlib.Core.Path.{_≡_, refl, sym, ap, subst, _∙_}
+use mathlib.Core.Bool.{Bool, true, false, _&&_, _||_}
+use mathlib.Core.List.{List, [], _∷_, _++_, reverse, reverseAux, List·Memᴰ, List·Memᴰ·head, List·Memᴰ·tail, List·Memᴰ·cases-cons, List·Memᴰ·not-nil}
+use mathlib.Core.Logic.{⊎-elim}
+use lib.Dec.{leb, ltb}
+use lib.ListN.{length, replicate, length-append, length-replicate, length-reverse, length-reverseAux}
+use lib.Pow.{pow-mono}
+use borrow.Author.Tests.{lt-leb, le-ltb, eq-eqb}
+use Rattle.codec.specs.Bit.{bit}
+use Rattle.codec.specs.BitLaws.{bit-zero}
+use Rattle.clocks.specs.declared.Event.{Event}
+use Rattle.clocks.specs.Event.{Cut, involved, count}
+use Rattle.clocks.specs.History.{taken, In}
+use Rattle.clocks.specs.Valid.{Takeable, History}
+use Rattle.clocks.specs.Counts.{at, listOf}
+use Rattle.clocks.specs.Bounded.{anyOf}
+use Rattle.clocks.specs.Refusal.{badMask, badClock, badLabels, Faultless}
+use Rattle.clocks.specs.cuts.EventLaws.{ready-next}
+use Rattle.clocks.specs.stored.BoundedTurns.{any-false-i}
+use Rattle.clocks.specs.stored.RefusalLaws.{fault-0, no-fault, start-labels-fine}
+use Rattle.pactl.specs.Truth.{holds}
+use Rattle.rules.specs.Line.{linesAt}
+use Rattle.rules.specs.Formula.{Formula, meaning}
+use Rattle.rules.specs.Text.{textOf}
+use Rattle.rules.specs.reading.ReaderAccepts.{reader-accepts, accepts}
+use Rattle.frontiers.specs.Bytes.{frontierLength}
+use Rattle.records.specs.Record.{keptCount, pendingEvents, recordLength}
+use Rattle.refusals.specs.Refusals.{namesClosed, alreadyTaken, conflicting, roomOf, badRecordLength, badWindowLength, badProcesses}
+use Rattle.repeats.specs.Repeats.{repeated}
+use Rattle.answers.specs.Answer.{Answer, state, held, stateOf}
+use Rattle.call_open.specs.Open.{Opened, openCall, openRead, openTable}
+use Rattle.call_offer.specs.Offer.{Offered, placeAmong, offeredEvent, offerCall}
+use Rattle.call_take.specs.Take.{Taken, allowedOf, takeCapped}
+use Rattle.call_busiest.specs.Sharing.{share, shares, sharingKeeps}
+use Rattle.call_busiest.specs.SharingLaws.{total-shares}
+use Rattle.call_busiest.specs.Busiest.{single, busiestDay}
+use Rattle.call_busiest.specs.BusiestExact.{Day}
+use Rattle.call_busiest.specs.BusiestTheorem.{busiest-exact}
+use Rattle.sharing_laws.specs.Alone.{AllAlone}
+use Rattle.sharing_laws.specs.DayLaws.{day-history, day-alone, day-member, length-day}
+use Rattle.demands.specs.Ledger.{Ledger}
+use Rattle.demands.specs.Status.{insertAt}
+use Rattle.demands.specs.Run.{Call, offers, takes, Passed, Watch, offeredLedger, acceptedBy, after, run, opened}
+use Rattle.demands.specs.World.{Valid, KeptNumber, modelAfter}
+use Rattle.demands.specs.EveryList.{Accepts, EightBytes, AllPassed, atEnd, lentWindow, RightLengths, nextTake}
+use Rattle.demands.specs.bytes.Sized.{Storable}
+use Rattle.demands.specs.bytes.PlaceLaws.{Bytes-zeros}
+use Rattle.demands.specs.calls.OfferByLedger.{offerAnswer, offer-by-ledger}
+use Rattle.demands.specs.calls.OpenLaws.{OpenCase, open-case, turned-back, opens, opened-long}
+use Rattle.demands.specs.calls.WatchingLaws.{says-pending}
+use Rattle.demands.specs.calls.WindowRooms.{room-of, bad-length, length-taken}
+use Rattle.demands.specs.lists.SoundRun.{Sound, SoundAsRead, after-sound, run-sound, sound-run}
+use Rattle.demands.specs.lists.TakeAnswers.{take-exact-of}
+use Rattle.demands.specs.lists.DayListed.{there, value, storable, read, in-reverse}
+use Rattle.demands.specs.lists.Busiest.{alone-number, alone-most, busiest-kept-of}
+use Rattle.demands.specs.statements.TakeAnswers.{Takes, AnswersExact, allowedNext}
+use Rattle.demands.specs.statements.Busiest.{Gives, listed}
+use Rattle.demands.specs.statements.BusiestTaken.{dayCalls, dayAnswers, DayTaken, DayIsTaken, DayHasItsWatch}
+
+-- The ledger where these events were taken, and no other came; and with one more that is pending.
+abbrev tookAll : List Event → Ledger
+tookAll ts = record { history = ts; pending = []; falsified = []; closed = 0 }
+
+abbrev heldOne : List Event → Event → Ledger
+heldOne ts e = record { history = ts; pending = e ∷ []; falsified = []; closed = 0 }
+
+-- ---- An event that may be taken next is held, where none is pending
+
+module _ (k : ℕ) (eight : k ≤ 8) (ts : List Event) (e : Event) (fine : Faultless k e) (can : Takeable k Valid ts e)
+    (small : e .mask < 256) (clocks : length (e .clock) ≡ 8) (labels : length (e .labels) ≡ 8) where
+  no-closed : namesClosed 0 e ≡ false
+  unfolding namesClosed
+  no-closed = any-false-i 8 (λ p. involved e p && bit 0 p) (λ p l. rw (bit-zero p) (neither (involved e p)))
+    where
+      neither : (b : Bool) → (b && false) ≡ false
+      neither true = refl
+      neither false = refl
+
+  not-taken : alreadyTaken e (taken ts) ≡ false
+  unfolding alreadyTaken
+  not-taken = any-false-i 8 (λ p. involved e p && leb (count e p) (taken ts p)) (λ p l. at-process p (involved e p) refl)
+    where
+      at-process : (p : ℕ) (b : Bool) → involved e p ≡ b → (involved e p && leb (count e p) (taken ts p)) ≡ false
+      at-process p true h =
+          rw (h, lt-leb (count e p) (taken ts p) (omega (arith, ready-next e (taken ts) (can .ready) p h)))
+      at-process p false h = rw h
+
+  whole : offeredEvent (e .mask) (e .clock) (e .labels) ≡ e
+  whole = let q : e .mask % 256 ≡ e .mask = omega arith in rw q
+
+  held-one : offerAnswer k (tookAll ts) (e .mask) (e .clock) (e .labels) ≡ held 1
+  unfolding repeated conflicting anyOf
+  held-one =
+      let none = fault-0 k (e .mask) (e .clock) (e .labels) .0
+      (no-fault k e eight (omega arith) clocks labels .1 fine) in
+      rw (none .0, none .1, none .2, whole, no-closed, not-taken)
+
+-- ---- One event, offered and taken
+
+module _ (w k : ℕ) (f : Formula) (start : Cut) (ts : List Event) (e : Event) (fine : Faultless k e)
+    (can : Takeable k Valid ts e) (past : History k Valid ts) (alone : AllAlone (e ∷ ts)) (fits : Storable w e)
+    (room : ℕ) (some : 1 ≤ room) (few : room ≤ 1024)
+    (enough : sharingKeeps (listOf k (taken (e ∷ ts))) ≤ room) where
+  abbrev offering : Call
+  offering = offers (e .mask) (e .clock) (e .labels)
+
+  pub offer-passes : Passed w offering
+  offer-passes =
+      (omega (arith, fits .mask-fits), fits .eight-counts, fits .counts-fit, fits .eight-labels, fits .labels-fit)
+
+  -- The watch after the offer.
+  module _ (Z : Watch) (S : Sound w k f start Z) (q : Z .ledger ≡ tookAll ts) where
+    abbrev Y : Watch
+    Y = after w offering Z
+
+    is-held : offerCall w (e .mask) (e .clock) (e .labels) (Z .bytes) .answer ≡ held 1
+    is-held =
+        offer-by-ledger w k (linesAt 0 f) start (S .rule) (Z .ledger) (Z .bytes) (Z .window) (S .right) (e .mask)
+        (e .clock) (e .labels)
+        ∙ rw q (held-one k (S .rule .eight-processes) ts e fine can (fits .mask-fits) (fits .eight-counts)
+        (fits .eight-labels))
+
+    offered : (Y .ledger ≡ heldOne ts e) × (Y .answers ≡ held 1 ∷ Z .answers)
+    unfolding after offeredLedger insertAt placeAmong
+    offered =
+        let says = says-pending w k (linesAt 0 f) start (S .rule) (Z .ledger) (Z .bytes) (Z .window) (S .right) in
+        (rw (is-held, says, q, whole k (S .rule .eight-processes) ts e fine can (fits .mask-fits) (fits .eight-counts)
+        (fits .eight-labels)), rw is-held)
