@@ -101,16 +101,16 @@ module _ (k : ℕ) (eight : k ≤ 8) (ts : List Event) (e : Event) (fine : Fault
 
 -- ---- One event, offered and taken
 
+storable-passes : (w : ℕ) (e : Event) → Storable w e → Passed w (offers (e .mask) (e .clock) (e .labels))
+storable-passes w e fits =
+    (omega (arith, fits .mask-fits), fits .eight-counts, fits .counts-fit, fits .eight-labels, fits .labels-fit)
+
 module _ (w k : ℕ) (f : Formula) (start : Cut) (ts : List Event) (e : Event) (fine : Faultless k e)
     (can : Takeable k Valid ts e) (past : History k Valid ts) (alone : AllAlone (e ∷ ts)) (fits : Storable w e)
     (room : ℕ) (some : 1 ≤ room) (few : room ≤ 1024)
     (enough : sharingKeeps (listOf k (taken (e ∷ ts))) ≤ room) where
   abbrev offering : Call
   offering = offers (e .mask) (e .clock) (e .labels)
-
-  pub offer-passes : Passed w offering
-  offer-passes =
-      (omega (arith, fits .mask-fits), fits .eight-counts, fits .counts-fit, fits .eight-labels, fits .labels-fit)
 
   -- The watch after the offer.
   module _ (Z : Watch) (S : Sound w k f start Z) (q : Z .ledger ≡ tookAll ts) where
@@ -130,3 +130,131 @@ module _ (w k : ℕ) (f : Formula) (start : Cut) (ts : List Event) (e : Event) (
         let says = says-pending w k (linesAt 0 f) start (S .rule) (Z .ledger) (Z .bytes) (Z .window) (S .right) in
         (rw (is-held, says, q, whole k (S .rule .eight-processes) ts e fine can (fits .mask-fits) (fits .eight-counts)
         (fits .eight-labels)), rw is-held)
+
+    -- The take after it, on a window of so many frontiers.
+    module _ (more : ℕ) (scratch : List ℕ) (long : length (Z .window) + more ≡ room * frontierLength w)
+        (even : length scratch ≡ room * frontierLength w) where
+      abbrev X : Watch
+      X = after w (takes 1024 more scratch) Y
+
+      sound-then : Sound w k f start Y
+      sound-then = after-sound w k f start Z offering (storable-passes w e fits) S
+
+      lent-long : length (lentWindow Y more) ≡ room * frontierLength w
+      unfolding after
+      lent-long =
+          length-append (Z .window) (replicate more 0)
+          ∙ ap (λ (n : ℕ). length (Z .window) + n) (length-replicate more 0) ∙ long
+
+      right : RightLengths w Y more scratch
+      right = (
+        rw lent-long (bad-length w room ∙ rw (le-ltb room 1 some, le-ltb 1024 room few)),
+        even ∙ sym lent-long,
+      )
+
+      allowed : allowedNext w Y 1024 more ≡ room
+      allowed = rw lent-long (rw (room-of w room) (omega arith))
+
+      exact : AnswersExact w k f start Y 1024 more scratch
+      exact = take-exact-of w k f start Y sound-then .right-lengths 1024 more scratch right
+
+      next : History k Valid (e ∷ ts)
+      next = (can, past)
+
+      abbrev stops : Takes k (allowedNext w Y 1024 more) f start (Y .ledger) (listOf 8 (taken (e ∷ ts)))
+          (holds (modelAfter k f start (e ∷ ts)) (meaning f) (taken (e ∷ ts))) (sharingKeeps (listOf k (taken (e ∷ ts))))
+      stops = record {
+        event = e;
+        stops = record {
+          before = [];
+          behind = [];
+          pending-are = ap (λ (L : Ledger). L .pending) (offered .0);
+          ready = rw (offered .0) (can .ready);
+          passed = λ x m. absurd (List·Memᴰ·not-nil m);
+        };
+        true-clock = rw (offered .0) (can .true-clock);
+        kept-are =
+            rw (offered .0)
+            (alone-number k (S .rule .some-process) (S .rule .eight-processes) (e ∷ ts) next alone);
+        fits = rw allowed enough;
+        counts-are = rw (offered .0);
+        truth-is = rw (offered .0);
+      }
+
+      pub took-ledger : X .ledger ≡ tookAll (e ∷ ts)
+      took-ledger = exact .ledger-state _ _ _ stops ∙ rw (offered .0)
+
+      pub took-answers : (rest : List Answer) → Z .answers ≡ dayAnswers k f start ts ++ rest
+          → X .answers ≡ dayAnswers k f start (e ∷ ts) ++ rest
+      unfolding after
+      took-answers rest h = rw (exact .state-exactly _ _ _ .1 stops, is-held, h)
+
+      pub took-window : length (X .window) ≡ room * frontierLength w
+      unfolding after
+      took-window = length-taken w 1024 (Y .bytes) (lentWindow Y more) scratch ∙ lent-long
+
+      pub took-sound : Sound w k f start X
+      took-sound = after-sound w k f start Y (takes 1024 more scratch) tt sound-then
+
+-- ---- Events of a history, in their order, one after the other
+
+-- What came before some of them, and before all.
+earlier : (k : ℕ) (es ts : List Event) → History k Valid (reverseAux es ts) → History k Valid ts
+earlier k [] ts h = h
+earlier k (e ∷ es) ts h = earlier k es (e ∷ ts) h .1
+
+among : (es ts : List Event) (x : Event) → List·Memᴰ x ts → List·Memᴰ x (reverseAux es ts)
+among [] ts x m = m
+among (e ∷ es) ts x m = among es (e ∷ ts) x (List·Memᴰ·tail m)
+
+-- What the watch is where these events were taken, over the answers of before.
+record Taking (w k : ℕ) (f : Formula) (start : Cut) (room : ℕ) (rest : List Answer) (ts : List Event) (more : ℕ)
+    (Z : Watch) : Type 0 where
+  sound : Sound w k f start Z
+  ledger-is : Z .ledger ≡ tookAll ts
+  answers-are : Z .answers ≡ dayAnswers k f start ts ++ rest
+  lent : length (Z .window) + more ≡ room * frontierLength w
+
+module _ (w k : ℕ) (f : Formula) (start : Cut) (some-process : 0 < k) (eight-processes : k ≤ 8) (room : ℕ)
+    (some : 1 ≤ room) (few : room ≤ 1024) (n : ℕ) (enough : sharingKeeps (shares k n) ≤ room) (scratch : List ℕ)
+    (even : length scratch ≡ room * frontierLength w) (rest : List Answer) where
+  all-took : (es ts : List Event) → History k Valid (reverseAux es ts) → AllAlone (reverseAux es ts)
+      → length (reverseAux es ts) ≤ n
+      → ((x : Event) → List·Memᴰ x es → Faultless k x × Storable w x)
+      → (more : ℕ) (Z : Watch) → Taking w k f start room rest ts more Z
+      → Sound w k f start (run w (dayCalls more scratch es) Z)
+      × (run w (dayCalls more scratch es) Z .ledger ≡ tookAll (reverseAux es ts))
+      × (run w (dayCalls more scratch es) Z .answers ≡ dayAnswers k f start (reverseAux es ts) ++ rest)
+  unfolding run
+  all-took [] ts h alone l fine more Z T = (T .sound, T .ledger-is, T .answers-are)
+  all-took (e ∷ es) ts h alone l fine more Z T =
+      let past : History k Valid (e ∷ ts) = earlier k es (e ∷ ts) h in
+      let only : AllAlone (e ∷ ts) = λ x m. alone x (among es (e ∷ ts) x m) in
+      let fine-e = fine e (List·Memᴰ·head refl) in
+      let most : sharingKeeps (listOf k (taken (e ∷ ts))) ≤ room =
+      omega (
+        arith,
+        enough,
+        alone-most k some-process eight-processes (e ∷ ts) past only n (omega (arith, l, length-reverseAux es (e ∷ ts))),
+      ) in
+      let window = took-window w k f start ts e (fine-e .0) (past .0) (past .1) only (fine-e .1) room some few most Z
+      (T .sound) (T .ledger-is) more scratch (T .lent) even in
+      all-took es (e ∷ ts) h alone l (λ x m. fine x (List·Memᴰ·tail m)) 0 _
+      (record {
+        sound = took-sound w k f start ts e (fine-e .0) (past .0) (past .1) only (fine-e .1) room some few most Z
+            (T .sound) (T .ledger-is) more scratch (T .lent) even;
+        ledger-is = took-ledger w k f start ts e (fine-e .0) (past .0) (past .1) only (fine-e .1) room some few most Z
+            (T .sound) (T .ledger-is) more scratch (T .lent) even;
+        answers-are = took-answers w k f start ts e (fine-e .0) (past .0) (past .1) only (fine-e .1) room some few most Z
+            (T .sound) (T .ledger-is) more scratch (T .lent) even rest (T .answers-are);
+        lent = omega (arith, window);
+      })
+
+-- All of these calls are such as the machine passes.
+all-passed : (w : ℕ) (scratch : List ℕ) (es : List Event) → ((x : Event) → List·Memᴰ x es → Storable w x)
+    → (more : ℕ) → AllPassed w (dayCalls more scratch es)
+all-passed w scratch [] fits more c m = absurd (List·Memᴰ·not-nil m)
+all-passed w scratch (e ∷ es) fits more c m =
+    ⊎-elim (λ q. rw q (storable-passes w e (fits e (List·Memᴰ·head refl))))
+    (λ i. ⊎-elim (λ q. rw q tt) (all-passed w scratch es (λ x j. fits x (List·Memᴰ·tail j)) 0 c) (List·Memᴰ·cases-cons i))
+    (List·Memᴰ·cases-cons m)
