@@ -1,7 +1,7 @@
 -- The events of a busiest day, offered and taken one after the other: each is held, and each take takes it.
-use Prim.Native.Nat.{ℕ, suc, _+_, _*_, _%_, _^_, _≤_, _<_}
+use Prim.Native.Nat.{ℕ, zero, suc, _+_, _*_, _%_, _^_, _≤_, _<_}
 use native.Mathlib.Omega.{arith}
-use native.Mathlib.Nat.{min-le-left}
+use native.Mathlib.Nat.{suc-mul}
 use mathlib.Core.Path.{_≡_, refl, sym, ap, subst, _∙_}
 use mathlib.Core.Bool.{Bool, true, false, _&&_, _||_}
 use mathlib.Core.List.{List, [], _∷_, _++_, reverse, reverseAux, List·Memᴰ, List·Memᴰ·head, List·Memᴰ·tail, List·Memᴰ·cases-cons, List·Memᴰ·not-nil}
@@ -35,8 +35,8 @@ use Rattle.answers.specs.Answer.{Answer, state, held, stateOf}
 use Rattle.call_open.specs.Open.{Opened, openCall, openRead, openTable}
 use Rattle.call_offer.specs.Offer.{Offered, placeAmong, offeredEvent, offerCall}
 use Rattle.call_take.specs.Take.{Taken, allowedOf, takeCapped}
-use Rattle.call_busiest.specs.Sharing.{share, shares, sharingKeeps}
-use Rattle.call_busiest.specs.SharingLaws.{total-shares}
+use Rattle.call_busiest.specs.Sharing.{share, shares, product, sharingKeeps}
+use Rattle.call_busiest.specs.SharingLaws.{kept-first, total-shares}
 use Rattle.call_busiest.specs.Busiest.{single, busiestDay}
 use Rattle.call_busiest.specs.BusiestExact.{Day}
 use Rattle.call_busiest.specs.BusiestTheorem.{busiest-exact}
@@ -55,7 +55,7 @@ use Rattle.demands.specs.calls.WatchingLaws.{says-pending}
 use Rattle.demands.specs.calls.WindowRooms.{room-of, bad-length, length-taken}
 use Rattle.demands.specs.lists.SoundRun.{Sound, SoundAsRead, after-sound, run-sound, sound-run}
 use Rattle.demands.specs.lists.TakeAnswers.{take-exact-of}
-use Rattle.demands.specs.lists.DayListed.{there, value, storable, read, in-reverse}
+use Rattle.demands.specs.lists.DayListed.{there, value, storable, read, in-reverse, day-is-listed}
 use Rattle.demands.specs.lists.Busiest.{alone-number, alone-most, busiest-kept-of}
 use Rattle.demands.specs.statements.TakeAnswers.{Takes, AnswersExact, allowedNext}
 use Rattle.demands.specs.statements.Busiest.{Gives, listed}
@@ -258,3 +258,119 @@ all-passed w scratch (e ∷ es) fits more c m =
     ⊎-elim (λ q. rw q (storable-passes w e (fits e (List·Memᴰ·head refl))))
     (λ i. ⊎-elim (λ q. rw q tt) (all-passed w scratch es (λ x j. fits x (List·Memᴰ·tail j)) 0 c) (List·Memᴰ·cases-cons i))
     (List·Memᴰ·cases-cons m)
+
+-- ---- The events of the day
+
+at-zeros : (n q : ℕ) → at (replicate n 0) q ≡ 0
+at-zeros zero q = refl
+at-zeros (suc n) zero = refl
+at-zeros (suc n) (suc q) = at-zeros n q
+
+-- An event of a history whose labels are all 0 is without fault.
+history-faultless : (k : ℕ) (ts : List Event) → History k Valid ts → (e : Event) → In e ts
+    → ((p : ℕ) → at (e .labels) p ≡ 0) → Faultless k e
+history-faultless k [] h e m z = absurd (List·Memᴰ·not-nil m)
+history-faultless k (x ∷ ts) h e m z =
+    ⊎-elim
+    (λ q. rw q (record {
+      formed = h .0 .formed;
+      counted = λ p b. omega (arith, ready-next x (taken ts) (h .0 .ready) p b);
+      unlabelled = λ p b. rw q at (z p);
+    }))
+    (λ i. history-faultless k ts (h .1) e i z) (List·Memᴰ·cases-cons m)
+
+module _ (v : ℕ) (wide : 2 ≤ v) (k n : ℕ) (events : List ℕ) (m : ℕ) (given : Gives v k n events m) where
+  abbrev es : List Event
+  es = listed v k n events
+
+  d : Day k n
+  d = there v k n events m given
+
+  pub listed-many : length es ≡ n
+  listed-many =
+      ap length (read v wide k n events m given) ∙ length-day (share k n) k ∙ total-shares k n (d .some-process)
+
+  pub listed-storable : (w : ℕ) → 2 ≤ w → (e : Event) → List·Memᴰ e es → Storable w e
+  listed-storable w wider e i = storable w wider k n d e (rw (read v wide k n events m given) at i)
+
+  pub listed-faultless : (e : Event) → List·Memᴰ e es → Faultless k e
+  unfolding single
+  listed-faultless e i =
+      let r = day-member (share k n) k e (rw (read v wide k n events m given) at i) in
+      history-faultless k (reverse es) (day-is-listed v wide k n events m given .history) e (in-reverse e es .0 i)
+      (λ p. rw (r .4) (at-zeros 8 p))
+
+-- ---- Open
+
+-- The window is as long as it was lent.
+open-long : (w : ℕ) → 0 < w → (text : List ℕ) (k : ℕ) (labels : List ℕ) → EightBytes labels → (s window : List ℕ)
+    → length (openCall w text k labels s window .window) ≡ length window
+unfolding openTable
+open-long w pos text k labels eight s window = go (open-case w text k labels s window)
+  where
+    go : OpenCase w text k labels s window → length (openCall w text k labels s window .window) ≡ length window
+    go (turned-back n i q) = rw q
+    go (opens f i h6 h5 h9 h q) =
+        rw q (opened-long w text k labels window pos (eight .0) (eight .1) f i h6 h5 h)
+
+-- ---- A day keeps some frontier
+
+some-kept : (c : ℕ) (cs : List ℕ) → 1 ≤ sharingKeeps (c ∷ cs)
+unfolding product
+some-kept c [] = omega (arith, kept-first c [])
+some-kept c (b ∷ cs) =
+    omega (arith, kept-first c (b ∷ cs), some-kept b cs, suc-mul c (sharingKeeps (b ∷ cs)))
+
+shares-keep : (k n : ℕ) → 1 ≤ k → 1 ≤ sharingKeeps (shares k n)
+unfolding listOf
+shares-keep zero n l = absurd (omega arith)
+shares-keep (suc k) n l = some-kept _ _
+
+given-some : (v k n : ℕ) (events : List ℕ) (m : ℕ) → Gives v k n events m → 1 ≤ m
+given-some v k n events m given =
+    omega (arith, value v k n events m given, shares-keep k n (there v k n events m given .some-process))
+
+-- ---- Theorems
+
+pub day-is-taken : DayIsTaken
+unfolding run
+day-is-taken w wider text k labels eight s window a v wide n events m given room more-than few more long scratch even =
+    let es : List Event = listed v k n events in
+    let d = there v k n events m given in
+    let day = day-is-listed v wide k n events m given in
+    let fits = listed-storable v wide k n events m given w wider in
+    let o = openCall w text k labels s window in
+    let x = sound-run w (omega arith) text k labels eight s window a [] (λ c i. absurd (List·Memᴰ·not-nil i)) in
+    let f = x .0 in
+    let r = all-took w k f (at labels) (d .some-process) (d .eight-processes) room
+    (omega (arith, given-some v k n events m given)) few n (omega (arith, value v k n events m given)) scratch even
+    (o .answer ∷ []) es [] (day .history) (λ e i. day .alone e (in-reverse e es .1 i))
+    (omega (arith, length-reverse es, listed-many v wide k n events m given))
+    (λ e i. (listed-faultless v wide k n events m given e i, fits e i)) more (opened o)
+    (record {
+      sound = x .3;
+      ledger-is = refl;
+      answers-are = refl;
+      lent = omega (arith, long, open-long w (omega arith) text k labels eight s window);
+    }) in
+    let Z = atEnd w text k labels s window (dayCalls more scratch es) in
+    let same : Z .ledger .history ≡ reverse es = ap (λ (L : Ledger). L .history) (r .1) in (
+      all-passed w scratch es fits more,
+      (
+        f,
+        x .1,
+        x .2,
+        reader-accepts text k (x .1) f .0 (x .2) .0,
+        record {
+          all-taken = r .1;
+          keeps = busiest-kept-of w k f (at labels) Z (r .0) .day-kept (ap (λ (L : Ledger). L .closed) (r .1)) v wide
+              n events m given
+              (λ e. (λ i. in-reverse e es .1 (rw same at i), λ i. rw same (in-reverse e es .0 i)));
+          answered = r .2;
+        },
+      ),
+    )
+
+pub day-has-its-watch : DayHasItsWatch
+unfolding openCall openRead openTable stateOf badRecordLength badProcesses
+day-has-its-watch v k n events m given f grammatical within labels eight above w s window long wide = (_, _, _, ?)
