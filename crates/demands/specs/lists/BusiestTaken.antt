@@ -6,10 +6,10 @@ use mathlib.Core.Path.{_≡_, refl, sym, ap, subst, _∙_}
 use mathlib.Core.Bool.{Bool, true, false, _&&_, _||_}
 use mathlib.Core.List.{List, [], _∷_, _++_, reverse, reverseAux, List·Memᴰ, List·Memᴰ·head, List·Memᴰ·tail, List·Memᴰ·cases-cons, List·Memᴰ·not-nil}
 use mathlib.Core.Logic.{⊎-elim}
-use lib.Dec.{leb, ltb}
+use lib.Dec.{leb, ltb, eqb}
 use lib.ListN.{length, replicate, length-append, length-replicate, length-reverse, length-reverseAux}
 use lib.Pow.{pow-mono}
-use borrow.Author.Tests.{lt-leb, le-ltb, eq-eqb}
+use borrow.Author.Tests.{lt-leb, le-ltb, eq-eqb, ne-eqb}
 use Rattle.codec.specs.Bit.{bit}
 use Rattle.codec.specs.BitLaws.{bit-zero}
 use Rattle.clocks.specs.declared.Event.{Event}
@@ -373,4 +373,30 @@ day-is-taken w wider text k labels eight s window a v wide n events m given room
 
 pub day-has-its-watch : DayHasItsWatch
 unfolding openCall openRead openTable stateOf badRecordLength badProcesses
-day-has-its-watch v k n events m given f grammatical within labels eight above w s window long wide = (_, _, _, ?)
+day-has-its-watch v k n events m given f grammatical within labels eight above w s window long wide =
+    (_, _, _, ap (λ (o : Opened). o .answer) opens-so)
+  where
+    d : Day k n
+    d = there v k n events m given
+
+    few : m ≤ 1024
+    few = omega (arith, value v k n events m given, busiest-exact v k n events .given m .0 given .1)
+
+    h6 : badWindowLength w (length window) ≡ false
+    h6 = rw wide (bad-length w m ∙ rw (le-ltb m 1 (given-some v k n events m given), le-ltb 1024 m few))
+
+    h5 : badProcesses k ≡ false
+    h5 = rw (lt-eqb k (d .some-process), le-ltb 8 k (d .eight-processes))
+      where
+        lt-eqb : (a : ℕ) → 1 ≤ a → eqb a 0 ≡ false
+        lt-eqb a l = ne-eqb a 0 (λ q. omega arith)
+
+    opens-so : openCall w (textOf f) k labels s window ≡ openTable w (linesAt 0 f) k labels (length window)
+    opens-so =
+        rw (
+          eq-eqb (length s) (recordLength w) long,
+          h6,
+          h5,
+          start-labels-fine k labels (omega arith) .1 above,
+          accepts (textOf f) k f refl grammatical within,
+        )
