@@ -17,6 +17,7 @@ pub mod Page
 pub mod DayListed
 pub mod Busiest
 pub mod BusiestTaken
+pub mod BusiestRoom
 pub mod WithoutAgains
 pub mod Again
 pub mod Messages

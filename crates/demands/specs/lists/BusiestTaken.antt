@@ -303,7 +303,7 @@ module _ (v : ℕ) (wide : 2 ≤ v) (k n : ℕ) (events : List ℕ) (m : ℕ) (g
 -- ---- Open
 
 -- The window is as long as it was lent.
-open-long : (w : ℕ) → 0 < w → (text : List ℕ) (k : ℕ) (labels : List ℕ) → EightBytes labels → (s window : List ℕ)
+pub open-long : (w : ℕ) → 0 < w → (text : List ℕ) (k : ℕ) (labels : List ℕ) → EightBytes labels → (s window : List ℕ)
     → length (openCall w text k labels s window .window) ≡ length window
 unfolding openTable
 open-long w pos text k labels eight s window = go (open-case w text k labels s window)
