@@ -16,6 +16,7 @@ pub mod Find
 pub mod Page
 pub mod DayListed
 pub mod Busiest
+pub mod DayCalls
 pub mod BusiestTaken
 pub mod BusiestRoom
 pub mod WithoutAgains

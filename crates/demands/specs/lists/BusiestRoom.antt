@@ -2,9 +2,9 @@
 -- for each that is ready.
 use Prim.Native.Nat.{ℕ, zero, suc, _+_, _*_, _≤_, _<_}
 use native.Mathlib.Omega.{arith}
-use mathlib.Core.Path.{_≡_, refl, sym, ap, _∙_}
-use mathlib.Core.Bool.{Bool, true, false, not, _||_}
-use mathlib.Core.List.{List, [], _∷_, _++_, reverse, List·Memᴰ, List·Memᴰ·head, List·Memᴰ·tail, List·Memᴰ·cases-cons, List·Memᴰ·not-nil}
+use mathlib.Core.Path.{_≡_, refl, sym, _∙_}
+use mathlib.Core.Bool.{false, _||_}
+use mathlib.Core.List.{List, [], _∷_, reverse, List·Memᴰ, List·Memᴰ·head, List·Memᴰ·tail, List·Memᴰ·cases-cons, List·Memᴰ·not-nil}
 use mathlib.Core.Logic.{_⊎_, inl, inr, ⊎-elim}
 use lib.Dec.{leb, eqb}
 use lib.ListN.{length, replicate, length-append, length-replicate, length-reverse}
@@ -17,7 +17,6 @@ use Rattle.clocks.specs.Valid.{History}
 use Rattle.clocks.specs.Counts.{at, listOf}
 use Rattle.clocks.specs.Refusal.{badMask, badClock, badLabels}
 use Rattle.clocks.specs.validity.ClockRule.{history-causal}
-use Rattle.rules.specs.Line.{linesAt}
 use Rattle.rules.specs.Formula.{Formula}
 use Rattle.frontiers.specs.declared.Frontier.{Frontier}
 use Rattle.frontiers.specs.Bytes.{frontierLength, frontiers}
@@ -49,7 +48,7 @@ use Rattle.demands.specs.lists.Busiest.{busiest-kept-of}
 use Rattle.demands.specs.lists.BusiestTaken.{listed-many, listed-storable, open-long}
 use Rattle.demands.specs.statements.TakeAnswers.{TakeExact, allowedNext}
 use Rattle.demands.specs.statements.Busiest.{Gives, listed, DayListed, Plain}
-use Rattle.demands.specs.statements.BusiestTaken.{OfDay, offers-one, takes-some, finds-line, DayMeetsNo36}
+use Rattle.demands.specs.statements.BusiestTaken.{DayList, ends, offers-one, takes-some, finds-line, DayMeetsNo36}
 
 -- ---- Only takes answer 36
 
@@ -135,11 +134,11 @@ module _ (w k : ℕ) (f : Formula) (start : Cut) (v : ℕ) (wide : 2 ≤ v) (n :
   abbrev es : List Event
   es = listed v k n events
 
-  record OnDay (Z : Watch) : Type 0 where
+  record OnDay (long : ℕ) (Z : Watch) : Type 0 where
     sound : Sound w k f start Z
     none : Z .ledger .closed ≡ 0
     came : (e : Event) → List·Memᴰ e (Z .accepted) → List·Memᴰ e es
-    room : m * frontierLength w ≤ length (Z .window)
+    lent : length (Z .window) ≡ long
     no-36 : List·Memᴰ (turnedBack 36 0) (Z .answers) → ⊥
 
   -- One answer more that is not 36.
@@ -147,7 +146,7 @@ module _ (w k : ℕ) (f : Formula) (start : Cut) (v : ℕ) (wide : 2 ≤ v) (n :
       → List·Memᴰ (turnedBack 36 0) (a ∷ prior) → ⊥
   still a prior o none i = ⊎-elim (λ q. o (sym q)) none (List·Memᴰ·cases-cons i)
 
-  module _ (Z : Watch) (D : OnDay Z) where
+  module _ (long : ℕ) (Z : Watch) (D : OnDay long Z) where
     S : Sound w k f start Z
     S = D .sound
 
@@ -184,8 +183,13 @@ module _ (w k : ℕ) (f : Formula) (start : Cut) (v : ℕ) (wide : 2 ≤ v) (n :
         (⊎-elim (λ q. rw q (of-pending e i)) (of-history x) (List·Memᴰ·cases-cons j))) in
         omega (arith, short, length-reverse es, listed-many v wide k n events m given)
 
-    take-fits : (limit more : ℕ) (scratch : List ℕ) → m ≤ limit → Other (nextTake w Z limit more scratch .answer)
-    take-fits limit more scratch enough q =
+    lent-long : (more : ℕ) → length (lentWindow Z more) ≡ long + more
+    lent-long more =
+        omega (arith, length-append (Z .window) (replicate more 0), length-replicate {A = ℕ} more 0, D .lent)
+
+    take-fits : (limit more : ℕ) (scratch : List ℕ) → m ≤ limit → m * frontierLength w ≤ long + more
+        → Other (nextTake w Z limit more scratch .answer)
+    take-fits limit more scratch enough wide-enough q =
         let six : nextTake w Z limit more scratch .answer ≡ turnedBack 6 0 =
         exact .wrong-lengths limit more scratch .1 wrong in
         let z : _≡_ {A = ℕ} 6 36 = cc in omega arith
@@ -199,15 +203,12 @@ module _ (w k : ℕ) (f : Formula) (start : Cut) (v : ℕ) (wide : 2 ≤ v) (n :
         plain : Plain Z
         plain = record { none-closed = D .none; taken-alone = λ e i. day .alone e (of-history e i) }
 
-        lent : m ≤ allowedNext w Z limit more
-        lent =
-            let long : length (lentWindow Z more) ≡ length (Z .window) + more =
-            length-append (Z .window) (replicate more 0)
-            ∙ ap (λ (x : ℕ). length (Z .window) + x) (length-replicate more 0) in
+        allowed : m ≤ allowedNext w Z limit more
+        allowed =
             omega (
               arith,
               enough,
-              room-iff w m (length (lentWindow Z more)) .1 (omega (arith, long, D .room)),
+              room-iff w m (length (lentWindow Z more)) .1 (omega (arith, wide-enough, lent-long more)),
             )
 
         wrong : RightLengths w Z more scratch → ⊥
@@ -215,18 +216,18 @@ module _ (w k : ℕ) (f : Formula) (start : Cut) (v : ℕ) (wide : 2 ≤ v) (n :
             let full = exact .right-lengths limit more scratch r .full-exactly .0 q in
             let over = full .1 (full .0 .0) (full .0 .1) (full .0 .2) in
             busiest-kept-of w k f start Z S .room-enough plain (λ e i. day .alone e (of-pending e i)) v n events m given
-            (next-short (full .0 .0) (full .0 .1) (full .0 .2) (over .0)) limit more scratch r lent q
+            (next-short (full .0 .0) (full .0 .1) (full .0 .2) (over .0)) limit more scratch r allowed q
 
     -- ---- The watch after a call
     after-offer : (mask : ℕ) (clock labels : List ℕ) → List·Memᴰ (offeredEvent mask clock labels) es
-        → Passed w (offers mask clock labels) → OnDay (after w (offers mask clock labels) Z)
+        → Passed w (offers mask clock labels) → OnDay long (after w (offers mask clock labels) Z)
     unfolding after offeredLedger acceptedBy
     after-offer mask clock labels i p =
         record {
           sound = after-sound w k f start Z (offers mask clock labels) p S;
           none = closes-none (offer-case w mask clock labels (Z .bytes));
           came = came-then (offer-case w mask clock labels (Z .bytes));
-          room = D .room;
+          lent = D .lent;
           no-36 = still _ (Z .answers) (offer-other w mask clock labels (Z .bytes)) (D .no-36);
         }
       where
@@ -245,60 +246,56 @@ module _ (w k : ℕ) (f : Formula) (start : Cut) (v : ℕ) (wide : 2 ≤ v) (n :
         came-then (accepted h7 h8 h9 h42 h31 h32 h33 q) =
             rw q (λ e j. ⊎-elim (λ x. rw x i) (D .came e) (List·Memᴰ·cases-cons j))
 
-    after-take : (limit more : ℕ) (scratch : List ℕ) → m ≤ limit → OnDay (after w (takes limit more scratch) Z)
+    after-take : (limit more : ℕ) (scratch : List ℕ) → m ≤ limit → m * frontierLength w ≤ long + more
+        → OnDay (long + more) (after w (takes limit more scratch) Z)
     unfolding after
-    after-take limit more scratch enough = record {
+    after-take limit more scratch enough wide-enough = record {
       sound = after-sound w k f start Z (takes limit more scratch) tt S;
       none = take-closes w (Z .bytes) _ (Z .ledger) _ ∙ D .none;
       came = D .came;
-      room =
-          omega (
-            arith,
-            D .room,
-            length-taken w limit (Z .bytes) (lentWindow Z more) scratch,
-            length-append (Z .window) (replicate more 0),
-          );
-      no-36 = still _ (Z .answers) (take-fits limit more scratch enough) (D .no-36);
+      lent = length-taken w limit (Z .bytes) (lentWindow Z more) scratch ∙ lent-long more;
+      no-36 = still _ (Z .answers) (take-fits limit more scratch enough wide-enough) (D .no-36);
     }
 
-    after-find : (line : ℕ) → OnDay (after w (finds line) Z)
+    after-find : (line : ℕ) → OnDay long (after w (finds line) Z)
     unfolding after
     after-find line = record {
       sound = after-sound w k f start Z (finds line) tt S;
       none = D .none;
       came = D .came;
-      room = D .room;
+      lent = D .lent;
       no-36 = still _ (Z .answers) (find-other w line (Z .bytes) (Z .window)) (D .no-36);
     }
 
-  after-day : (c : Call) → OfDay m es c → Passed w c → (Z : Watch) → OnDay Z → OnDay (after w c Z)
-  after-day _ (offers-one mask clock labels i) p Z D = after-offer Z D mask clock labels i p
-  after-day _ (takes-some limit more scratch l) p Z D = after-take Z D limit more scratch l
-  after-day _ (finds-line line) p Z D = after-find Z D line
-
-  run-day : (cs : List Call) → AllPassed w cs → ((c : Call) → List·Memᴰ c cs → OfDay m es c)
-      → (Z : Watch) → OnDay Z → OnDay (run w cs Z)
+  run-day : (long : ℕ) (cs : List Call) → DayList w m es long cs → AllPassed w cs → (Z : Watch) → OnDay long Z
+      → List·Memᴰ (turnedBack 36 0) (run w cs Z .answers) → ⊥
   unfolding run
-  run-day [] p o Z D = D
-  run-day (c ∷ cs) p o Z D =
-      run-day cs (λ x i. p x (List·Memᴰ·tail i)) (λ x i. o x (List·Memᴰ·tail i)) (after w c Z)
-      (after-day c (o c (List·Memᴰ·head refl)) (p c (List·Memᴰ·head refl)) Z D)
+  run-day _ _ (ends long) p Z D = D .no-36
+  run-day _ _ (offers-one long mask clock labels cs i rest) p Z D =
+      run-day long cs rest (λ c j. p c (List·Memᴰ·tail j)) (after w (offers mask clock labels) Z)
+      (after-offer long Z D mask clock labels i (p (offers mask clock labels) (List·Memᴰ·head refl)))
+  run-day _ _ (takes-some long limit more scratch cs l r rest) p Z D =
+      run-day (long + more) cs rest (λ c j. p c (List·Memᴰ·tail j)) (after w (takes limit more scratch) Z)
+      (after-take long Z D limit more scratch l r)
+  run-day _ _ (finds-line long line cs rest) p Z D =
+      run-day long cs rest (λ c j. p c (List·Memᴰ·tail j)) (after w (finds line) Z) (after-find long Z D line)
 
 -- ---- Theorem
 
 pub day-meets-no-36 : DayMeetsNo36
 unfolding run
-day-meets-no-36 w pos text k labels eight s window a v wide n events m given long cs p o =
+day-meets-no-36 v wide k n events m given w pos text labels eight s window a cs p calls =
     let x = sound-run w pos text k labels eight s window a [] (λ c i. absurd (List·Memᴰ·not-nil i)) in
-    run-day w k (x .0) (at labels) v wide n events m given cs p o (opened (openCall w text k labels s window))
+    run-day w k (x .0) (at labels) v wide n events m given (length window) cs calls p
+    (opened (openCall w text k labels s window))
     (record {
       sound = x .3;
       none = refl;
       came = λ e i. absurd (List·Memᴰ·not-nil i);
-      room = omega (arith, long, open-long w pos text k labels eight s window);
+      lent = open-long w pos text k labels eight s window;
       no-36 = λ i.
           ⊎-elim
           (λ q. let y : turnedBack 36 0 ≡ state (a .0) (a .1) (a .2) = q ∙ a .3 in
           let z : _≡_ {A = ℕ} 0 1 = cc in omega arith)
           List·Memᴰ·not-nil (List·Memᴰ·cases-cons i);
-    }) .no-36
+    })

@@ -1,6 +1,6 @@
--- A busiest day, taken whole (02 [8]): the calls that take it, with all their answers; that there is a watch for every
--- day; and that no list of offers of its events, takes and finds meets a 36. Proved in lists/BusiestTaken, and the last
--- in lists/BusiestRoom.
+-- A busiest day, taken whole (02 [8]): the calls that take it, on a window of as many frontiers as it keeps, with all
+-- their answers; and that no list of offers of its events, takes and finds meets a 36. Proved in lists/BusiestTaken and
+-- lists/BusiestRoom.
 use Prim.Native.Nat.{ℕ, _+_, _*_, _≤_, _<_}
 use mathlib.Core.Path.{_≡_}
 use mathlib.Core.List.{List, [], _∷_, _++_, reverse, List·Memᴰ}
@@ -55,14 +55,29 @@ pub record DayTaken (k : ℕ) (f : Formula) (start : Cut) (es : List Event) (m :
   -- all answers: no call was turned back, so no take with 36
   pub answered : Z .answers ≡ dayAnswers k f start (reverse es) ++ (opening ∷ [])
 
--- A call for k processes and n events gave m, with counts of v bytes. A watch of k processes was opened, with counts of
--- w bytes. Then these calls take all events of the list and keep m frontiers, on a window of m frontiers or more: as it
--- was lent to open, or with zeros appended at the first take.
+-- The call for k processes and n events gave m, with counts of v bytes. Then a window of m frontiers takes the day: open
+-- accepts every rule of the grammar within its limits, with start labels that are 0 from process k up, in a record and a
+-- window of these lengths, with counts of w bytes; and the calls take all events of the list and keep m frontiers.
+abbrev pub DayFitsItsWindow : Type 0
+DayFitsItsWindow =
+    (v : ℕ) → 2 ≤ v → (k n : ℕ) (events : List ℕ) (m : ℕ) → Gives v k n events m
+    → (f : Formula) → Grammatical f → Within k f
+    → (labels : List ℕ) → EightBytes labels → ((p : ℕ) → k ≤ p → at labels p ≡ 0)
+    → (w : ℕ) → 2 ≤ w → (s window scratch : List ℕ) → length s ≡ recordLength w
+    → length window ≡ m * frontierLength w → length scratch ≡ m * frontierLength w
+    → let es = listed v k n events in
+    let cs = dayCalls 0 scratch es in
+    Accepts w (textOf f) k labels s window × AllPassed w cs
+    × DayTaken k f (at labels) es m (openCall w (textOf f) k labels s window .answer)
+    (atEnd w (textOf f) k labels s window cs)
+
+-- So does every watch of k processes, however it was opened, on a window of m frontiers or more: as it was lent to open,
+-- or with zeros appended at the first take.
 abbrev pub DayIsTaken : Type 0
 DayIsTaken =
-    (w : ℕ) → 2 ≤ w → (text : List ℕ) (k : ℕ) (labels : List ℕ) → EightBytes labels
+    (v : ℕ) → 2 ≤ v → (k n : ℕ) (events : List ℕ) (m : ℕ) → Gives v k n events m
+    → (w : ℕ) → 2 ≤ w → (text labels : List ℕ) → EightBytes labels
     → (s window : List ℕ) → Accepts w text k labels s window
-    → (v : ℕ) → 2 ≤ v → (n : ℕ) (events : List ℕ) (m : ℕ) → Gives v k n events m
     → (room : ℕ) → m ≤ room → room ≤ mostFrontiers
     → (more : ℕ) → length window + more ≡ room * frontierLength w
     → (scratch : List ℕ) → length scratch ≡ room * frontierLength w
@@ -72,31 +87,23 @@ DayIsTaken =
     × ((f : Formula) × (i : ℕ) × (readRule text k ≡ formed i f) × (textOf f ≡ text)
     × DayTaken k f (at labels) es m (openCall w text k labels s window .answer) (atEnd w text k labels s window cs))
 
--- There is such a watch, with a window of exactly m frontiers: open accepts every rule of the grammar within its
--- limits, start labels of which none is set from process k up, and buffers of these lengths.
-abbrev pub DayHasItsWatch : Type 0
-DayHasItsWatch =
-    (v k n : ℕ) (events : List ℕ) (m : ℕ) → Gives v k n events m
-    → (f : Formula) → Grammatical f → Within k f
-    → (labels : List ℕ) → length labels ≡ 8 → ((p : ℕ) → k ≤ p → at labels p ≡ 0)
-    → (w : ℕ) (s window : List ℕ) → length s ≡ recordLength w → length window ≡ m * frontierLength w
-    → Accepts w (textOf f) k labels s window
-
 -- ---- Any calls with its events
 
--- An offer of one of the events; a take under a cap of m or more, lent a scratch and zeros of any number; a find.
-pub data OfDay (m : ℕ) (es : List Event) : Call → Type 0 where
-  offers-one : (mask : ℕ) (clock labels : List ℕ) → List·Memᴰ (offeredEvent mask clock labels) es
-      → OfDay m es (offers mask clock labels)
-  takes-some : (cap more : ℕ) (scratch : List ℕ) → m ≤ cap → OfDay m es (takes cap more scratch)
-  finds-line : (line : ℕ) → OfDay m es (finds line)
+-- A list of offers of these events, of takes and of finds, where the watch's window has so many bytes before them. Each
+-- take is under a cap of m or more and is lent a window with room for m frontiers; the scratch is of any length.
+pub data DayList (w m : ℕ) (es : List Event) : ℕ → List Call → Type 0 where
+  ends : (long : ℕ) → DayList w m es long []
+  offers-one : (long mask : ℕ) (clock labels : List ℕ) (cs : List Call) → List·Memᴰ (offeredEvent mask clock labels) es
+      → DayList w m es long cs → DayList w m es long (offers mask clock labels ∷ cs)
+  takes-some : (long cap more : ℕ) (scratch : List ℕ) (cs : List Call) → m ≤ cap → m * frontierLength w ≤ long + more
+      → DayList w m es (long + more) cs → DayList w m es long (takes cap more scratch ∷ cs)
+  finds-line : (long line : ℕ) (cs : List Call) → DayList w m es long cs → DayList w m es long (finds line ∷ cs)
 
--- In whatever order, and however often an event is offered: where open was lent a window of m frontiers or more, no
--- answer is 36.
+-- In whatever order, and however often an event is offered: no answer is 36.
 abbrev pub DayMeetsNo36 : Type 0
 DayMeetsNo36 =
-    (w : ℕ) → 0 < w → (text : List ℕ) (k : ℕ) (labels : List ℕ) → EightBytes labels
+    (v : ℕ) → 2 ≤ v → (k n : ℕ) (events : List ℕ) (m : ℕ) → Gives v k n events m
+    → (w : ℕ) → 0 < w → (text labels : List ℕ) → EightBytes labels
     → (s window : List ℕ) → Accepts w text k labels s window
-    → (v : ℕ) → 2 ≤ v → (n : ℕ) (events : List ℕ) (m : ℕ) → Gives v k n events m → m * frontierLength w ≤ length window
-    → (cs : List Call) → AllPassed w cs → ((c : Call) → List·Memᴰ c cs → OfDay m (listed v k n events) c)
+    → (cs : List Call) → AllPassed w cs → DayList w m (listed v k n events) (length window) cs
     → List·Memᴰ (turnedBack noRoomNumber 0) (atEnd w text k labels s window cs .answers) → ⊥
