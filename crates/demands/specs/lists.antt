@@ -18,6 +18,9 @@ pub mod Page
 pub mod DayListed
 pub mod Busiest
 pub mod Mislent
+pub mod DayCalls
+pub mod BusiestTaken
+pub mod BusiestRoom
 pub mod WithoutAgains
 pub mod Again
 pub mod Offer

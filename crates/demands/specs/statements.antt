@@ -13,6 +13,7 @@ pub mod Earlier
 pub mod Close
 pub mod Page
 pub mod Busiest
+pub mod BusiestTaken
 pub mod Moves
 pub mod EveryWatch
 pub mod BothForms

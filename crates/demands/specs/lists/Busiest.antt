@@ -53,7 +53,7 @@ module _ (k : ℕ) (some : 0 < k) (eight : k ≤ 8) (ts : List Event) (h : Histo
   taken-at : (p : ℕ) → at counts p ≡ taken ts p
   taken-at p = ap (λ (C : Cut). C p) (at-listOf-all k (taken ts) (taken-silent k Valid ts h))
 
-  alone-number : KeptNumber k 0 ts (sharingKeeps counts)
+  pub alone-number : KeptNumber k 0 ts (sharingKeeps (listOf k (taken ts)))
   alone-number = (
     reaching counts,
     record {
@@ -83,7 +83,7 @@ module _ (k : ℕ) (some : 0 < k) (eight : k ≤ 8) (ts : List Event) (h : Histo
           )
 
   -- No more than an even sharing of as many events.
-  alone-most : (n : ℕ) → length ts ≤ n → sharingKeeps counts ≤ sharingKeeps (shares k n)
+  pub alone-most : (n : ℕ) → length ts ≤ n → sharingKeeps (listOf k (taken ts)) ≤ sharingKeeps (shares k n)
   alone-most n l =
       even-is-best k n some .best counts (length-listOf k (taken ts)) (omega (arith, alone-total k Valid ts h alone))
 

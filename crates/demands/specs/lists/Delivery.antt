@@ -55,7 +55,7 @@ module _ (ts us : List Event) (c : Causal ts) (d : Causal us) (h : (f : Event) �
       let w = event-numbered ts p n f q in
       rw (count-number ts c p n f q) at (number-of us d f (h f (w .among)) p (w .takes))
 
-  taken-within : (p : ℕ) → taken ts p ≤ taken us p
+  pub taken-within : (p : ℕ) → taken ts p ≤ taken us p
   taken-within p = go (decLt 0 (taken ts p))
     where
       go : Dec (0 < taken ts p) → taken ts p ≤ taken us p
