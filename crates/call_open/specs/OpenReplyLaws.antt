@@ -14,7 +14,6 @@ use Rattle.codec.specs.PutLaws.{number-drop}
 use Rattle.clocks.specs.Counts.{at, listOf}
 use Rattle.clocks.specs.Refusal.{badStart}
 use Rattle.clocks.specs.stored.CountsLaws.{length-listOf, listOf-same, at-listOf, at-beyond}
-use Rattle.frontiers.specs.Bytes.{countBytes}
 use Rattle.frontiers.specs.BytesLaws.{countBytes-zeros, number-countBytes}
 use Rattle.pactl.specs.declared.Line.{Line}
 use Rattle.pactl.specs.Table.{tableBytes}
@@ -25,7 +24,7 @@ use Rattle.rules.specs.grammar.GrammarTheorem.{reader-first-fault}
 use Rattle.rules.specs.reading.PlaceLaws.{fault-place}
 use Rattle.records.specs.Record.{takenCounts, eventLength}
 use Rattle.refusals.specs.Refusals.{badRecordLength, badWindowLength, badProcesses}
-use Rattle.answers.specs.Answer.{Answer, turnedBack, state, flag, replyWord, stateOf}
+use Rattle.answers.specs.Answer.{turnedBack, state, flag, replyWord, stateOf}
 use Rattle.answers.specs.Turns.{by-test}
 use Rattle.call_open.specs.Open.{Opened, firstRecord, openTable, openRead, openCall}
 use Rattle.call_open.specs.OpenReplies.{Told, RepliesTell}

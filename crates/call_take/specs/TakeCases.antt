@@ -14,15 +14,15 @@ use Rattle.clocks.specs.stored.BoundedLaws.{and-l, and-r, or-false-e}
 use Rattle.clocks.specs.stored.CountsLaws.{length-listOf, getD-listOf}
 use Rattle.frontiers.specs.declared.Frontier.{Frontier}
 use Rattle.frontiers.specs.Bytes.{frontiers}
-use Rattle.window.specs.Step.{Setting, fits, keptAfter}
+use Rattle.window.specs.Step.{fits, keptAfter}
 use Rattle.records.specs.Record.{recordLength, pendingCount, keptCount, pendingAt, pendingEvents, readyIn}
 use Rattle.refusals.specs.Refusals.{badRecordLength, badWindowLength, roomOf, badState}
 use Rattle.refusals.specs.RefusalLaws.{right-length, room-few}
 use Rattle.answers.specs.Answer.{turnedBack}
 use Rattle.answers.specs.Turns.{by-test}
-use Rattle.trial.specs.Trial.{Decision, undecided, false-clock, chosen, validAmong, settingIn, trial}
+use Rattle.trial.specs.Trial.{undecided, false-clock, chosen, validAmong, settingIn, trial}
 use Rattle.trial.specs.TrialLaws.{Outcome, outcome, none-decides, falsifies, chooses}
-use Rattle.call_take.specs.Take.{Taken, decided, takeWithin, badLengths, allowedOf, takeCapped}
+use Rattle.call_take.specs.Take.{Taken, decided, takeWithin, allowedOf, takeCapped}
 
 -- Of an event that is taken: it is ready, and 1 to 1,024 frontiers are kept.
 pub record Taking (w : ℕ) (s : List ℕ) (fs : List Frontier) (i : ℕ) : Type 0 where

@@ -6,14 +6,13 @@ use mathlib.Core.Bool.{Bool, true, false}
 use mathlib.Core.List.{List}
 use mathlib.Core.Logic.{_⊎_, inl, inr}
 use lib.Dec.{eqb}
-use lib.ListN.{length}
 use Rattle.codec.specs.Little.{Bytes}
 use Rattle.frontiers.specs.declared.Frontier.{Frontier}
 use Rattle.frontiers.specs.Bytes.{frontiers}
 use Rattle.window.specs.SteppedCount.{stepped-many}
 use Rattle.records.specs.Record.{keptCount, takenCounts, pendingAt}
 use Rattle.trial.specs.Trial.{settingIn, undecided, false-clock, chosen}
-use Rattle.answers.specs.Answer.{Answer, turnedBack, state, nothingReady, flag, replyWord, stateOf}
+use Rattle.answers.specs.Answer.{turnedBack, state, nothingReady, flag, replyWord, stateOf}
 use Rattle.call_take.specs.Take.{Taken, decided, takeCapped}
 use Rattle.call_take.specs.TakeCases.{Case, Taking, take-case, turned, none, falsified, takes}
 use Rattle.call_take.specs.TakeReplies.{Told, RepliesTell}
