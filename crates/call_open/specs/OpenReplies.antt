@@ -15,8 +15,8 @@ use Rattle.call_open.specs.Open.{Opened, openCall}
 
 -- What an open answers and leaves, for counts of w bytes.
 pub record Told (w : ℕ) (o : Opened) : Type 0 where
-  -- accepted exactly if the word's number is 0: its value is the number of frontiers kept, the flag is the rule's truth,
-  -- and the counts are those that stand in the record afterwards
+  -- accepted exactly if the word's number is 0: its value is the number of frontiers kept, the flag is the rule's
+  -- truth, and the counts are those that stand in the record afterwards
   pub opened-exactly : (counts : List ℕ) (truth : Bool) (kept : ℕ)
       → (o .answer ≡ state counts truth kept)
       ↔ ((replyWord (o .answer) % 256 ≡ 0) × (replyWord (o .answer) / 65536 % 65536 ≡ kept)

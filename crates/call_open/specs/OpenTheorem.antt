@@ -85,7 +85,8 @@ module _ (k : ℕ) (labels : List ℕ) where
   labelled-i : Labelled k labels → badStart k labels ≡ true
   unfolding badStart
   labelled-i x =
-      any-stop 8 (x .0) (badStartLabel k labels) (x .2) (rw (le-leb k (x .0) (x .1), ne-eqb (at labels (x .0)) 0 (x .3)))
+      any-stop 8 (x .0) (badStartLabel k labels) (x .2)
+      (rw (le-leb k (x .0) (x .1), ne-eqb (at labels (x .0)) 0 (x .3)))
 
   labelled-e : badStart k labels ≡ true → Labelled k labels
   unfolding badStart

@@ -91,5 +91,6 @@ take-case w cap s window scratch =
     let lengths = or-false-e (badRecordLength w (length s)) wrong right in
     let window-right =
     or-false-e (badWindowLength w (length window)) (not (eqb (length scratch) (length window))) (lengths .1) .0 in
-    let few : allowedOf w cap window ≤ 1024 = omega (arith, min-le-right cap room, room-few w (length window) window-right) in
+    let few : allowedOf w cap window ≤ 1024 =
+    omega (arith, min-le-right cap room, room-few w (length window) window-right) in
     within-case w (allowedOf w cap window) s window scratch (right-length w (length s) (lengths .0)) few

@@ -8,6 +8,7 @@ pub mod TableBytes
 pub mod Truth
 pub mod ModelCuts
 pub mod Semantics
+pub mod Paths
 pub mod Judge
 pub mod Clauses
 -- What is proved of tables
@@ -17,6 +18,7 @@ pub mod GoodLineLaws
 -- What is proved of truth
 pub mod TruthLaws
 pub mod SemanticsTheorem
+pub mod PathsTheorem
 pub mod TruthLocal
 pub mod LineTruthLaws
 -- What is proved of judging

@@ -1,6 +1,6 @@
--- PaCTL's semantics, clause by clause as source 000 prints it in section 2 (01, The rule, has the same words): the truth
--- that Truth computes keeps these clauses at every consistent cut of a history, and no other does. Proved in
--- SemanticsTheorem.
+-- PaCTL's semantics, clause by clause as source 000 prints it in section 2 (01, The rule, has the same words). The
+-- truth that Truth computes keeps these clauses at every consistent cut of a history, and no other truth does. Proved
+-- in SemanticsTheorem.
 --
 -- The source's letters: S and S′ are cuts, S′ → S says that S′ precedes S, L(S) are the propositions that hold at S, q
 -- is a proposition. The script S in E(φ S ψ) is since.
