@@ -31,6 +31,9 @@ pub record SinceAt (truths : Truths) (φ ψ : Pactl) (cuts : ℕ → Cut) (m : �
 -- ---- Statement
 
 pub record OverPaths (ts : List Event) (truths : Truths) (S : Cut) : Type 0 where
+  -- paths lead back to exactly the consistent cuts inside (source 000: < is the transitive closure of →)
+  pub reach : (R : Cut)
+      → ((n : ℕ) × (cuts : ℕ → Cut) × Path ts S n cuts × (cuts n ≡ R)) ↔ (Consistent ts R × ((p : ℕ) → R p ≤ S p))
   -- E(φ S ψ), A(φ S ψ): on some path; on every maximal one
   pub of-es : (φ ψ : Pactl)
       → Has truths S (existsSince φ ψ)

@@ -1,14 +1,17 @@
 -- The operators over paths, from the printed clauses alone and from the size of a cut, which falls along a path.
 use Prim.Native.Nat.{ℕ, zero, suc, _≤_, _<_}
 use native.Mathlib.Omega.{arith}
-use mathlib.Core.Path.{_≡_, refl, sym, subst, _∙_}
+use mathlib.Core.Path.{_≡_, refl, sym, ap, subst, _∙_}
 use mathlib.Core.Bool.{Bool, true, false, true≢false}
 use mathlib.Core.List.{List}
-use mathlib.Core.Logic.{_⊎_, inl, inr}
+use mathlib.Core.Logic.{_⊎_, inl, inr, ⊎-elim}
 use Rattle.clocks.specs.declared.Event.{Event}
 use Rattle.clocks.specs.Event.{Cut}
 use Rattle.clocks.specs.History.{Consistent, Precedes}
 use Rattle.clocks.specs.Valid.{Known, History}
+use Rattle.clocks.specs.cuts.Between.{Inside, descend}
+use Rattle.clocks.specs.cuts.EventLaws.{apply-up}
+use Rattle.clocks.specs.validity.ClockRule.{history-causal}
 use Rattle.clocks.specs.validity.KnownClock.{known-rule}
 use Rattle.pactl.specs.Pactl.{Pactl, proposition, negation, existsYesterday, existsSince, allSince, disjunction, truth, existsPreviously, allPreviously}
 use Rattle.pactl.specs.Truth.{size, holds}
@@ -60,10 +63,29 @@ module _ (ts : List Event) where
   on-path S c n cuts P zero l = rw (P .begins) c
   on-path S c n cuts P (suc i) l = P .steps i (omega arith) .before
 
+  -- ... and inside the first.
+  inside-path : (S : Cut) (n : ℕ) (cuts : ℕ → Cut) → Path ts S n cuts → (i : ℕ) → i ≤ n → Inside (cuts i) S
+  inside-path S n cuts P zero l p = rw (P .begins) (omega arith)
+  inside-path S n cuts P (suc i) l p =
+      let m = P .steps i (omega arith) in
+      let up = ap (λ (Q : Cut). Q p) (m .leads) in
+      omega (arith, inside-path S n cuts P i (omega arith) p, up, apply-up (m .by) (cuts (suc i)) p)
+
 -- ---- Truths that keep the clauses
 module _ (k : ℕ) (start : Cut) (ts : List Event) (h : History k Known ts) (x : Truths) (X : Keeps start ts x) where
   smaller : (S S′ : Cut) → Precedes ts S′ S → size k S′ < size k S
   smaller = leads-smaller (modelOver k start ts) Known (record { rule = known-rule k; by-rule = h })
+
+  -- A path leads to every consistent cut inside.
+  path-to : (d : ℕ) (R S : Cut) → Consistent ts R → Consistent ts S → Inside R S → size k S < d
+      → (n : ℕ) × (cuts : ℕ → Cut) × Path ts S n cuts × (cuts n ≡ R)
+  unfolding joined
+  path-to zero R S r s i l = absurd (omega arith)
+  path-to (suc d) R S r s i l = ⊎-elim (λ q. (0, (λ j. S), stay ts S, sym q))
+      (λ x.
+      let p = path-to d R (x .0) r (x .1 .before) (x .2) (omega (arith, smaller S (x .0) (x .1))) in
+      (suc (p .0), joined S (p .1), path-joined ts S (x .0) (x .1) (p .0) (p .1) (p .2), p .3))
+      (descend ts (history-causal k Known (known-rule k) ts h) R S r s i)
 
   -- What is not true is false.
   false-has : (S : Cut) → Consistent ts S → (φ : Pactl) → x φ S ≡ false → Has x S (negation φ)
@@ -355,6 +377,13 @@ module _ (k : ℕ) (start : Cut) (ts : List Event) (h : History k Known ts) (x :
 
   over-paths : (S : Cut) → Consistent ts S → OverPaths ts x S
   over-paths S c = record {
+    reach = λ R. (
+      (λ p. rw (← p .3) (
+        on-path ts S c (p .0) (p .1) (p .2) (p .0) (omega arith),
+        inside-path ts S (p .0) (p .1) (p .2) (p .0) (omega arith),
+      )),
+      (λ r. path-to (suc (size k S)) R S (r .0) c (r .1) (omega arith)),
+    );
     of-es = λ φ ψ.
         (es-path φ ψ (suc (size k S)) S c (omega arith), λ p. path-es φ ψ (p .0) S c (p .1) (p .2) (p .3));
     of-as = λ φ ψ. (
