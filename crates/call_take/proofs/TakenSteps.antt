@@ -5,29 +5,27 @@ use native.Mathlib.Decide.{decLt}
 use native.Mathlib.Omega.{arith}
 use mathlib.Core.Path.{_≡_, sym, ap, _∙_}
 use mathlib.Core.Bool.{Bool}
-use mathlib.Core.List.{List, _∷_, [], map, _++_}
-use lib.ListN.{length, getD, take, drop, replicate}
-use lib.Seq.{sets}
+use mathlib.Core.List.{List, map}
+use lib.ListN.{length, getD, drop}
 use lib.Dec.{T}
 use Rattle.codec.specs.Bit.{bit}
 use Rattle.codec.specs.Little.{Bytes, number}
 use Rattle.codec.specs.LittleLaws.{Bytes-take, Bytes-drop, pow-256-pos}
-use Rattle.codec.specs.PutLaws.{number-lt, number-middle}
-use Rattle.codec.specs.SetsLaws.{part-sets-before, part-sets-after}
+use Rattle.codec.specs.PutLaws.{number-lt}
 use Rattle.clocks.specs.declared.Event.{Event}
 use Rattle.clocks.specs.Counts.{at, listOf}
-use Rattle.clocks.specs.stored.CountsLaws.{listOf-same, at-listOf, at-beyond, length-listOf}
+use Rattle.clocks.specs.stored.CountsLaws.{at-listOf, at-beyond, length-listOf}
 use Rattle.frontiers.specs.declared.Frontier.{Frontier}
 use Rattle.frontiers.specs.Bytes.{frontiers, frontierAt}
-use Rattle.frontiers.specs.BytesLaws.{count-within}
 use Rattle.window.specs.Lists.{getD-mapped}
 use Rattle.window.specs.Step.{stepped, keptAfter}
 use Rattle.window.specs.StepCode.{Fitting}
 use Rattle.window.specs.SteppedCount.{stepped-many}
 use Rattle.frontiers.specs.WindowLaws.{length-frontiers, getD-frontiers}
-use Rattle.records.specs.Record.{pendingAt, pendingCount, pendingPlace, eventLength, removed, takenCounts, counted, lineTotal, readyIn}
+use Rattle.records.specs.Record.{pendingAt, pendingPlace, removed, counted, lineTotal, readyIn}
 use Rattle.trial.specs.Trial.{settingIn, chosen}
 use Rattle.call_take.specs.Take.{decided}
+use Rattle.call_take.specs.TakenCountsLaws.{removed-taken}
 use Rattle.answers.specs.Answer.{replyWord, flag, stateOf}
 
 -- A pending event's parts fit where they were read from.
@@ -46,22 +44,7 @@ pending-fits w s i b = record {
     count p (yes l) = rw (at-listOf 8 read p l) (number-lt s (pendingPlace w i + 8 + p * w) w b)
     count p (no l) = rw (at-beyond (listOf 8 read) p (rw (length-listOf 8 read) (omega arith))) (pow-256-pos w)
 
--- Two lists with the same part have the same number there.
-number-alike : (s t : List ℕ) (a n : ℕ) → take n (drop a s) ≡ take n (drop a t) → number s a n ≡ number t a n
-number-alike s t a n e =
-    let here : (u : List ℕ) → number u a n ≡ number (take n (drop a u)) 0 n = λ u. ap (λ (m : ℕ). number u m n) (omega arith) ∙ sym (number-middle u a n 0 n (omega arith)) in
-    here s ∙ ap (λ (u : List ℕ). number u 0 n) e ∙ sym (here t)
-
--- The removal of a pending event leaves the taken counts.
-pub removed-taken : (w : ℕ) (s : List ℕ) (i : ℕ) → takenCounts w (removed w s i) ≡ takenCounts w s
-unfolding takenCounts removed
-removed-taken w s i = listOf-same 8 _ _ λ p l.
-    let rest : List ℕ = take ((pendingCount s - (i + 1)) * eventLength w) (drop (pendingPlace w (i + 1)) s) ++ replicate (eventLength w) 0 in
-    number-alike _ s (8 + p * w) w
-    (part-sets-after (sets s (pendingPlace w i) rest) 2 ((pendingCount s - 1) ∷ []) (8 + p * w) w (omega arith)
-    ∙ part-sets-before s (pendingPlace w i) rest (8 + p * w) w (omega (arith, count-within p 8 w l)))
-
--- So an event that was ready still is.
+-- An event that was ready still is when a pending one is removed: the taken counts stay.
 pub removed-ready : (w : ℕ) (s : List ℕ) (i : ℕ) (e : Event) → T (readyIn w s e) → T (readyIn w (removed w s i) e)
 unfolding readyIn
 removed-ready w s i e r = rw (removed-taken w s i) r

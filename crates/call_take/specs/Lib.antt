@@ -2,5 +2,10 @@
 
 -- What a reader has to believe
 pub mod Take
+pub mod TakeReplies
+-- What is proved
+pub mod TakenCountsLaws
+pub mod TakeCases
+pub mod TakeReplyLaws
 -- What its functions' contracts cite
 pub mod TakeCode

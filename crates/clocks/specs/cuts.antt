@@ -8,6 +8,7 @@ pub mod Lattice
 pub mod Preceding
 pub mod Agree
 pub mod PrecedingStep
+pub mod Between
 pub mod SameEvents
 pub mod Predecessors
 pub mod KeptStep

@@ -7,6 +7,8 @@ pub mod Table
 pub mod TableBytes
 pub mod Truth
 pub mod ModelCuts
+pub mod Semantics
+pub mod Paths
 pub mod Judge
 pub mod Clauses
 -- What is proved of tables
@@ -15,6 +17,8 @@ pub mod TableBytesLaws
 pub mod GoodLineLaws
 -- What is proved of truth
 pub mod TruthLaws
+pub mod SemanticsTheorem
+pub mod PathsTheorem
 pub mod TruthLocal
 pub mod LineTruthLaws
 -- What is proved of judging

@@ -1,52 +1,35 @@
 -- What the calls answer is within the parts of a reply word, and possible with the record that they leave.
-use Prim.Native.Nat.{ℕ, _+_, _≤_, _<_}
+use Prim.Native.Nat.{ℕ}
 use native.Mathlib.Omega.{arith}
-use native.Mathlib.Nat.{min-le-left}
 use mathlib.Core.Path.{_≡_, refl, sym}
 use mathlib.Core.Logic.{inl, inr}
-use mathlib.Core.Bool.{Bool, true, false, not, cond, _||_}
+use mathlib.Core.Bool.{Bool, true, false, cond, _||_}
 use mathlib.Core.List.{List}
-use lib.Dec.{T, ltb, leb, eqb, leb→le}
-use lib.ListN.{length, getD}
-use borrow.Author.Tests.{leb-false, ltb-true}
+use lib.ListN.{length}
+use borrow.Author.Tests.{leb-false}
 use Rattle.codec.specs.Little.{Bytes}
 use Rattle.rules.specs.Line.{linesAt}
-use Rattle.clocks.specs.declared.Event.{Event}
-use Rattle.clocks.specs.cuts.EventLaws.{T-true}
-use Rattle.clocks.specs.stored.BoundedLaws.{and-l, and-r, or-false-e}
-use Rattle.clocks.specs.stored.CountsLaws.{length-listOf, getD-listOf}
 use Rattle.frontiers.specs.declared.Frontier.{Frontier}
 use Rattle.frontiers.specs.Bytes.{frontiers}
-use Rattle.window.specs.Step.{fits, keptAfter}
 use Rattle.window.specs.SteppedCount.{stepped-many}
-use Rattle.refusals.specs.RefusalLaws.{right-length}
-use Rattle.trial.specs.Trial.{validAmong, settingIn, undecided, false-clock, chosen as takes, tried}
-use Rattle.call_take.specs.Take.{Taken, decided, takeWithin, allowedOf, takeCapped, takeCall}
-use Rattle.trial.specs.TrialLaws.{Outcome, outcome, none-decides, falsifies, chooses}
-use Rattle.program.specs.TakenCountsLaws.{first-taken, counted-taken}
-use Rattle.rules.specs.Fault.{Fault}
+use Rattle.trial.specs.Trial.{settingIn, undecided, false-clock, chosen as takes}
+use Rattle.call_take.specs.Take.{Taken, decided, takeCall}
+use Rattle.call_take.specs.TakeCases.{Case as TakenCase, Taking, take-case, turned as back, none, falsified, takes as taking}
+use Rattle.call_take.specs.TakenCountsLaws.{counted-taken}
 use Rattle.rules.specs.grammar.GrammarTheorem.{reader-first-fault}
 use Rattle.rules.specs.reading.PlaceLaws.{fault-place}
 use Rattle.rules.specs.Reader.{Reading, readRule, formed, faulty}
 use Rattle.clocks.specs.Refusal.{badStart}
-use Rattle.clocks.specs.Counts.{listOf}
-use Rattle.records.specs.Record.{recordLength, pendingCount, keptCount, takenCounts, pendingAt, pendingEvents, readyIn}
-use Rattle.refusals.specs.Refusals.{badRecordLength, badWindowLength, roomOf, badProcesses, badState}
+use Rattle.records.specs.Record.{pendingCount, keptCount, takenCounts, pendingAt}
+use Rattle.refusals.specs.Refusals.{badRecordLength, badWindowLength, badProcesses}
 use Rattle.answers.specs.Answer.{turnedBack, stateOf}
 use Rattle.call_open.specs.Open.{Opened, openTable, openRead, openCall}
+use Rattle.call_open.specs.OpenReplyLaws.{rule-number, first-taken}
 use Rattle.answers.specs.Turns.{by-test}
 use Rattle.call_offer.specs.Offer.{offerCall}
 use Rattle.call_offer.specs.OfferCases.{OfferCase, offer-case, turned, repeats, accepted}
 use Rattle.reply_text.specs.Form.{programWidth}
 use Rattle.replies.specs.Replies.{Fits, Possible}
-
--- A rule's fault has a number of 1 to 4.
-pub rule-number : (n : ℕ) (s : List ℕ) (k i : ℕ) → Fault n s k i → (1 ≤ n) × (n ≤ 4)
-unfolding Fault
-rule-number n s k i (inl h) = (omega arith, omega arith)
-rule-number n s k i (inr (inl h)) = (omega arith, omega arith)
-rule-number n s k i (inr (inr (inl h))) = (omega arith, omega arith)
-rule-number n s k i (inr (inr (inr h))) = (omega arith, omega arith)
 
 -- One of two outcomes, by a test.
 module _ {A : Type 0} (P : A → Type 0) where
@@ -87,7 +70,7 @@ open-possible text k labels s window =
     go (readRule text k) refl
   where
     go : (r : Reading) → readRule text k ≡ r → OpenTold (openRead programWidth k labels s window r)
-    go (formed i f) e = (refl, sym (first-taken k (linesAt 0 f)), omega arith)
+    go (formed i f) e = (refl, sym (first-taken programWidth k (linesAt 0 f)), omega arith)
     go (faulty n i) e = rule-number n text k i (reader-first-fault text k n i .0 e .here) .0
 
 pub offer-fits : (w mask : ℕ) (clock labels s : List ℕ) → Fits (offerCall w mask clock labels s .answer)
@@ -113,66 +96,37 @@ offer-possible w mask clock labels s counts = go (offer-case w mask clock labels
 abbrev pub TakeTold : ℕ → Taken → Type 0
 TakeTold w o = Fits (o .answer) × Possible false (takenCounts w (o .bytes)) (o .answer)
 
-module _ (w room : ℕ) (s window : List ℕ) (b : Bytes s) (long : length s ≡ recordLength w) (few : room ≤ 1024) where
-  abbrev kept : List Frontier
-  kept = frontiers w window (keptCount s)
-
+module _ (w : ℕ) (s window : List ℕ) (fs : List Frontier) where
   -- A taken event leaves 1 to 1,024 frontiers, and the counts that it leads to stand in the record.
-  taken-told : (i : ℕ) → T (readyIn w s (pendingAt w s i)) → T (fits (settingIn w s (pendingAt w s i)) room kept)
-      → TakeTold w (decided w s window kept (takes i))
-  unfolding decided stateOf fits
-  taken-told i r f =
-      let n = keptAfter (settingIn w s (pendingAt w s i)) kept in
-      let many = stepped-many (settingIn w s (pendingAt w s i)) kept in
-      let some : 1 ≤ n = ltb-true 0 n (T-true (ltb 0 n) (and-l (ltb 0 n) (leb n room) f)) in
-      let most : n ≤ room = leb→le n room (and-r (ltb 0 n) (leb n room) f) in
-      (omega arith, (refl, sym (counted-taken w s i _ b long r), omega arith))
+  taken-told : (i : ℕ) → Bytes s → Taking w s fs i → TakeTold w (decided w s window fs (takes i))
+  unfolding decided stateOf
+  taken-told i b h =
+      let many = stepped-many (settingIn w s (pendingAt w s i)) fs in
+      let some = h .some in
+      let few = h .few in
+      (omega arith, (refl, sym (counted-taken w s i _ b (h .long) (h .ready)), omega arith))
 
   -- Nothing is ready, or there is no room.
-  none-told : (seen : Bool) → TakeTold w (decided w s window kept (undecided seen))
+  none-told : (seen : Bool) → TakeTold w (decided w s window fs (undecided seen))
   unfolding decided
   none-told true = ((omega arith, omega arith, omega arith), omega arith)
   none-told false = (tt, refl)
 
   -- The clock of a ready one is false.
-  falsified-told : (i : ℕ) → TakeTold w (decided w s window kept (false-clock i))
+  falsified-told : (i : ℕ) → TakeTold w (decided w s window fs (false-clock i))
   unfolding decided
   falsified-told i = ((omega arith, omega arith, omega arith), omega arith)
 
-  -- The ready pending events are gone through.
-  within-told : TakeTold w (takeWithin w room s window)
-  unfolding takeWithin pendingEvents
-  within-told = go (outcome w s (validAmong kept) room kept first 0 false pending)
-    where
-      first : Event
-      first = pendingAt w s 0
-
-      pending : List Event
-      pending = listOf (pendingCount s) (pendingAt w s)
-
-      many : length pending ≡ pendingCount s
-      many = length-listOf (pendingCount s) (pendingAt w s)
-
-      go : Outcome w s (validAmong kept) room kept 0 false pending first
-          → TakeTold w (decided w s window kept (tried w s (validAmong kept) room kept 0 false pending))
-      go (none-decides after t u o) = rw t (none-told after)
-      go (falsifies j l t r n u) = rw t (falsified-told (0 + j))
-      go (chooses j l t r a f u) =
-          let z : 0 + j ≡ j = omega arith in
-          let e : getD pending j first ≡ pendingAt w s j =
-          getD-listOf (pendingCount s) (pendingAt w s) j first (omega (arith, l, many)) in
-          rw (t, z) (taken-told j (rw e at r) (rw e at f))
-
 -- A take of whatever bytes.
 pub take-told : (w : ℕ) (s window scratch : List ℕ) → Bytes s → TakeTold w (takeCall w s window scratch)
-unfolding takeCapped
-take-told w s window scratch bytes =
-    let by = chosen (TakeTold w) in
-    let turned : ℕ → Taken = λ n. record { answer = turnedBack n 0; bytes = s; window = window; scratch = scratch } in
-    let room = roomOf w (length window) in
-    let back : (n : ℕ) → 1 ≤ n → n < 256 → TakeTold w (turned n) = λ n l m. ((l, m, omega arith), l) in
-    let wrong = badWindowLength w (length window) || not (eqb (length scratch) (length window)) in
-    by (badRecordLength w (length s) || wrong) (turned 6) _ (back 6 (omega arith) (omega arith)) λ right.
-    by (badState w room s) (turned 34) _ (back 34 (omega arith) (omega arith)) λ _.
-    let r = or-false-e (badRecordLength w (length s)) wrong right in
-    within-told w (allowedOf w 1024 window) s window bytes (right-length w (length s) (r .0)) (min-le-left 1024 room)
+take-told w s window scratch b = go (takeCall w s window scratch) (take-case w 1024 s window scratch)
+  where
+    fs : List Frontier
+    fs = frontiers w window (keptCount s)
+
+    go : (t : Taken) → TakenCase w s window scratch fs t → TakeTold w t
+    go t (back n (inl x) q) = rw (q, x) ((omega arith, omega arith, omega arith), omega arith)
+    go t (back n (inr x) q) = rw (q, x) ((omega arith, omega arith, omega arith), omega arith)
+    go t (none seen q) = rw q (none-told w s window fs seen)
+    go t (falsified i q) = rw q (falsified-told w s window fs i)
+    go t (taking i h q) = rw q (taken-told w s window fs i b h)

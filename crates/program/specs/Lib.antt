@@ -5,7 +5,6 @@ pub mod Split
 pub mod Stages
 pub mod Answered
 -- What is proved of it
-pub mod TakenCountsLaws
 pub mod CallAnswers
 pub mod LineAnswers
 pub mod AnsweredTheorem

@@ -28,7 +28,8 @@ use Rattle.call_words.specs.Words.{unpackLabels}
 use Rattle.replies.specs.Replies.{Possible}
 use Rattle.replies.specs.Following.{watchStage, ruleStage, startStage, eventStage, overStage}
 use Rattle.program.specs.Stages.{Standing, refuse, watchRead, ruleRead, startRead, didRead, lineRead}
-use Rattle.program.specs.CallAnswers.{rule-number, open-possible, offer-possible}
+use Rattle.call_open.specs.OpenReplyLaws.{rule-number}
+use Rattle.program.specs.CallAnswers.{open-possible, offer-possible}
 
 -- ---- The numbers of faults
 

@@ -1,4 +1,4 @@
--- The record's taken counts behind a call: all 0 in a new watch; behind a taken event, the counts that it leads to.
+-- The record's taken counts after a taken event are those that it leads to.
 use Prim.Native.Nat.{ℕ, zero, suc, _+_, _-_, _*_, _^_, _≤_, _<_}
 use native.Mathlib.Decide.{decLt}
 use native.Mathlib.Omega.{arith}
@@ -8,7 +8,7 @@ use mathlib.Core.List.{List, [], _∷_, _++_, append-nil}
 use lib.Dec.{T}
 use lib.ListN.{length, take, drop, replicate, length-set}
 use lib.Seq.{sets, length-sets}
-use Rattle.codec.specs.Little.{Bytes, bytesOf, valueOf, number, put}
+use Rattle.codec.specs.Little.{Bytes, number, put}
 use Rattle.codec.specs.LittleLaws.{pow-256-pos}
 use Rattle.codec.specs.PutLaws.{number-lt, number-middle, length-put}
 use Rattle.codec.specs.SetsLaws.{take-sets, part-sets, part-sets-before, part-sets-after}
@@ -21,9 +21,6 @@ use Rattle.frontiers.specs.Bytes.{countBytes}
 use Rattle.frontiers.specs.BytesLaws.{count-within, length-countBytes, number-countBytes}
 use Rattle.records.specs.Record.{takenPlace, clocksPlace, recordLength, pendingCount, pendingPlace, eventLength, takenCounts, pendingAt, readyIn, removed, clocksSet, counted}
 use Rattle.records.specs.RecordLaws.{taken-at}
-use Rattle.reply_text.specs.Form.{programWidth}
-use Rattle.pactl.specs.declared.Line.{Line}
-use Rattle.call_open.specs.Open.{firstRecord}
 
 -- Two lists with the same part have the same number there.
 number-alike : (s t : List ℕ) (a n : ℕ) → take n (drop a s) ≡ take n (drop a t) → number s a n ≡ number t a n
@@ -36,7 +33,7 @@ behind w s i =
     take ((pendingCount s - (i + 1)) * eventLength w) (drop (pendingPlace w (i + 1)) s) ++ replicate (eventLength w) 0
 
 -- The removal leaves the taken counts, and the length.
-removed-taken : (w : ℕ) (s : List ℕ) (i : ℕ) → takenCounts w (removed w s i) ≡ takenCounts w s
+pub removed-taken : (w : ℕ) (s : List ℕ) (i : ℕ) → takenCounts w (removed w s i) ≡ takenCounts w s
 unfolding takenCounts removed
 removed-taken w s i = listOf-same 8 _ _ λ p l.
     let moved = sets s (pendingPlace w i) (behind w s i) in
@@ -50,7 +47,7 @@ length-removed w s i =
     length-set (sets s (pendingPlace w i) (behind w s i)) 2 (pendingCount s - 1)
     ∙ length-sets s (pendingPlace w i) (behind w s i)
 
--- The last clocks stand behind the taken counts.
+-- The last clocks stand after the taken counts.
 clocks-leave : (w n : ℕ) (s : List ℕ) (e : Event) → take (clocksPlace w) (clocksSet w n s e) ≡ take (clocksPlace w) s
 unfolding clocksSet
 clocks-leave w zero s e = refl
@@ -124,13 +121,7 @@ reached-fit w s i b r p l = rw (← apply-ready 8 e (at (takenCounts w s)) r p l
     go true = pending-fits w s i b p l
     go false = rw (taken-at w s p l) (number-lt s (8 + p * w) w b)
 
--- ---- Theorems
-
--- A new watch has taken nothing.
-pub first-taken : (k : ℕ) (table : List Line)
-    → takenCounts programWidth (firstRecord programWidth k table) ≡ replicate 8 0
-unfolding takenCounts listOf number valueOf firstRecord bytesOf
-first-taken k table = refl
+-- ---- Theorem
 
 -- The record of a taken event has the counts that it leads to.
 pub counted-taken : (w : ℕ) (s : List ℕ) (i kept : ℕ) → Bytes s → length s ≡ recordLength w
