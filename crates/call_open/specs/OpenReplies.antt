@@ -14,7 +14,7 @@ use Rattle.answers.specs.Answer.{turnedBack, state, replyWord}
 use Rattle.call_open.specs.Open.{Opened, openCall}
 
 -- What an open answers and leaves, for counts of w bytes.
-pub record Told (w : ℕ) (o : Opened) : Type 0 where
+pub record OpenTold (w : ℕ) (o : Opened) : Type 0 where
   -- accepted exactly if the word's number is 0: its value is the number of frontiers kept, the flag is the rule's
   -- truth, and the counts are those that stand in the record afterwards
   pub opened-exactly : (counts : List ℕ) (truth : Bool) (kept : ℕ)
@@ -35,5 +35,5 @@ pub record Told (w : ℕ) (o : Opened) : Type 0 where
   -- the flag is 0 or 1
   pub one-flag : replyWord (o .answer) / 256 % 256 ≤ 1
 
-abbrev pub RepliesTell : Type 0
-RepliesTell = (w : ℕ) (text : List ℕ) (k : ℕ) (labels s window : List ℕ) → Told w (openCall w text k labels s window)
+abbrev pub OpenTells : Type 0
+OpenTells = (w : ℕ) (text : List ℕ) (k : ℕ) (labels s window : List ℕ) → OpenTold w (openCall w text k labels s window)

@@ -19,7 +19,7 @@ use Rattle.pactl.specs.declared.Line.{Line}
 use Rattle.pactl.specs.Table.{tableBytes}
 use Rattle.rules.specs.Fault.{Fault}
 use Rattle.rules.specs.Line.{linesAt}
-use Rattle.rules.specs.Reader.{Reading, readRule, formed, refused}
+use Rattle.rules.specs.Reader.{Reading, readRule, formed, faulty}
 use Rattle.rules.specs.grammar.GrammarTheorem.{reader-first-fault}
 use Rattle.rules.specs.reading.PlaceLaws.{fault-place}
 use Rattle.records.specs.Record.{takenCounts, eventLength}
@@ -27,7 +27,7 @@ use Rattle.refusals.specs.Refusals.{badRecordLength, badWindowLength, badProces
 use Rattle.answers.specs.Answer.{turnedBack, state, flag, replyWord, stateOf}
 use Rattle.answers.specs.Turns.{by-test}
 use Rattle.call_open.specs.Open.{Opened, firstRecord, openTable, openRead, openCall}
-use Rattle.call_open.specs.OpenReplies.{Told, RepliesTell}
+use Rattle.call_open.specs.OpenReplies.{OpenTold, OpenTells}
 
 -- ---- A new watch has taken nothing
 
@@ -80,7 +80,7 @@ TurnedBy n place =
     ((place ≡ 0) × ((n ≡ 6) ⊎ ((n ≡ 5) ⊎ (n ≡ 9)))) ⊎ ((1 ≤ n) × (n ≤ 4) × (place < 1024))
 
 turned-told : (w n place : ℕ) (o : Opened) → o .answer ≡ turnedBack n place → TurnedBy n place → 0 < n → n < 256
-    → Told w o
+    → OpenTold w o
 unfolding replyWord
 turned-told w n place o q by some small = rw q (record {
   opened-exactly = λ counts truth kept.
@@ -112,7 +112,7 @@ flag-small true = omega arith
 flag-small false = omega arith
 
 opened-told : (w : ℕ) (o : Opened) (truth : Bool) → o .answer ≡ state (replicate 8 0) truth 1
-    → takenCounts w (o .bytes) ≡ replicate 8 0 → Told w o
+    → takenCounts w (o .bytes) ≡ replicate 8 0 → OpenTold w o
 unfolding replyWord
 opened-told w o truth q c = rw q (record {
   opened-exactly = λ counts′ truth′ kept′. (
@@ -139,22 +139,22 @@ opened-told w o truth q c = rw q (record {
 
 -- ---- Theorem
 
-pub replies-tell : RepliesTell
+pub replies-tell : OpenTells
 unfolding openCall openRead openTable stateOf
 replies-tell w text k labels s window =
     let back : ℕ → Opened = λ n. record { answer = turnedBack n 0; bytes = s; window = window } in
-    by-test (Told w) (badRecordLength w (length s) || badWindowLength w (length window)) (back 6) _
+    by-test (OpenTold w) (badRecordLength w (length s) || badWindowLength w (length window)) (back 6) _
     (λ _. turned-told w 6 0 (back 6) refl (inl (refl, inl refl)) (omega arith) (omega arith)) λ _.
-    by-test (Told w) (badProcesses k) (back 5) _
+    by-test (OpenTold w) (badProcesses k) (back 5) _
     (λ _. turned-told w 5 0 (back 5) refl (inl (refl, inr (inl refl))) (omega arith) (omega arith)) λ _.
-    by-test (Told w) (badStart k labels) (back 9) _
+    by-test (OpenTold w) (badStart k labels) (back 9) _
     (λ _. turned-told w 9 0 (back 9) refl (inl (refl, inr (inr refl))) (omega arith) (omega arith)) λ _.
     go (readRule text k) refl
   where
-    go : (r : Reading) → readRule text k ≡ r → Told w (openRead w k labels s window r)
+    go : (r : Reading) → readRule text k ≡ r → OpenTold w (openRead w k labels s window r)
     go (formed i f) e =
         opened-told w (openTable w (linesAt 0 f) k labels (length window)) _ refl (first-taken w k (linesAt 0 f))
-    go (refused n i) e =
+    go (faulty n i) e =
         let h = rule-number n text k i (reader-first-fault text k n i .0 e .here) in
-        turned-told w n i (openRead w k labels s window (refused n i)) refl
+        turned-told w n i (openRead w k labels s window (faulty n i)) refl
         (inr (h .0, h .1, fault-place text k n i e)) (omega (arith, h .0)) (omega (arith, h .1))

@@ -20,11 +20,11 @@ use Rattle.refusals.specs.Refusals.{badRecordLength, badWindowLength, badProces
 use Rattle.refusals.specs.RefusalLaws.{right-length, processes-within}
 use Rattle.rules.specs.Formula.{Formula}
 use Rattle.rules.specs.Line.{linesAt}
-use Rattle.rules.specs.Reader.{Reading, readRule, formed, refused}
+use Rattle.rules.specs.Reader.{Reading, readRule, formed, faulty}
 use Rattle.rules.specs.grammar.GrammarTheorem.{reader-first-fault, reader-faultless}
 use Rattle.answers.specs.Answer.{Answer, turnedBack, state, nothingReady, held, again, found, absent, processClosed, stateOf}
 use Rattle.call_open.specs.Open.{Opened, openTable, openRead, openCall}
-use Rattle.call_open.specs.OpenExact.{RightLengths, SomeProcesses, NoneLabelled, Readable, Accepted, OpenExact, OpenIsExact}
+use Rattle.call_open.specs.OpenExact.{RightBuffers, SomeProcesses, NoneLabelled, Readable, IsOpened, OpenExact, OpenIsExact}
 use Rattle.call_open.specs.OpenReplyLaws.{rule-number}
 
 -- ---- The tests, by what they ask for
@@ -33,7 +33,7 @@ module _ (w : ℕ) (s window : List ℕ) where
   abbrev wrong : Bool
   wrong = badRecordLength w (length s) || badWindowLength w (length window)
 
-  lengths-i : RightLengths w s window → wrong ≡ false
+  lengths-i : RightBuffers w s window → wrong ≡ false
   unfolding badRecordLength badWindowLength
   lengths-i h =
       rw (
@@ -43,7 +43,7 @@ module _ (w : ℕ) (s window : List ℕ) where
         eq-eqb (length window % frontierLength w) 0 (h .whole-frontiers),
       )
 
-  lengths-e : wrong ≡ false → RightLengths w s window
+  lengths-e : wrong ≡ false → RightBuffers w s window
   unfolding badWindowLength
   lengths-e h =
       let n = length window in
@@ -106,7 +106,7 @@ module _ (w : ℕ) (text : List ℕ) (k : ℕ) (labels s window : List ℕ) wher
   back n place = record { answer = turnedBack n place; bytes = s; window = window }
 
   -- By what it asks for.
-  six : (RightLengths w s window → ⊥) → call ≡ back 6 0
+  six : (RightBuffers w s window → ⊥) → call ≡ back 6 0
   unfolding openCall
   six h = go (wrong w s window) refl
     where
@@ -114,7 +114,7 @@ module _ (w : ℕ) (text : List ℕ) (k : ℕ) (labels s window : List ℕ) wher
       go true e = rw e
       go false e = absurd (h (lengths-e w s window e))
 
-  five : RightLengths w s window → (k ≡ 0) ⊎ (8 < k) → call ≡ back 5 0
+  five : RightBuffers w s window → (k ≡ 0) ⊎ (8 < k) → call ≡ back 5 0
   unfolding openCall
   five r h = go (badProcesses k) refl h
     where
@@ -123,7 +123,7 @@ module _ (w : ℕ) (text : List ℕ) (k : ℕ) (labels s window : List ℕ) wher
       go false e (inl x) = absurd (omega (arith, processes-within k e .0))
       go false e (inr x) = absurd (omega (arith, processes-within k e .1))
 
-  nine : RightLengths w s window → SomeProcesses k → Labelled k labels → call ≡ back 9 0
+  nine : RightBuffers w s window → SomeProcesses k → Labelled k labels → call ≡ back 9 0
   unfolding openCall
   nine r p h = rw (lengths-i w s window r, processes-i k p, labelled-i k labels h)
 
@@ -132,7 +132,7 @@ module _ (w : ℕ) (text : List ℕ) (k : ℕ) (labels s window : List ℕ) wher
   reads r =
       rw (lengths-i w s window (r .lengths), processes-i k (r .processes), labels-i k labels (r .labelled))
 
-  reads-refused : Readable w k labels s window → (n i : ℕ) → readRule text k ≡ refused n i → call ≡ back n i
+  reads-refused : Readable w k labels s window → (n i : ℕ) → readRule text k ≡ faulty n i → call ≡ back n i
   unfolding openRead
   reads-refused r n i e = reads r ∙ ap (openRead w k labels s window) e
 
@@ -142,10 +142,10 @@ module _ (w : ℕ) (text : List ℕ) (k : ℕ) (labels s window : List ℕ) wher
   reads-formed r i f e = reads r ∙ ap (openRead w k labels s window) e
 
   data Way : Type 0 where
-    lengths-wrong : (RightLengths w s window → ⊥) → Way
-    processes-wrong : RightLengths w s window → (k ≡ 0) ⊎ (8 < k) → Way
-    labels-wrong : RightLengths w s window → SomeProcesses k → Labelled k labels → Way
-    text-wrong : Readable w k labels s window → (n i : ℕ) → readRule text k ≡ refused n i → Way
+    lengths-wrong : (RightBuffers w s window → ⊥) → Way
+    processes-wrong : RightBuffers w s window → (k ≡ 0) ⊎ (8 < k) → Way
+    labels-wrong : RightBuffers w s window → SomeProcesses k → Labelled k labels → Way
+    text-wrong : Readable w k labels s window → (n i : ℕ) → readRule text k ≡ faulty n i → Way
     whole : Readable w k labels s window → (i : ℕ) (f : Formula) → readRule text k ≡ formed i f → Way
 
   the-way : Way
@@ -162,7 +162,7 @@ module _ (w : ℕ) (text : List ℕ) (k : ℕ) (labels s window : List ℕ) wher
       go false e (no z) (yes m) b l r q = processes-wrong (lengths-e w s window e) (inr m)
       go false e (no z) (no m) true l r q =
           labels-wrong (lengths-e w s window e) (omega arith, omega arith) (labelled-e k labels l)
-      go false e (no z) (no m) false l (refused n i) q =
+      go false e (no z) (no m) false l (faulty n i) q =
           text-wrong (readable e (omega arith, omega arith) l) n i q
       go false e (no z) (no m) false l (formed i f) q = whole (readable e (omega arith, omega arith) l) i f q
 
@@ -170,10 +170,10 @@ module _ (w : ℕ) (text : List ℕ) (k : ℕ) (labels s window : List ℕ) wher
 
   abbrev TurnedBy : ℕ → ℕ → Type 0
   TurnedBy n place =
-      ((n ≡ 6) × (RightLengths w s window → ⊥))
-      ⊎ (((n ≡ 5) × RightLengths w s window × ((k ≡ 0) ⊎ (8 < k)))
-      ⊎ (((n ≡ 9) × RightLengths w s window × SomeProcesses k × Labelled k labels)
-      ⊎ ((n ≤ 4) × Readable w k labels s window × (readRule text k ≡ refused n place))))
+      ((n ≡ 6) × (RightBuffers w s window → ⊥))
+      ⊎ (((n ≡ 5) × RightBuffers w s window × ((k ≡ 0) ⊎ (8 < k)))
+      ⊎ (((n ≡ 9) × RightBuffers w s window × SomeProcesses k × Labelled k labels)
+      ⊎ ((n ≤ 4) × Readable w k labels s window × (readRule text k ≡ faulty n place))))
 
   abbrev Says : Answer → Type 0
   Says (turnedBack n place) = TurnedBy n place
@@ -186,7 +186,7 @@ module _ (w : ℕ) (text : List ℕ) (k : ℕ) (labels s window : List ℕ) wher
   Says absent = ⊥
   Says (processClosed n) = ⊥
 
-  text-number : (n i : ℕ) → readRule text k ≡ refused n i → (1 ≤ n) × (n ≤ 4)
+  text-number : (n i : ℕ) → readRule text k ≡ faulty n i → (1 ≤ n) × (n ≤ 4)
   text-number n i e = rule-number n text k i (reader-first-fault text k n i .0 e .here)
 
   says : Says (call .answer)
@@ -203,30 +203,30 @@ module _ (w : ℕ) (text : List ℕ) (k : ℕ) (labels s window : List ℕ) wher
   turned-says : (n place : ℕ) → call .answer ≡ turnedBack n place → TurnedBy n place
   turned-says n place q = subst Says q says
 
-  opened-says : Accepted (call .answer)
+  opened-says : IsOpened (call .answer)
       → Readable w k labels s window × ((i : ℕ) × (f : Formula) × (readRule text k ≡ formed i f))
   opened-says x = subst Says (x .3) says
 
-  says-six : TurnedBy 6 0 → RightLengths w s window → ⊥
+  says-six : TurnedBy 6 0 → RightBuffers w s window → ⊥
   says-six (inl x) = x .1
   says-six (inr (inl x)) = absurd (omega (arith, x .0))
   says-six (inr (inr (inl x))) = absurd (omega (arith, x .0))
   says-six (inr (inr (inr x))) = absurd (omega (arith, x .0))
 
-  says-five : TurnedBy 5 0 → RightLengths w s window × ((k ≡ 0) ⊎ (8 < k))
+  says-five : TurnedBy 5 0 → RightBuffers w s window × ((k ≡ 0) ⊎ (8 < k))
   says-five (inl x) = absurd (omega (arith, x .0))
   says-five (inr (inl x)) = (x .1, x .2)
   says-five (inr (inr (inl x))) = absurd (omega (arith, x .0))
   says-five (inr (inr (inr x))) = absurd (omega (arith, x .0))
 
-  says-nine : TurnedBy 9 0 → RightLengths w s window × SomeProcesses k × Labelled k labels
+  says-nine : TurnedBy 9 0 → RightBuffers w s window × SomeProcesses k × Labelled k labels
   says-nine (inl x) = absurd (omega (arith, x .0))
   says-nine (inr (inl x)) = absurd (omega (arith, x .0))
   says-nine (inr (inr (inl x))) = (x .1, x .2, x .3)
   says-nine (inr (inr (inr x))) = absurd (omega (arith, x .0))
 
   says-text : (n place : ℕ) → n ≤ 4 → TurnedBy n place
-      → Readable w k labels s window × (readRule text k ≡ refused n place)
+      → Readable w k labels s window × (readRule text k ≡ faulty n place)
   says-text n place l (inl x) = absurd (omega (arith, x .0))
   says-text n place l (inr (inl x)) = absurd (omega (arith, x .0))
   says-text n place l (inr (inr (inl x))) = absurd (omega (arith, x .0))
@@ -238,7 +238,7 @@ module _ (w : ℕ) (text : List ℕ) (k : ℕ) (labels s window : List ℕ) wher
   answers o e = ap (λ (x : Opened). x .answer) e
 
   accepts : (i : ℕ) (f : Formula) → call ≡ openTable w (linesAt 0 f) k labels (length window)
-      → Accepted (call .answer)
+      → IsOpened (call .answer)
   unfolding openTable stateOf
   accepts i f e = (_, _, _, answers _ e)
 
@@ -253,7 +253,7 @@ module _ (w : ℕ) (text : List ℕ) (k : ℕ) (labels s window : List ℕ) wher
       let z : _≡_ {A = ℕ} 0 1 = cc in
       absurd (omega arith)
 
-  one-of : Way → Accepted (call .answer) ⊎ ((n place : ℕ) × (call .answer ≡ turnedBack n place))
+  one-of : Way → IsOpened (call .answer) ⊎ ((n place : ℕ) × (call .answer ≡ turnedBack n place))
   one-of (lengths-wrong h) = inr (6, 0, answers _ (six h))
   one-of (processes-wrong r h) = inr (5, 0, answers _ (five r h))
   one-of (labels-wrong r p h) = inr (9, 0, answers _ (nine r p h))

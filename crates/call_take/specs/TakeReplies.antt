@@ -14,7 +14,7 @@ use Rattle.answers.specs.Answer.{turnedBack, state, nothingReady, replyWord}
 use Rattle.call_take.specs.Take.{Taken, takeCapped}
 
 -- What a take answers and leaves, for counts of w bytes.
-pub record Told (w : ℕ) (t : Taken) : Type 0 where
+pub record TakeTold (w : ℕ) (t : Taken) : Type 0 where
   -- nothing ready exactly if the word is 0
   pub nothing-exactly : (t .answer ≡ nothingReady) ↔ (replyWord (t .answer) ≡ 0)
   -- an event taken exactly if its value is above 0: that is the number of frontiers kept, the flag is the rule's truth,
@@ -38,5 +38,5 @@ pub record Told (w : ℕ) (t : Taken) : Type 0 where
   pub no-place : replyWord (t .answer) / 4294967296 ≡ 0
 
 -- Of every take, under a cap too, that is lent a record of bytes.
-abbrev pub RepliesTell : Type 0
-RepliesTell = (w cap : ℕ) (s window scratch : List ℕ) → Bytes s → Told w (takeCapped w cap s window scratch)
+abbrev pub TakeTells : Type 0
+TakeTells = (w cap : ℕ) (s window scratch : List ℕ) → Bytes s → TakeTold w (takeCapped w cap s window scratch)

@@ -15,13 +15,13 @@ use Rattle.trial.specs.Trial.{settingIn, undecided, false-clock, chosen}
 use Rattle.answers.specs.Answer.{turnedBack, state, nothingReady, flag, replyWord, stateOf}
 use Rattle.call_take.specs.Take.{Taken, decided, takeCapped}
 use Rattle.call_take.specs.TakeCases.{Case, Taking, take-case, turned, none, falsified, takes}
-use Rattle.call_take.specs.TakeReplies.{Told, RepliesTell}
+use Rattle.call_take.specs.TakeReplies.{TakeTold, TakeTells}
 use Rattle.call_take.specs.TakenCountsLaws.{counted-taken}
 
 -- ---- An answer by its kind
 
 turned-told : (w n : ℕ) (t : Taken) → t .answer ≡ turnedBack n 0
-    → (n ≡ 6) ⊎ ((n ≡ 34) ⊎ ((n ≡ 35) ⊎ (n ≡ 36))) → 0 < n → n < 256 → Told w t
+    → (n ≡ 6) ⊎ ((n ≡ 34) ⊎ ((n ≡ 35) ⊎ (n ≡ 36))) → 0 < n → n < 256 → TakeTold w t
 unfolding replyWord
 turned-told w n t q by some small = rw q (record {
   nothing-exactly = (λ x. let z : _≡_ {A = ℕ} 0 1 = cc in absurd (omega arith), λ x. absurd (omega (arith, x)));
@@ -36,7 +36,7 @@ turned-told w n t q by some small = rw q (record {
   no-place = omega arith;
 })
 
-nothing-told : (w : ℕ) (t : Taken) → t .answer ≡ nothingReady → Told w t
+nothing-told : (w : ℕ) (t : Taken) → t .answer ≡ nothingReady → TakeTold w t
 unfolding replyWord
 nothing-told w t q = rw q (record {
   nothing-exactly = (λ x. refl, λ x. refl);
@@ -74,7 +74,7 @@ module _ (kept : ℕ) (few : kept ≤ 1024) where
   place-none false = omega arith
 
 state-told : (w : ℕ) (t : Taken) (counts : List ℕ) (truth : Bool) (kept : ℕ) → t .answer ≡ state counts truth kept
-    → 1 ≤ kept → kept ≤ 1024 → takenCounts w (t .bytes) ≡ counts → Told w t
+    → 1 ≤ kept → kept ≤ 1024 → takenCounts w (t .bytes) ≡ counts → TakeTold w t
 unfolding replyWord
 state-told w t counts truth kept q some few c = rw q (record {
   nothing-exactly = (
@@ -107,19 +107,19 @@ state-told w t counts truth kept q some few c = rw q (record {
 -- ---- A take by what it comes to
 
 undecided-told : (w : ℕ) (s window : List ℕ) (fs : List Frontier) (seen : Bool)
-    → Told w (decided w s window fs (undecided seen))
+    → TakeTold w (decided w s window fs (undecided seen))
 unfolding decided
 undecided-told w s window fs true =
     turned-told w 36 _ refl (inr (inr (inr refl))) (omega arith) (omega arith)
 undecided-told w s window fs false = nothing-told w _ refl
 
 falsified-told : (w : ℕ) (s window : List ℕ) (fs : List Frontier) (i : ℕ)
-    → Told w (decided w s window fs (false-clock i))
+    → TakeTold w (decided w s window fs (false-clock i))
 unfolding decided
 falsified-told w s window fs i = turned-told w 35 _ refl (inr (inr (inl refl))) (omega arith) (omega arith)
 
 taken-told : (w : ℕ) (s window : List ℕ) (fs : List Frontier) (i : ℕ) → Bytes s → Taking w s fs i
-    → Told w (decided w s window fs (chosen i))
+    → TakeTold w (decided w s window fs (chosen i))
 unfolding decided stateOf
 taken-told w s window fs i b h =
     let many = stepped-many (settingIn w s (pendingAt w s i)) fs in
@@ -127,13 +127,13 @@ taken-told w s window fs i b h =
 
 -- ---- Theorem
 
-pub replies-tell : RepliesTell
+pub replies-tell : TakeTells
 replies-tell w cap s window scratch b = go (takeCapped w cap s window scratch) (take-case w cap s window scratch)
   where
     fs : List Frontier
     fs = frontiers w window (keptCount s)
 
-    go : (t : Taken) → Case w s window scratch fs t → Told w t
+    go : (t : Taken) → Case w s window scratch fs t → TakeTold w t
     go t (turned n (inl x) q) = rw q (turned-told w n _ refl (inl x) (omega arith) (omega arith))
     go t (turned n (inr x) q) = rw q (turned-told w n _ refl (inr (inl x)) (omega arith) (omega arith))
     go t (none seen q) = rw q (undecided-told w s window fs seen)

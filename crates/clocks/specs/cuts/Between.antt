@@ -9,7 +9,8 @@ use mathlib.Core.List.{List, [], _∷_, List·Memᴰ·tail}
 use mathlib.Core.Logic.{_⊎_, inl, inr, ⊎-elim}
 use Rattle.clocks.specs.declared.Event.{Event}
 use Rattle.clocks.specs.Event.{Cut, involved, Ready, apply}
-use Rattle.clocks.specs.History.{taken, Consistent, Precedes, Follows, Causal}
+use Rattle.clocks.specs.History.{taken, Consistent, Precedes}
+use Rattle.clocks.specs.Causal.{Follows, Causal}
 use Rattle.clocks.specs.cuts.EventLaws.{either, ready-next, ready-known, ready-i, apply-next, apply-other, apply-up, apply-comm}
 use Rattle.clocks.specs.cuts.Step.{Advanced, consistent-within, consistent-new, step, advanced-complete}
 use Rattle.clocks.specs.cuts.PrecedingStep.{precedes-old, origin-precedes}

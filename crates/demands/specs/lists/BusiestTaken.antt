@@ -18,7 +18,7 @@ use Rattle.clocks.specs.cuts.EventLaws.{ready-next}
 use Rattle.clocks.specs.stored.RefusalLaws.{start-labels-fine}
 use Rattle.rules.specs.Line.{linesAt}
 use Rattle.rules.specs.Formula.{Formula}
-use Rattle.rules.specs.Text.{textOf, Grammatical, Within}
+use Rattle.rules.specs.Text.{textOf, Grammatical, WithinLimits}
 use Rattle.rules.specs.Reader.{formed}
 use Rattle.rules.specs.reading.ReaderAccepts.{reader-accepts, accepts}
 use Rattle.frontiers.specs.Bytes.{frontierLength}
@@ -178,7 +178,7 @@ module _ (v k n : ℕ) (events : List ℕ) (m : ℕ) (given : Gives v k n events
       let some : k ≡ 0 → ⊥ = λ q. omega (arith, d .some-process) in
       rw (ne-eqb k 0 some, le-ltb 8 k (d .eight-processes))
 
-  window-opens : (f : Formula) → Grammatical f → Within k f
+  window-opens : (f : Formula) → Grammatical f → WithinLimits k f
       → (labels : List ℕ) → length labels ≡ 8 → ((p : ℕ) → k ≤ p → at labels p ≡ 0)
       → (w : ℕ) (s window : List ℕ) → length s ≡ recordLength w → length window ≡ m * frontierLength w
       → Accepts w (textOf f) k labels s window

@@ -11,7 +11,7 @@ use Rattle.clocks.specs.History.{taken}
 use Rattle.clocks.specs.Counts.{at, listOf}
 use Rattle.pactl.specs.Truth.{holds}
 use Rattle.rules.specs.Formula.{Formula, meaning}
-use Rattle.rules.specs.Text.{textOf, Grammatical, Within}
+use Rattle.rules.specs.Text.{textOf, Grammatical, WithinLimits}
 use Rattle.rules.specs.Reader.{readRule, formed}
 use Rattle.frontiers.specs.Bytes.{frontierLength}
 use Rattle.records.specs.Record.{keptCount, recordLength}
@@ -61,7 +61,7 @@ pub record DayTaken (k : ℕ) (f : Formula) (start : Cut) (es : List Event) (m :
 abbrev pub DayFitsItsWindow : Type 0
 DayFitsItsWindow =
     (v : ℕ) → 2 ≤ v → (k n : ℕ) (events : List ℕ) (m : ℕ) → Gives v k n events m
-    → (f : Formula) → Grammatical f → Within k f
+    → (f : Formula) → Grammatical f → WithinLimits k f
     → (labels : List ℕ) → EightBytes labels → ((p : ℕ) → k ≤ p → at labels p ≡ 0)
     → (w : ℕ) → 2 ≤ w → (s window scratch : List ℕ) → length s ≡ recordLength w
     → length window ≡ m * frontierLength w → length scratch ≡ m * frontierLength w
