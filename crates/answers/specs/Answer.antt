@@ -9,20 +9,20 @@ use Rattle.frontiers.specs.declared.Frontier.{Frontier}
 
 pub data Answer : Type 0 where
   -- turned back: a number of 01 or 02, and the byte's place where it has one (0 where it has none)
-  turnedBack : ℕ → ℕ → Answer
+  turnedBack : (n place : ℕ) → Answer
   -- opened, or an event taken: the taken counts, the rule's truth at the largest cut, the frontiers kept
-  state : List ℕ → Bool → ℕ → Answer
+  state : (counts : List ℕ) (truth : Bool) (kept : ℕ) → Answer
   -- no pending event is ready
   nothingReady : Answer
   -- an offer accepted: the number of pending events (01: held)
-  held : ℕ → Answer
+  held : (n : ℕ) → Answer
   -- an offer of an event that is pending already (02 [1]): neither a refusal nor accepted
   again : Answer
   -- the place of the first kept frontier that has the line, or none (02 [4])
-  found : ℕ → Answer
+  found : (i : ℕ) → Answer
   absent : Answer
   -- a process closed: the frontiers kept (02 [5])
-  processClosed : ℕ → Answer
+  processClosed : (kept : ℕ) → Answer
 
 -- 1 for true.
 abbrev pub flag : (b : Bool) → ℕ

@@ -3,6 +3,7 @@
 -- What a reader has to believe: the lists, what a record is, what the bytes are said to mean
 pub mod Ledger
 pub mod Mislent
+pub mod Kinds
 pub mod Run
 pub mod Status
 pub mod World
@@ -10,6 +11,8 @@ pub mod Verdict
 pub mod EveryList
 pub mod Earlier
 pub mod Written
+-- One theorem to start from, made of all statements
+pub mod Theorem
 -- What is stated of every list, with no proofs: statements/X is proved in lists/X or forms/X
 pub mod statements
 -- The invariant of a watch that was written by calls only
@@ -19,3 +22,4 @@ pub mod bytes
 pub mod calls
 pub mod lists
 pub mod forms
+pub mod TheoremProved

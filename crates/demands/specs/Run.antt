@@ -4,7 +4,6 @@ use Prim.Native.Nat.{ℕ, _^_, _<_}
 use mathlib.Core.Path.{_≡_}
 use mathlib.Core.Bool.{cond}
 use mathlib.Core.List.{List, [], _∷_, _++_}
-use lib.Dec.{eqb}
 use lib.ListN.{length, replicate}
 use Rattle.clocks.specs.declared.Event.{Event}
 use Rattle.frontiers.specs.Bytes.{frontiers}
@@ -15,8 +14,9 @@ use Rattle.call_take.specs.Take.{Taken, allowedOf, takeCapped}
 use Rattle.records.specs.Record.{keptCount, pendingAt, pendingEvents}
 use Rattle.call_close.specs.Close.{closing, closeCall}
 use Rattle.call_open.specs.Open.{Opened}
-use Rattle.answers.specs.Answer.{Answer, turnedBack, state, nothingReady, held, again, found, absent, processClosed}
+use Rattle.answers.specs.Answer.{Answer}
 use Rattle.call_offer.specs.Offer.{placeAmong, offeredEvent, offerCall}
+use Rattle.demands.specs.Kinds.{isHeld, isState, isFalseClock, isClosed}
 use Rattle.demands.specs.Ledger.{Ledger}
 use Rattle.demands.specs.Mislent.{Mislent, TurnedAway, answerTo}
 use Rattle.demands.specs.Status.{insertAt, removeAt}
@@ -75,70 +75,49 @@ stoppedAt (chosen i) = i
 
 -- The ledger after a take's answer: by a state pending event i was taken, by 35 it left with a false clock.
 unfoldable pub takenLedger : (w : ℕ) (s : List ℕ) (i : ℕ) (L : Ledger) (a : Answer) → Ledger
-takenLedger w s i L (state c t k) =
-    record {
+takenLedger w s i L a =
+    cond (isState a)
+    (record {
       history = pendingAt w s i ∷ L .history;
       pending = removeAt i (L .pending);
       falsified = L .falsified;
       closed = L .closed;
-    }
-takenLedger w s i L (turnedBack n j) =
-    cond (eqb n 35)
+    })
+    (cond (isFalseClock a)
     (record {
       history = L .history;
       pending = removeAt i (L .pending);
       falsified = pendingAt w s i ∷ L .falsified;
       closed = L .closed;
     })
-    L
-takenLedger w s i L nothingReady = L
-takenLedger w s i L (held n) = L
-takenLedger w s i L again = L
-takenLedger w s i L (found j) = L
-takenLedger w s i L absent = L
-takenLedger w s i L (processClosed n) = L
+    L)
 
 -- The ledger and the accepted events after an offer's answer: "again" is none that accepts.
 unfoldable pub offeredLedger : (w : ℕ) (s : List ℕ) (e : Event) (L : Ledger) (a : Answer) → Ledger
-offeredLedger w s e L (held n) = record {
-  history = L .history;
-  pending = insertAt (placeAmong e (pendingEvents w s)) e (L .pending);
-  falsified = L .falsified;
-  closed = L .closed;
-}
-offeredLedger w s e L again = L
-offeredLedger w s e L (turnedBack n i) = L
-offeredLedger w s e L (state c t k) = L
-offeredLedger w s e L nothingReady = L
-offeredLedger w s e L (found i) = L
-offeredLedger w s e L absent = L
-offeredLedger w s e L (processClosed n) = L
+offeredLedger w s e L a =
+    cond (isHeld a)
+    (record {
+      history = L .history;
+      pending = insertAt (placeAmong e (pendingEvents w s)) e (L .pending);
+      falsified = L .falsified;
+      closed = L .closed;
+    })
+    L
 
 unfoldable pub acceptedBy : (e : Event) (es : List Event) (a : Answer) → List Event
-acceptedBy e es (held n) = e ∷ es
-acceptedBy e es again = es
-acceptedBy e es (turnedBack n i) = es
-acceptedBy e es (state c t k) = es
-acceptedBy e es nothingReady = es
-acceptedBy e es (found i) = es
-acceptedBy e es absent = es
-acceptedBy e es (processClosed n) = es
+acceptedBy e es a = cond (isHeld a) (e ∷ es) es
 
 -- The ledger after a close's answer: accepted, process p is closed.
 unfoldable pub closedLedger : (p : ℕ) (L : Ledger) (a : Answer) → Ledger
-closedLedger p L (processClosed n) = record {
-  history = L .history;
-  pending = L .pending;
-  falsified = L .falsified;
-  closed = closing (L .closed) p;
-}
-closedLedger p L (turnedBack n i) = L
-closedLedger p L (state c t k) = L
-closedLedger p L nothingReady = L
-closedLedger p L (held n) = L
-closedLedger p L again = L
-closedLedger p L (found i) = L
-closedLedger p L absent = L
+closedLedger p L a =
+    cond (isClosed a)
+    (record {
+      history = L .history;
+      pending = L .pending;
+      falsified = L .falsified;
+      closed = closing (L .closed) p;
+    })
+    L
 
 -- The watch after a take, by what it answered and left and by its trial.
 abbrev pub afterTake : (w : ℕ) (r : Taken) (d : Decision) (W : Watch) → Watch

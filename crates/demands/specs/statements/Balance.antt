@@ -2,18 +2,17 @@
 -- event, and of the answers that a caller sees. Proved in lists/Balance.
 use Prim.Native.Nat.{ℕ, _+_, _-_, _≤_}
 use mathlib.Core.Path.{_≡_}
-use mathlib.Core.Bool.{Bool, true, false}
+use mathlib.Core.Bool.{Bool}
 use mathlib.Core.List.{List, [], _∷_}
-use lib.Dec.{eqb}
 use lib.ListN.{length}
 use Rattle.clocks.specs.declared.Event.{Event}
 use Rattle.clocks.specs.Event.{one}
 use Rattle.records.specs.Record.{pendingCount}
-use Rattle.answers.specs.Answer.{Answer, turnedBack, state, nothingReady, held, again, found, absent, processClosed}
+use Rattle.answers.specs.Answer.{Answer}
 use Rattle.demands.specs.Ledger.{occurrences, Ledger, accounted}
+use Rattle.demands.specs.Kinds.{isHeld, isState, isFalseClock}
 use Rattle.demands.specs.Run.{Watch}
 use Rattle.demands.specs.EveryList.{AfterEveryList}
-use Rattle.numbers.specs.Refusal.{falseClockNumber}
 
 -- ---- Counting answers
 
@@ -21,39 +20,6 @@ use Rattle.numbers.specs.Refusal.{falseClockNumber}
 unfoldable pub howMany : (test : Answer → Bool) (answers : List Answer) → ℕ
 howMany test [] = 0
 howMany test (a ∷ answers) = one (test a) + howMany test answers
-
--- An offer was accepted.
-abbrev pub isHeld : (a : Answer) → Bool
-isHeld (turnedBack n i) = false
-isHeld (state c t k) = false
-isHeld nothingReady = false
-isHeld (held n) = true
-isHeld again = false
-isHeld (found i) = false
-isHeld absent = false
-isHeld (processClosed n) = false
-
--- Opened, or an event was taken.
-abbrev pub isState : (a : Answer) → Bool
-isState (turnedBack n i) = false
-isState (state c t k) = true
-isState nothingReady = false
-isState (held n) = false
-isState again = false
-isState (found i) = false
-isState absent = false
-isState (processClosed n) = false
-
--- Turned back by 35: an event left with a false clock.
-abbrev pub isFalseClock : (a : Answer) → Bool
-isFalseClock (turnedBack n i) = eqb n falseClockNumber
-isFalseClock (state c t k) = false
-isFalseClock nothingReady = false
-isFalseClock (held n) = false
-isFalseClock again = false
-isFalseClock (found i) = false
-isFalseClock absent = false
-isFalseClock (processClosed n) = false
 
 -- ---- The balance
 
