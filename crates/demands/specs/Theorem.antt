@@ -20,14 +20,14 @@ use Rattle.demands.specs.statements.WindowExact.{WindowIsExact}
 use Rattle.demands.specs.statements.Verdicts.{VerdictsAreTrue}
 use Rattle.demands.specs.statements.Offer.{OfferIsExact}
 use Rattle.demands.specs.statements.TakeAnswers.{TakeIsExact}
-use Rattle.demands.specs.statements.OrderIndependent.{OrderIndependent, OrderIndependentWithMoves}
+use Rattle.demands.specs.statements.OrderIndependent.{OrderIndependent}
 use Rattle.demands.specs.statements.Balance.{AnswersBalance}
 use Rattle.demands.specs.statements.Again.{AgainIsExact, AgainsMakeNoDifference}
 use Rattle.demands.specs.statements.Messages.{MessagesAreExact}
 use Rattle.demands.specs.statements.Earlier.{EarlierListsStand}
 use Rattle.demands.specs.statements.Find.{FindIsExact}
 use Rattle.demands.specs.statements.Close.{CloseIsExact, DroppedStaysDropped}
-use Rattle.demands.specs.statements.EveryWatch.{EveryWatchIsExact, ExactAfterAMove}
+use Rattle.demands.specs.statements.EveryWatch.{EveryWatchIsExact, ExactAfterAMove, OrderIndependentWithMoves}
 use Rattle.demands.specs.statements.BothForms.{BothFormsAlike, MovedGoesOn}
 use Rattle.demands.specs.statements.Page.{PageShowsKept, PagesAlike}
 use Rattle.demands.specs.statements.Busiest.{DayIsListed, BusiestIsKept}

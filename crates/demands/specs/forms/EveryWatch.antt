@@ -21,8 +21,7 @@ use Rattle.demands.specs.lists.SoundRun.{Sound}
 use Rattle.demands.specs.lists.OrderIndependent.{alike-as-read}
 use Rattle.demands.specs.forms.Moves.{written-sound, every-watch, run-written, move-answers}
 use Rattle.demands.specs.statements.Moves.{nextMove}
-use Rattle.demands.specs.statements.EveryWatch.{WatchExact, EveryWatchIsExact, ExactAfterAMove}
-use Rattle.demands.specs.statements.OrderIndependent.{OrderIndependentWithMoves}
+use Rattle.demands.specs.statements.EveryWatch.{WatchExact, EveryWatchIsExact, ExactAfterAMove, OrderIndependentWithMoves}
 
 exact-of : (w k : ℕ) (f : Formula) (start : Cut) (Z : Watch) → Sound w k f start Z → WatchExact w k f start Z
 exact-of w k f start Z S = record {

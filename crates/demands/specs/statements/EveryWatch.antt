@@ -1,5 +1,6 @@
 -- Every watch that calls and moves alone wrote, in either form (demand 2; 02 [6]): all that is stated of the watch at
--- the end of a list of calls is true of it. Proved in forms/EveryWatch.
+-- the end of a list of calls is true of it; and the order of arrival makes no difference to it (demand 3). Proved in
+-- forms/EveryWatch.
 use Prim.Native.Nat.{ℕ, _<_}
 use mathlib.Core.Path.{_≡_}
 use mathlib.Core.List.{List}
@@ -9,9 +10,9 @@ use Rattle.rules.specs.Formula.{Formula}
 use Rattle.rules.specs.Text.{textOf}
 use Rattle.rules.specs.Reader.{readRule, formed}
 use Rattle.demands.specs.Run.{Call, Watch, run}
-use Rattle.demands.specs.EveryList.{Accepts, EightBytes, AllPassed, atEnd}
+use Rattle.demands.specs.EveryList.{Accepts, EightBytes, AllPassed, atEnd, EndsQuiet, SameAccepted, SameClosed}
 use Rattle.demands.specs.Verdict.{Truthful}
-use Rattle.demands.specs.Written.{movedTo, OfEveryWatch}
+use Rattle.demands.specs.Written.{Written, movedTo, OfEveryWatch}
 use Rattle.demands.specs.statements.WindowExact.{WindowExact}
 use Rattle.demands.specs.statements.Offer.{OfferExact}
 use Rattle.demands.specs.statements.TakeAnswers.{TakeExact}
@@ -22,6 +23,7 @@ use Rattle.demands.specs.statements.Close.{CloseExact, StaysDropped}
 use Rattle.demands.specs.statements.Again.{AgainExact}
 use Rattle.demands.specs.statements.Messages.{MessagesExact}
 use Rattle.demands.specs.statements.Balance.{AnswersBalanced}
+use Rattle.demands.specs.statements.OrderIndependent.{Alike}
 use Rattle.demands.specs.statements.Moves.{nextMove, MoveAnswers}
 
 pub record WatchExact (w k : ℕ) (f : Formula) (start : Cut) (Z : Watch) : Type 0 where
@@ -56,3 +58,12 @@ ExactAfterAMove =
     × WatchExact w k f (at labels)
     (run w ds
     (movedTo (nextMove v w (atEnd v text k labels s window cs) t target) (atEnd v text k labels s window cs)))
+
+-- Of two watches that come to one form: whatever moves stand among the calls of either, the same accepted
+-- events, the same closed processes and "nothing ready" at both ends make them alike.
+abbrev pub OrderIndependentWithMoves : Type 0
+OrderIndependentWithMoves =
+    (text : List ℕ) (k : ℕ) (labels : List ℕ) → EightBytes labels
+    → (w : ℕ) (Y Z : Watch) → Written text k labels w Y → Written text k labels w Z
+    → EndsQuiet Y → EndsQuiet Z → SameAccepted Y Z → SameClosed Y Z
+    → (f : Formula) × (i : ℕ) × (readRule text k ≡ formed i f) × (textOf f ≡ text) × Alike w k f (at labels) Y Z

@@ -1,6 +1,6 @@
 -- Independence of order (demand 3; 02 [5]): two lists of calls that accepted the same events, in whatever order, closed
--- the same processes, wherever in the lists, and both end with "nothing ready", end alike; and so with moves among the
--- calls (02 [6]). Proved in lists/OrderIndependent and forms/EveryWatch.
+-- the same processes, wherever in the lists, and both end with "nothing ready", end alike. With moves among the calls:
+-- statements/EveryWatch. Proved in lists/OrderIndependent.
 use Prim.Native.Nat.{ℕ, _*_, _<_}
 use mathlib.Core.Path.{_≡_}
 use mathlib.Core.Bool.{Bool, false}
@@ -23,7 +23,6 @@ use Rattle.demands.specs.Ledger.{Settled}
 use Rattle.demands.specs.Run.{Watch, Call}
 use Rattle.demands.specs.Verdict.{Truthful}
 use Rattle.demands.specs.EveryList.{Accepts, EightBytes, AllPassed, atEnd, EndsQuiet, SameAccepted, SameClosed}
-use Rattle.demands.specs.Written.{Written}
 use Rattle.demands.specs.statements.WindowExact.{WindowExact}
 
 -- What is shown of the two watches at the ends.
@@ -63,12 +62,3 @@ OrderIndependent =
     → SameClosed (atEnd w text k labels s window cs) (atEnd w text k labels s′ window′ cs′)
     → (f : Formula) × (i : ℕ) × (readRule text k ≡ formed i f) × (textOf f ≡ text)
     × Alike w k f (at labels) (atEnd w text k labels s window cs) (atEnd w text k labels s′ window′ cs′)
-
--- Of two watches that come to one form: whatever moves stand among the calls of either, the same accepted
--- events, the same closed processes and "nothing ready" at both ends make them alike.
-abbrev pub OrderIndependentWithMoves : Type 0
-OrderIndependentWithMoves =
-    (text : List ℕ) (k : ℕ) (labels : List ℕ) → EightBytes labels
-    → (w : ℕ) (Y Z : Watch) → Written text k labels w Y → Written text k labels w Z
-    → EndsQuiet Y → EndsQuiet Z → SameAccepted Y Z → SameClosed Y Z
-    → (f : Formula) × (i : ℕ) × (readRule text k ≡ formed i f) × (textOf f ≡ text) × Alike w k f (at labels) Y Z
