@@ -1,8 +1,8 @@
 /* The library against the model on random cases.
  *   differential SEED COUNT [FIRST]      cases FIRST (0) up to FIRST + COUNT - 1
  *   differential --seconds N [SEED]      as many as there is time for
- * A case depends on the seed and its number only. The first difference is printed with the calls before it, and ends the
- * run with 1. */
+ * A case depends on the seed and its number only. The first difference is printed with the calls before it, and ends
+ * the run with 1. */
 #include <stdio.h>
 #include <stdlib.h>
 #include <string.h>

@@ -22,7 +22,8 @@ size_t wrong_record(struct source *s, const struct layout *form) {
 
 /* Nothing, a frontier more than allowed (41,000 bytes), the other form's, or no whole number of frontiers. */
 size_t wrong_window(struct source *s, const struct layout *form, size_t length) {
-    size_t others = length / form->frontier * other_form(form)->frontier, off = between(s, 1, (unsigned)form->frontier - 1);
+    size_t others = length / form->frontier * other_form(form)->frontier;
+    size_t off = between(s, 1, (unsigned)form->frontier - 1);
     switch (below(s, 6)) {
     case 0: return 0;
     case 1: return form->frontier * (ROOM + 1);
@@ -115,21 +116,21 @@ static void lend_more_parts(struct source *s, struct twin *t, enum call call, st
 /* ---- the calls ---- */
 
 /* With an event for an offer, a line for a find, a process for a close, any of which might be accepted. */
-static uint64_t make(struct twin *t, enum call call, const struct sent *e, uint64_t line, uint64_t process) {
+static uint64_t make(struct twin *t, struct lent *r, struct lent *w, enum call call, const struct sent *e,
+                     uint64_t line, uint64_t process) {
     const struct layout *form = t->form;
-    uint8_t *record = t->record.bytes, *window = t->window.bytes;
-    size_t record_len = t->record.length, window_len = t->window.length;
     switch (call) {
     case OPEN:
-        return call_open(form, t->text.bytes, t->text.length, t->model.k, 0, record, record_len, window, window_len);
-    case OFFER: return call_offer(form, e, record, record_len);
-    case TAKE: return call_take(form, record, record_len, window, window_len, t->scratch.bytes, t->scratch.length);
-    case FIND: return call_find(form, line, record, record_len, window, window_len);
-    case CLOSE: return call_close(form, process, record, record_len, window, window_len);
+        return call_open(form, t->text.bytes, t->text.length, t->model.k, 0, r->bytes, r->length, w->bytes, w->length);
+    case OFFER: return call_offer(form, e, r->bytes, r->length);
+    case TAKE:
+        return call_take(form, r->bytes, r->length, w->bytes, w->length, t->scratch.bytes, t->scratch.length);
+    case FIND: return call_find(form, line, r->bytes, r->length, w->bytes, w->length);
+    case CLOSE: return call_close(form, process, r->bytes, r->length, w->bytes, w->length);
     case MOVE:
-        return call_move(form, record, record_len, window, window_len, t->to_record.bytes, t->to_record.length,
+        return call_move(form, r->bytes, r->length, w->bytes, w->length, t->to_record.bytes, t->to_record.length,
                          t->to_window.bytes, t->to_window.length);
-    default: return call_page(record, record_len, window, window_len, t->page.bytes, t->page.length);
+    default: return call_page(r->bytes, r->length, w->bytes, w->length, t->page.bytes, t->page.length);
     }
 }
 
@@ -140,25 +141,21 @@ static void note_refused(const struct twin *t, enum call call, struct lengths l,
          l.scratch, t->record.length, t->window.length);
 }
 
+/* On a copy of the watch, so that the caller has its own as it was. */
 static void lend_and_call(struct source *s, struct twin *t, enum call call, struct lengths l, const struct sent *e) {
-    static uint8_t record[RECORD_MOST], window[WINDOW_MOST];
+    static struct lent record, window;
     struct loan loan = {.n = 0};
-    size_t record_length = t->record.length, window_length = t->window.length;
     unsigned expected = refused_by(t->form, call, get_kept(t->record.bytes), l);
     uint64_t line = below(s, t->model.rule.lines), process = below(s, t->model.k);
     if (expected == 0) abort();
+    if (record.slab == NULL) record = lent_new(2 * RECORD_MOST), window = lent_new(WINDOW_MOST);
     note_refused(t, call, l, e);
-    memcpy(record, t->record.bytes, record_length);
-    memcpy(window, t->window.bytes, window_length);
-    lend_part(s, &loan, "record", &t->record, l.record, record, record_length);
-    if (call != OFFER) lend_part(s, &loan, "window", &t->window, l.window, window, window_length);
+    lend_part(s, &loan, "record", &record, l.record, t->record.bytes, t->record.length);
+    if (call != OFFER) lend_part(s, &loan, "window", &window, l.window, t->window.bytes, t->window.length);
     lend_more_parts(s, t, call, l, &loan);
-    compare_replies(tally_refused(t->form, call, make(t, call, e, line, process)), expected);
+    uint64_t reply = make(t, &record, &window, call, e, line, process);
+    compare_replies(tally_refused(t->form, call, reply), expected);
     take_back(&loan);
-    lend(&t->record, record_length, 0);
-    lend(&t->window, window_length, 0);
-    memcpy(t->record.bytes, record, record_length);
-    memcpy(t->window.bytes, window, window_length);
     t->calls++;
 }
 

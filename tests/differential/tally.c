@@ -26,7 +26,8 @@ static const unsigned answers_of[CALLS][12] = {
 
 /* Of the calls that stand in a list and are refused for the lengths that they are lent. */
 static const unsigned refusals_in_list[CALLS][3] = {
-    [OPEN] = {6}, [OFFER] = {6}, [TAKE] = {6, 34}, [FIND] = {6, 34}, [CLOSE] = {6, 34}, [MOVE] = {6, 34}, [PAGE] = {6, 34},
+    [OPEN] = {6},      [OFFER] = {6},    [TAKE] = {6, 34}, [FIND] = {6, 34},
+    [CLOSE] = {6, 34}, [MOVE] = {6, 34}, [PAGE] = {6, 34},
 };
 
 static struct {
@@ -81,25 +82,24 @@ static bool has(unsigned wide, enum call call) {
 
 static void print_answers(unsigned wide, enum call call) {
     const unsigned long *answered = tallies[wide].answered[call];
-    printf("  %-10s", names[wide][call]);
-    for (unsigned i = ACCEPTED; i < OUTCOMES; i++)
-        if (answered[i] != 0) printf(" %s %lu,", words[i - ACCEPTED], answered[i]);
-    if (call == PAGE) printf(" rows %lu,", tallies[wide].rows);
-    if (call == DAY) printf(" kept %lu,", tallies[wide].kept);
-    for (unsigned i = 1; i < ACCEPTED; i++)
-        if (answered[i] != 0) printf(" %u: %lu,", i, answered[i]);
-    printf(" in all");
     unsigned long all = 0;
     for (unsigned i = 0; i < OUTCOMES; i++) all += answered[i];
-    printf(" %lu\n", all);
+    printf("  %-10s %lu calls", names[wide][call], all);
+    for (unsigned i = ACCEPTED; i < OUTCOMES; i++)
+        if (answered[i] != 0) printf(", %s %lu", words[i - ACCEPTED], answered[i]);
+    if (call == PAGE) printf(", rows %lu", tallies[wide].rows);
+    if (call == DAY) printf(", kept %lu", tallies[wide].kept);
+    for (unsigned i = 1; i < ACCEPTED; i++)
+        if (answered[i] != 0) printf(", %u: %lu", i, answered[i]);
+    printf("\n");
 }
 
 static void print_in_list(unsigned wide) {
-    printf("  refused for lengths in a list:");
+    printf("  refused for lengths in a list");
     for (unsigned call = 0; call < CALLS; call++)
         for (unsigned i = 0; i < 256; i++)
             if (tallies[wide].in_list[call][i] != 0)
-                printf(" %s %u: %lu", names[wide][call], i, tallies[wide].in_list[call][i]);
+                printf(", %s %u: %lu", names[wide][call], i, tallies[wide].in_list[call][i]);
     printf("\n  takes from a hold out of order: %lu, of which the order decided %lu\n", tallies[wide].disordered,
            tallies[wide].decided);
 }
@@ -114,23 +114,22 @@ void print_tally(void) {
            most_kept);
 }
 
-static bool met(bool came_up, unsigned wide, enum call call, const char *what, unsigned number) {
-    if (came_up) return true;
-    printf("differential: never came up: %s, %s", names[wide][call], what);
-    if (number != 0) printf(" %u", number);
-    printf("\n");
+/* Prints what is missing. */
+static bool met(unsigned long times, const char *name, const char *where, unsigned answer) {
+    if (times != 0) return true;
+    printf("differential: never came up: %s%s, ", name, where);
+    if (answer < ACCEPTED) printf("%u\n", answer);
+    else printf("%s\n", words[answer - ACCEPTED]);
     return false;
 }
 
 static bool all_answered(unsigned wide, enum call call) {
+    const char *name = names[wide][call];
     bool all = true;
-    for (const unsigned *i = answers_of[call]; *i != 0; i++) {
-        if (call == MOVE && *i == 43 && !wide) continue;
-        bool came_up = tallies[wide].answered[call][*i] != 0;
-        if (!met(came_up, wide, call, *i < ACCEPTED ? "refused" : words[*i - ACCEPTED], *i < ACCEPTED ? *i : 0)) all = false;
-    }
+    for (const unsigned *i = answers_of[call]; *i != 0; i++)
+        if (call != MOVE || *i != 43 || wide) all &= met(tallies[wide].answered[call][*i], name, "", *i);
     for (const unsigned *i = refusals_in_list[call]; *i != 0; i++)
-        if (!met(tallies[wide].in_list[call][*i] != 0, wide, call, "in a list refused", *i)) all = false;
+        all &= met(tallies[wide].in_list[call][*i], name, " in a list, of wrong lengths", *i);
     return all;
 }
 
@@ -138,8 +137,8 @@ bool everything_came_up(void) {
     bool all = true;
     for (unsigned wide = 0; wide < 2; wide++) {
         for (unsigned call = 0; call < CALLS; call++)
-            if (has(wide, call) && !all_answered(wide, call)) all = false;
-        if (has(wide, TAKE) && !met(tallies[wide].decided != 0, wide, TAKE, "decided by the order", 0)) all = false;
+            if (has(wide, call)) all &= all_answered(wide, call);
+        if (has(wide, TAKE)) all &= met(tallies[wide].decided, names[wide][TAKE], " where the order decides", ACCEPTED);
     }
     return all;
 }

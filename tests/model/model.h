@@ -204,8 +204,8 @@ unsigned bytes_offer(const struct layout *form, const struct words *w, uint8_t *
 uint64_t bytes_find(const struct layout *form, uint64_t line, const uint8_t *record, size_t record_len,
                     const uint8_t *window, size_t window_len);
 
-/* What take may do on these bytes. Whether a window fits is free, so more than one may be possible. What is written when
- * an event leaves is free as well, but not which events come to their turn. */
+/* What take may do on these bytes. Whether a window fits is free, so more than one may be possible. What is written
+ * when an event leaves is free as well, but not which events come to their turn. */
 struct possible {
     unsigned refused; /* 6 or 34: then nothing else is possible */
     bool nothing_ready, taken, false_clock, no_room;
