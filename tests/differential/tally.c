@@ -138,7 +138,9 @@ bool everything_came_up(void) {
     for (unsigned wide = 0; wide < 2; wide++) {
         for (unsigned call = 0; call < CALLS; call++)
             if (has(wide, call)) all &= all_answered(wide, call);
-        if (has(wide, TAKE)) all &= met(tallies[wide].decided, names[wide][TAKE], " where the order decides", ACCEPTED);
+        if (!has(wide, TAKE) || tallies[wide].decided != 0) continue;
+        printf("differential: never came up: %s, decided by the order of the hold\n", names[wide][TAKE]);
+        all = false;
     }
     return all;
 }
