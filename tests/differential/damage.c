@@ -1,5 +1,5 @@
-/* Calls on records and windows that no list of calls leaves. What the paper fixes there is compared, what find and close
- * answer, and which event leaves the hold; the rest of what it leaves free is not. */
+/* Calls on records and windows that no list of calls leaves. What the paper fixes there is compared, what find and
+ * close answer, and which event leaves the hold; the rest of what it leaves free is not. */
 #include <stdlib.h>
 #include <string.h>
 
