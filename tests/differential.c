@@ -1,13 +1,18 @@
 /* The library against the model on random cases.
  *   differential SEED COUNT [FIRST]      cases FIRST (0) up to FIRST + COUNT - 1
  *   differential --seconds N [SEED]      as many as there is time for
- * A case depends on the seed and its number only. The first difference is printed with the calls before it, and ends the run with 1. */
+ * A case depends on the seed and its number only. The first difference is printed with the calls before it, and ends
+ * the run with 1. */
 #include <stdio.h>
 #include <stdlib.h>
 #include <string.h>
 #include <time.h>
 
 #include "differential/twin.h"
+
+/* From so many cases on each answer that each call can give has to come up, else the run fails too: a few cases cannot
+ * have them all, and whoever tries one case again wants that case alone. */
+enum { DEMANDING = 20000 };
 
 static struct twin one, two;
 static unsigned long cases;
@@ -34,6 +39,12 @@ static void try_case(uint64_t seed, uint64_t number) {
     } else if (number % 40 == 16) {
         case_begins(seed, number, "busiest days");
         try_days(&s, &one);
+    } else if (number % 40 == 2) {
+        case_begins(seed, number, "refused calls");
+        try_refused(&s, &one);
+    } else if (number % 40 == 29) {
+        case_begins(seed, number, "a hold out of order");
+        try_disorder(&s, &one);
     } else if (number % 40 == 31) {
         case_begins(seed, number, "a crowd");
         try_crowd(&s, &one);
@@ -72,6 +83,7 @@ int main(int argc, char **argv) {
     for (uint64_t number = first; timed ? (uint64_t)(time(NULL) - start) < limit : number < first + limit; number++)
         try_case(seed, number);
     print_tally();
+    if (cases >= DEMANDING && !everything_came_up()) return 1;
     unsigned long long calls = one.calls + two.calls;
     printf("differential: %lu cases, %llu calls compared with the model, no difference\n", cases, calls);
     twin_free(&one);

@@ -19,6 +19,8 @@ int main(void) {
     run("tests/c/texts.c", test_texts);
     run("tests/c/refusals.c", test_refusals);
     run("tests/c/orders.c", test_orders);
+    run("tests/c/lists.c", test_lists);
+    run("tests/c/turns.c", test_turns);
     run("tests/c/examples.c", test_examples);
     run("tests/c/messages.c", test_messages);
     run("tests/c/find.c", test_find);

@@ -54,6 +54,8 @@ static inline uint64_t found(int place) { return place == NONE ? 0 : (uint64_t)1
 void test_texts(void);
 void test_refusals(void);
 void test_orders(void);
+void test_lists(void);
+void test_turns(void);
 void test_examples(void);
 void test_messages(void);
 void test_find(void);

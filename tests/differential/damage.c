@@ -1,5 +1,5 @@
-/* Calls on records and windows that no list of calls leaves. What the paper fixes there is compared, and what find and
- * close answer; the rest of what it leaves free is not. */
+/* Calls on records and windows that no list of calls leaves. What the paper fixes there is compared, what find and
+ * close answer, and which event leaves the hold; the rest of what it leaves free is not. */
 #include <stdlib.h>
 #include <string.h>
 
@@ -191,12 +191,13 @@ static void plant(struct source *s, const struct laid *d, struct sent e, unsigne
     else if (behind > 0) lay_counts(d->form, frontier_at(d, place_of(s, kept_frontiers, behind)), &e);
 }
 
-/* Several events that are ready at once, for most of them something planted in the window. Some taken counts are large,
- * or are those of a process that the watch has not. */
+/* Several events that are ready at once, for most of them something planted in the window. They stand in no order, and
+ * what was there before stands between them. Some taken counts are large, or are those of a process that the watch has
+ * not. */
 static void plant_ready(struct source *s, const struct laid *d, unsigned kept_frontiers) {
     const struct layout *form = d->form;
     uint8_t *record = d->record, *taken = record + TAKEN_AT;
-    unsigned n = between(s, 1, 5);
+    unsigned n = between(s, 1, 5), place = 0;
     if (record[0] < PROCESSES && chance(s, 20)) taken[form->width * between(s, record[0], 7)] = (uint8_t)below(s, 4);
     if (chance(s, 15)) taken[below(s, PROCESSES * form->width)] = (uint8_t)draw(s);
     if (chance(s, 20)) { /* often the largest, so that one more would be 0 */
@@ -205,10 +206,11 @@ static void plant_ready(struct source *s, const struct laid *d, unsigned kept_fr
     }
     for (unsigned i = 0; i < n; i++) {
         struct sent e = ready_sent(s, form, record);
-        lay_event(form, record + form->pending_at + form->event * i, e);
+        if (chance(s, 20)) place++;
+        lay_event(form, record + form->pending_at + form->event * place++, e);
         if (chance(s, 80)) plant(s, d, e, kept_frontiers);
     }
-    if (record[2] < n || chance(s, 50)) record[2] = (uint8_t)n;
+    if (record[2] < place || chance(s, 50)) record[2] = (uint8_t)place;
 }
 
 /* Frontiers, also behind the kept ones, that have all taken events of all eight processes, of all but one, of one
@@ -327,6 +329,33 @@ static void damaged_close(struct source *s, struct damaged *d) {
     unchanged("window", &d->window, d->window_before);
 }
 
+/* The pending events are those of before but for one of those that may have been taken, in their order. */
+static bool one_left(const struct damaged *d, uint32_t may_be_taken) {
+    static uint8_t record[RECORD_MOST];
+    const struct layout *form = d->form;
+    for (unsigned place = 0; place < PENDING; place++) {
+        if (!(may_be_taken >> place & 1)) continue;
+        memcpy(record, d->record_before, form->record);
+        bytes_leave(form, record, place);
+        size_t pending_bytes = form->event * record[2];
+        if (d->record.bytes[2] == record[2] &&
+            memcmp(d->record.bytes + form->pending_at, record + form->pending_at, pending_bytes) == 0)
+            return true;
+    }
+    return false;
+}
+
+/* Which event left: with 35 that one and nothing else. */
+static void compare_left(struct damaged *d, const struct possible *can, uint64_t reply) {
+    if (reply == 35) {
+        bytes_leave(d->form, d->record_before, can->false_place);
+        unchanged("record", &d->record, d->record_before);
+        unchanged("window", &d->window, d->window_before);
+    } else if (!one_left(d, can->may_be_taken)) {
+        differs("take on damaged bytes took another event than one of the places %x", (unsigned)can->may_be_taken);
+    }
+}
+
 static void damaged_take(struct source *s, struct damaged *d) {
     fill_junk(s, d->scratch.bytes, d->scratch.length);
     remember(d);
@@ -343,10 +372,12 @@ static void damaged_take(struct source *s, struct damaged *d) {
         differs("take on damaged bytes answers number %u value %u; possible: nothing ready %d, taken %d, 35 %d, 36 %d", number,
                 watch_value(reply), can.nothing_ready, can.taken, can.false_clock, can.no_room);
     }
+    if (can.refused == 0 && !all_zero(d->scratch.bytes, d->scratch.length)) differs("the scratch is not all 0");
     if (can.refused != 0 || reply == 0 || reply == 36) {
         unchanged("record", &d->record, d->record_before);
         unchanged("window", &d->window, d->window_before);
-        if (can.refused == 0 && !all_zero(d->scratch.bytes, d->scratch.length)) differs("the scratch is not all 0");
+    } else {
+        compare_left(d, &can, reply);
     }
 }
 

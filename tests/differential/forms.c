@@ -1,7 +1,6 @@
 /* See forms.h. */
 #include "forms.h"
 
-#include <stdio.h>
 #include <stdlib.h>
 
 #include "../../include/watch.h"
@@ -157,54 +156,4 @@ uint64_t call_find(const struct layout *form, uint64_t line, const uint8_t *reco
 uint64_t call_close(const struct layout *form, uint64_t process, uint8_t *record, size_t record_len, uint8_t *window,
                     size_t window_len) {
     return CALL(form, close, (process, record, record_len, window, window_len));
-}
-
-/* ---- what was answered ---- */
-
-static struct {
-    unsigned long number[CALLS][256], nothing_ready, again, rows, kept;
-} answers[2];
-static unsigned most_kept;
-static unsigned long days_taken, others_taken;
-
-uint64_t tally(const struct layout *form, enum call call, uint64_t reply) {
-    unsigned wide = form == &wide_form;
-    if (call == TAKE && reply == 0) answers[wide].nothing_ready++;
-    else if (call == OFFER && watch_again(reply)) answers[wide].again++;
-    else answers[wide].number[call][watch_number(reply)]++;
-    if (call == TAKE && watch_value(reply) > most_kept) most_kept = watch_value(reply);
-    if (call == PAGE) answers[wide].rows += watch_value(reply);
-    if (call == DAY) answers[wide].kept += watch_value(reply);
-    return reply;
-}
-
-void tally_taken_day(bool busiest) {
-    if (busiest) days_taken++;
-    else others_taken++;
-}
-
-static void print_answers(const char *name, unsigned wide, enum call call) {
-    const unsigned long *number = answers[wide].number[call];
-    printf("  %-10s accepted %lu", name, number[0]);
-    if (call == TAKE) printf(", nothing ready %lu", answers[wide].nothing_ready);
-    if (call == OFFER) printf(", again %lu", answers[wide].again);
-    if (call == PAGE) printf(", rows %lu", answers[wide].rows);
-    if (call == DAY) printf(", kept %lu", answers[wide].kept);
-    for (unsigned i = 1; i < 256; i++)
-        if (number[i] != 0) printf(", %u: %lu", i, number[i]);
-    if (call == DAY) printf("; a watch took %lu days, shared otherwise %lu", days_taken, others_taken);
-    printf("\n");
-}
-
-void print_tally(void) {
-    static const char *const names[2][CALLS] = {
-        {"open", "offer", "take", "find", "close", "widen", "", ""},
-        {"wide open", "offer", "take", "find", "close", "narrow", "page", "busiest"}};
-    for (unsigned wide = 0; wide <= both_forms(); wide++) {
-        for (unsigned call = 0; call < PAGE; call++)
-            if (call != MOVE || both_forms()) print_answers(names[wide][call], wide, call);
-        if (can_print(wide ? &wide_form : &narrow_form)) print_answers(names[wide][PAGE], wide, PAGE);
-    }
-    if (can_generate()) print_answers(names[1][DAY], 1, DAY);
-    printf("  at most %u frontiers kept\n", most_kept);
 }

@@ -43,11 +43,17 @@ uint64_t call_page(const uint8_t *record, size_t record_len, const uint8_t *wind
 
 uint64_t call_busiest(uint64_t k, uint64_t n, uint8_t *events, size_t events_len);
 
-/* How often each call of each form gave each answer, how many rows the pages had, what the days kept, and how many days
- * a watch took: busiest ones, and such as are shared otherwise. */
+/* How often each call of each form gave each answer, and gave it in a list where the lengths were wrong; how many takes
+ * met a hold out of order, and of these how many did by the order what they did; how many rows the pages had, what the
+ * days kept, and how many days a watch took: busiest ones, and such as are shared otherwise. */
 enum call { OPEN, OFFER, TAKE, FIND, CLOSE, MOVE, PAGE, DAY, CALLS };
 uint64_t tally(const struct layout *form, enum call call, uint64_t reply); /* returns the reply */
+uint64_t tally_refused(const struct layout *form, enum call call, uint64_t reply);
+void tally_order(const struct layout *form, bool decides);
 void tally_taken_day(bool busiest);
 void print_tally(void);
+
+/* Whether each call that the library has gave each answer that it can give. Prints what is missing. */
+bool everything_came_up(void);
 
 #endif

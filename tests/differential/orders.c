@@ -1,8 +1,9 @@
 /* Demand 3, tried: two lists of calls that accept the same events in different orders and close the same processes,
  * wherever in the lists, each ended by "nothing ready", leave the same record and the same frontiers; a verdict that
  * both reported for the same counts is the same, and it is the one of that cut among all cuts of what is taken at the
- * end. And find names the same place for each line. Both lists are of one stored form, and nothing is moved meanwhile:
- * request 6. */
+ * end. And find names the same place for each line. Calls that are refused for what they are lent stand anywhere in
+ * both lists, in each at places of its own. Both lists are of one stored form, and nothing is moved meanwhile: request
+ * 6. */
 #include <stdio.h>
 #include <string.h>
 
@@ -28,6 +29,7 @@ struct list {
     struct source *source;
     struct twin *twin;
     bool large, early;         /* early: a process may be closed before its last event was sent */
+    unsigned refused;         /* percentage of places at which a call is refused for what it is lent */
     unsigned left[PROCESSES]; /* how many of the events that are still to come name each process */
     struct events not_named;  /* what was sent and closed, without those events that named a closed process */
     unsigned named_number;    /* and these */
@@ -117,11 +119,18 @@ static bool lend_more(struct list *l) {
     return true;
 }
 
+/* Calls that change nothing, as often as the list has them; of this event, or of any. */
+static void list_refused(struct list *l, const struct sent *e) {
+    while (chance(l->source, l->refused)) refused_call(l->source, l->twin, e, false);
+}
+
 /* Takes until nothing is ready; false if not even the longest window fits. */
 static bool list_drain(struct list *l) {
     for (;;) {
+        list_refused(l, NULL);
         uint64_t reply = list_take(l);
         if (reply == 0) return true;
+        if (reply == 36 && l->refused > 0) refused_take(l->source, l->twin);
         if (reply == 36 && !lend_more(l)) return false;
     }
 }
@@ -188,10 +197,12 @@ static bool list_run(struct list *l, const struct events *all) {
     count_left(l, &all->lost, all->found, 1);
     count_left(l, all->wrong, all->wrong_number, 1);
     for (unsigned i = 0; i < all->n; i++) {
+        list_refused(l, &all->event[i]);
         if (!list_accept(l, all->event[i], sent->event, &sent->n)) return false;
         if (chance(l->source, 15)) list_repeat(l);
         while (chance(l->source, habit))
             if (list_take(l) == 0) break;
+        list_refused(l, &all->event[i]);
         list_try_close(l, all);
     }
     if (!list_drain(l)) return false;
@@ -204,6 +215,7 @@ static bool list_run(struct list *l, const struct events *all) {
     }
     if (!list_drain(l)) return false;
     list_close_rest(l, all);
+    list_refused(l, NULL);
     sent->closing = l->twin->record.bytes[CLOSED_AT];
     return list_drain(l);
 }
@@ -306,6 +318,10 @@ static void compare_ends(const struct twin *one, const struct twin *two) {
     if (!all_zero(two->window.bytes + frontiers, two->window.length - frontiers)) differs("the other window's rest is not 0");
 }
 
+static unsigned random_refused(struct source *s) {
+    return chance(s, 40) ? 0 : between(s, 5, 30);
+}
+
 void try_orders(struct source *s, struct twin *t, struct twin *other, bool large) {
     static struct opening o;
     static struct list one, two;
@@ -325,8 +341,9 @@ void try_orders(struct source *s, struct twin *t, struct twin *other, bool large
     o.k = shape.k;
     o.length = random_rule(s, o.k, between(s, 1, 64), o.text);
     o.labels = random_labels(s, (1u << o.k) - 1);
-    one = (struct list){.source = s, .twin = t, .large = large, .early = chance(s, 40)};
-    two = (struct list){.source = s, .twin = other, .large = large};
+    one = (struct list){.source = s, .twin = t, .large = large, .refused = random_refused(s)};
+    two = (struct list){.source = s, .twin = other, .large = large, .refused = random_refused(s)};
+    one.early = chance(s, 40);
     list_open(&one, &o, between(s, 1, 30));
     shuffle(s, all.event, all.n, false);
     bool ended = list_run(&one, &all);

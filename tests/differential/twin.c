@@ -111,8 +111,10 @@ size_t twin_room(const struct twin *t) {
 }
 
 static void compare_watch(struct twin *t) {
-    compare_bytes("record", t->record.bytes, t->record_bytes, least(t->record.length, t->form->record));
+    size_t known = least(t->record.length, t->form->record); /* what a record that is too long has more is 0 */
+    compare_bytes("record", t->record.bytes, t->record_bytes, known);
     compare_bytes("window", t->window.bytes, t->window_bytes, t->window.length);
+    if (!all_zero(t->record.bytes + known, t->record.length - known)) differs("a byte after the record's changed");
     if (!lent_intact(&t->record)) differs("a byte outside the record changed");
     if (!lent_intact(&t->window)) differs("a byte outside the window changed");
     t->calls++;
@@ -133,10 +135,14 @@ uint64_t twin_open(struct twin *t, const uint8_t *rule, size_t length, uint64_t 
     return reply;
 }
 
-void note_offer(const struct sent *e, const char *where) {
+void note_sent(const char *what, const struct sent *e, const char *where) {
     const unsigned *c = e->count;
-    note("offer mask %llx clock %u %u %u %u %u %u %u %u labels %llx%s\n", (unsigned long long)e->mask, c[0], c[1], c[2],
-         c[3], c[4], c[5], c[6], c[7], (unsigned long long)e->labels, where);
+    note("%s mask %llx clock %u %u %u %u %u %u %u %u labels %llx%s\n", what, (unsigned long long)e->mask, c[0], c[1],
+         c[2], c[3], c[4], c[5], c[6], c[7], (unsigned long long)e->labels, where);
+}
+
+void note_offer(const struct sent *e, const char *where) {
+    note_sent("offer", e, where);
 }
 
 uint64_t twin_offer(struct twin *t, struct sent e) {

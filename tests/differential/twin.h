@@ -49,6 +49,7 @@ void twin_catch_up(struct twin *t);
 /* What is being tried, for the message when something differs. */
 void case_begins(uint64_t seed, uint64_t number, const char *kind);
 void note(const char *format, ...);
+void note_sent(const char *what, const struct sent *e, const char *where);
 void note_offer(const struct sent *e, const char *where);
 void print_case(void);
 void differs(const char *format, ...); /* prints the case, its calls and what differs, and ends the program with 1 */
@@ -63,6 +64,8 @@ void try_walk(struct source *s, struct twin *t, unsigned events, size_t vectors)
 void try_late(struct source *s, struct twin *t);      /* counts beyond one byte */
 void try_late_begin(struct source *s, struct twin *t); /* counts around the largest of a form */
 void try_crowd(struct source *s, struct twin *t); /* up to 32 pending */
+void try_refused(struct source *s, struct twin *t); /* for what the calls are lent, anywhere among them */
+void try_disorder(struct source *s, struct twin *t); /* of the pending events */
 void try_damage(struct source *s, struct twin *t);
 void try_orders(struct source *s, struct twin *t, struct twin *other, bool large);
 void try_moves(struct source *s, struct twin *t);
@@ -72,8 +75,23 @@ void try_days(struct source *s, struct twin *t);  /* busiest ones, and watches t
 /* Opens a watch of k processes in this form, with room for so many frontiers: any rule, any labels. */
 void start_of_form(struct source *s, struct twin *t, const struct layout *form, unsigned k, size_t room);
 
+/* Lengths that a call is not to be lent. */
+struct lengths {
+    size_t record, window, scratch;
+};
+size_t wrong_record(struct source *s, const struct layout *form);
+size_t wrong_window(struct source *s, const struct layout *form, size_t length);
+
+/* A call that is refused for what it is lent, any but a busiest day, and a move only if there may be moves; an offer is
+ * of this event, or where it is NULL of any. Nothing changes, and the watch is lent as before. */
+void refused_call(struct source *s, struct twin *t, const struct sent *e, bool moves);
+void refused_take(struct source *s, struct twin *t); /* lent 41,000 bytes, or in the wide form as many frontiers */
+
 /* Damages a copy of the watch as it stands and tries calls on that. */
 void damage_excursion(struct source *s, const struct twin *t, unsigned calls);
+
+/* Puts the pending events of a copy of the watch, and some more, into another order, and takes them there. */
+void disorder_excursion(struct source *s, struct twin *t);
 
 /* Bytes of a watch to be damaged. */
 struct laid {

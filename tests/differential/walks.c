@@ -1,6 +1,6 @@
 /* Random calls on one watch: an execution's events in some order, sent again, nearly the same, twisted, with clocks
  * that forget, with numbers that are none; closes anywhere among them, moves to the other form, and pages; windows that
- * are too short and then longer; buffers of wrong lengths. */
+ * are too short and then longer; calls that are lent what they refuse. */
 #include <string.h>
 
 #include "twin.h"
@@ -29,48 +29,9 @@ void try_texts(struct source *s, struct twin *t) {
     }
 }
 
-/* A length that is not the form's: a little off, or the other form's. */
-static size_t wrong_record(struct source *s, const struct layout *form) {
-    if (chance(s, 30)) return other_form(form)->record;
-    return chance(s, 50) ? below(s, (unsigned)form->record) : form->record + 1 + below(s, 100);
-}
-
-static size_t wrong_window(struct source *s, const struct layout *form, size_t length) {
-    size_t others = length / form->frontier * other_form(form)->frontier;
-    if (chance(s, 20)) return form->frontier * (ROOM + 1);
-    if (chance(s, 30) && !window_length(form, others)) return others;
-    size_t wrong = length + 1 + below(s, (unsigned)form->frontier - 1);
-    return wrong <= WINDOW_MOST ? wrong : 0;
-}
-
 /* Nothing where there is no page of it. */
 static void print_watch(struct source *s, struct twin *t) {
     if (can_print(t->form)) twin_page(t, s, random_page(s, get_kept(t->record_bytes)));
-}
-
-/* A call with one buffer of a wrong length, or a window too short for what is kept; then all is lent as before. */
-static void wrong_lengths(struct source *s, struct twin *t) {
-    const struct layout *form = t->form;
-    size_t window_length = t->window_length, record_length = form->record, wrong = window_length, scratch_length;
-    size_t kept_length = form->frontier * (t->record_bytes[KEPT_AT] + 256u * t->record_bytes[KEPT_AT + 1]);
-    unsigned choice = below(s, 4);
-    if (choice == 0) record_length = wrong_record(s, form);
-    if (choice == 1) wrong = wrong_window(s, form, window_length);
-    if (choice == 2 && kept_length > form->frontier) wrong = kept_length - form->frontier;
-    scratch_length = choice == 3 ? form->frontier * random_room(s) : wrong;
-    if (record_length == form->record && wrong == window_length && scratch_length == wrong) return;
-    twin_lend(t, s, record_length, wrong);
-    if (wrong != window_length || record_length != form->record) {
-        twin_find(t, below(s, 10));
-        twin_close(t, random_process(s, t->model.k));
-        const struct layout *to = other_form(form);
-        size_t to_length = to->frontier * (wrong / form->frontier);
-        if (both_forms()) twin_move(t, s, to->record, to_length <= WINDOW_MOST ? to_length : to->frontier);
-        print_watch(s, t);
-    }
-    if (record_length != form->record) twin_offer(t, random_sent(s, t->model.k, form->most));
-    twin_take(t, s, scratch_length);
-    twin_lend(t, s, form->record, window_length);
 }
 
 /* Into buffers of the right lengths, or with one of them wrong, or with room for more or fewer frontiers: 6. */
@@ -165,9 +126,11 @@ static void repeated_offer(struct source *s, struct twin *t, const struct sent *
 /* Takes, with a longer window at 36, until nothing is ready. */
 static void drain(struct source *s, struct twin *t) {
     for (;;) {
+        if (chance(s, 8)) refused_call(s, t, NULL, true);
         uint64_t reply = twin_take(t, s, t->window_length);
         if (reply == 0) return;
         if (reply == 36 && twin_room(t) == ROOM) return;
+        if (reply == 36 && chance(s, 20)) refused_take(s, t);
         if (reply == 36) lend_longer(s, t);
     }
 }
@@ -197,7 +160,7 @@ static void close_all(struct source *s, struct twin *t, const struct execution *
         if (x->n > 0 && chance(s, 50)) twin_offer(t, x->event[below(s, x->n)]);
         if (chance(s, 30)) twin_take(t, s, t->window_length);
         if (chance(s, 30)) random_find(s, t);
-        if (chance(s, 10)) wrong_lengths(s, t);
+        if (chance(s, 10)) refused_call(s, t, NULL, true);
     }
 }
 
@@ -209,6 +172,7 @@ static void walk(struct source *s, struct twin *t, struct execution *x, unsigned
     if (chance(s, 70)) shuffle(s, x->event, x->n, chance(s, 60));
     while (next < x->n) {
         unsigned action = below(s, 100);
+        if (chance(s, 8)) refused_call(s, t, &x->event[next], true);
         if (chance(s, forgetting)) forgetful_offer(s, t, x);
         else if (chance(s, closing)) random_close(s, t, x);
         else if (action < 40) twin_offer(t, x->event[next++]);
@@ -216,7 +180,7 @@ static void walk(struct source *s, struct twin *t, struct execution *x, unsigned
         else if (action < 75 && hostile) random_offer(s, t, x);
         else if (action < 80) random_find(s, t);
         else if (action < 85) lend_longer(s, t);
-        else if (action < 88) wrong_lengths(s, t);
+        else if (action < 88) disorder_excursion(s, t);
         else if (action < 91) damage_excursion(s, t, 3);
         else if (action < 94) move_there_and_back(s, t);
         else if (action < 96) print_watch(s, t);
@@ -303,8 +267,60 @@ void try_crowd(struct source *s, struct twin *t) {
         else if (action < 90) twin_take(t, s, t->window_length);
         else if (action < 93) random_offer(s, t, &x);
         else if (action < 95) random_close(s, t, &x);
+        else if (action < 96) refused_call(s, t, NULL, true);
+        else if (action < 97) disorder_excursion(s, t);
         else damage_excursion(s, t, 3);
     }
+}
+
+/* From the shortest window on, which a take wants longer for nearly every event, and finds 41,000 bytes instead. */
+void try_refused(struct source *s, struct twin *t) {
+    struct shape shape = {.k = between(s, 1, 8), .most = 400, .joint = 30};
+    shape.n = between(s, 1, 10);
+    shape.messages = random_messages(s);
+    unsigned closing = random_closing(s, &shape);
+    start_watch(s, t, shape.k, 1);
+    struct execution x = random_execution(s, shape);
+    if (chance(s, 50)) shuffle(s, x.event, x.n, chance(s, 50));
+    for (unsigned i = 0; i < x.n; i++) {
+        while (chance(s, 30)) refused_call(s, t, &x.event[i], true);
+        twin_offer(t, x.event[i]);
+        if (chance(s, 50)) refused_take(s, t);
+        while (twin_take(t, s, t->window_length) == 36 && chance(s, 80)) {
+            refused_take(s, t);
+            twin_lend(t, s, t->form->record, t->window_length + t->form->frontier);
+        }
+        while (chance(s, 50)) refused_call(s, t, &x.event[i], true);
+        if (chance(s, closing)) random_close(s, t, &x);
+    }
+    drain(s, t);
+    while (chance(s, 70)) refused_call(s, t, NULL, true);
+    print_watch(s, t);
+    random_find(s, t);
+}
+
+/* Few are taken, so that several are ready at once. */
+void try_disorder(struct source *s, struct twin *t) {
+    struct shape shape = {.k = between(s, 1, 8), .most = 400, .joint = 30};
+    shape.n = between(s, 2, 12);
+    shape.messages = random_messages(s);
+    unsigned closing = random_closing(s, &shape);
+    start_watch(s, t, shape.k, random_room(s));
+    if (chance(s, 20)) {
+        random_begin(s, &shape, t->form->most);
+        twin_begin_late(t, s, shape.begin);
+    }
+    struct execution x = random_execution(s, shape);
+    shuffle(s, x.event, x.n, chance(s, 50));
+    for (unsigned i = 0; i < x.n; i++) {
+        twin_offer(t, x.event[i]);
+        if (chance(s, 20)) forgetful_offer(s, t, &x);
+        if (chance(s, 30)) twin_take(t, s, t->window_length);
+        if (chance(s, closing)) random_close(s, t, &x);
+        if (chance(s, 40)) disorder_excursion(s, t);
+    }
+    for (unsigned i = 0; i < 4; i++) disorder_excursion(s, t);
+    drain(s, t);
 }
 
 void try_damage(struct source *s, struct twin *t) {
@@ -359,6 +375,7 @@ void try_pages(struct source *s, struct twin *t) {
         twin_offer(t, x.event[i]);
         twin_take(t, s, t->window_length);
         if (chance(s, 5)) random_close(s, t, &x);
+        if (chance(s, 5)) refused_call(s, t, NULL, true);
         print_watch(s, t);
     }
     for (unsigned i = 0; i < 12; i++) page_excursion(s, t);

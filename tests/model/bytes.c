@@ -1,7 +1,7 @@
 /* Records and windows of any bytes, as no list of calls may have left them: refusals, "again" and "nothing ready" are
  * exact there too, and so is what an accepted offer writes; whether a window fits, and what take writes when an event
- * leaves, are free. What an accepted find or close answers would be free as well, but the library promises more: see
- * model.h. */
+ * leaves, are free, but not the order in which events come to their turn. What an accepted find or close answers would
+ * be free as well, and which bytes 35 leaves, but the library promises more: see model.h. */
 #include <string.h>
 
 #include "model.h"
@@ -134,20 +134,33 @@ struct possible bytes_take(const struct layout *form, const uint8_t *record, siz
     if (wrong_lengths(form, record_len, window_len) || scratch_len != window_len)
         return (struct possible){.refused = 6};
     if (bytes_damaged(form, record, window_len / form->frontier)) return (struct possible){.refused = 34};
-    unsigned counts[PROCESSES];
+    struct event pending[PENDING];
+    unsigned counts[PROCESSES], places[PENDING];
     for (unsigned p = 0; p < PROCESSES; p++) counts[p] = taken_count(form, record, p);
+    for (unsigned i = 0; i < record[2]; i++) pending[i] = pending_event(form, record, i);
+    in_turn(pending, record[2], places);
     for (unsigned i = 0; i < record[2]; i++) {
-        struct event e = pending_event(form, record, i);
-        if (!ready(&e, counts)) continue;
+        const struct event *e = &pending[places[i]];
+        if (!ready(e, counts)) continue;
         can.nothing_ready = false;
-        if (!true_by_window(form, &e, window, get_kept(record))) {
+        if (!true_by_window(form, e, window, get_kept(record))) {
             can.false_clock = true;
+            can.false_place = places[i];
             can.no_room = false;
             return can;
         }
         can.taken = can.no_room = true;
+        can.may_be_taken |= (uint32_t)1 << places[i];
     }
     return can;
+}
+
+void bytes_leave(const struct layout *form, uint8_t *record, unsigned place) {
+    uint8_t *at = record + form->pending_at + form->event * place;
+    size_t after = form->event * (record[2] - 1u - place);
+    memmove(at, at + form->event, after);
+    memset(at + after, 0, form->event);
+    record[2]--;
 }
 
 /* Byte 3 says which processes are closed. Some process of the watch that is not has all its taken events in the

@@ -150,28 +150,36 @@ static bool too_short(const struct model *m, size_t window_len) {
     return frontiers(&m->history, open_processes(m)) > window_len / m->form->frontier;
 }
 
+unsigned take_stops(const struct model *m, const unsigned *places, size_t window_len, bool *any_ready) {
+    *any_ready = false;
+    for (unsigned i = 0; i < m->pending_number; i++) {
+        const struct event *e = &m->pending[places[i]];
+        if (!ready(e, m->history.taken)) continue;
+        *any_ready = true;
+        if (!true_by_taken(m, e) || fits(m, e, window_len)) return places[i];
+    }
+    return PENDING;
+}
+
 uint64_t model_take(struct model *m, uint8_t *record, size_t record_len, uint8_t *window, size_t window_len,
                     uint8_t *scratch, size_t scratch_len) {
     if (wrong_lengths(m, record_len, window_len) || scratch_len != window_len) return refused(6);
     if (too_short(m, window_len)) return refused(34);
-    unsigned answer = 0;
+    unsigned places[PENDING];
+    bool any_ready;
     memset(scratch, 0, scratch_len);
-    for (unsigned i = 0; i < m->pending_number; i++) {
-        struct event e = m->pending[i];
-        if (!ready(&e, m->history.taken)) continue;
-        answer = 36;
-        if (!true_by_taken(m, &e)) {
-            leave(m, i);
-            write_record(m, frontiers(&m->history, open_processes(m)), record);
-            return refused(35);
-        }
-        if (fits(m, &e, window_len)) {
-            leave(m, i);
-            append(&m->history, &e);
-            return lay_down(m, record, window, window_len);
-        }
+    in_turn(m->pending, m->pending_number, places);
+    unsigned place = take_stops(m, places, window_len, &any_ready);
+    if (place == PENDING) return any_ready ? refused(36) : 0;
+    struct event e = m->pending[place];
+    bool taken = true_by_taken(m, &e);
+    leave(m, place);
+    if (taken) {
+        append(&m->history, &e);
+        return lay_down(m, record, window, window_len);
     }
-    return refused(answer);
+    write_record(m, frontiers(&m->history, open_processes(m)), record);
+    return refused(35);
 }
 
 /* By its number among the kept cuts, from 0. The cuts stand in the window's order. */

@@ -20,6 +20,13 @@ unsigned lowest_process(const struct event *e) {
     return p;
 }
 
+void in_turn(const struct event *pending, unsigned n, unsigned *places) {
+    unsigned found = 0;
+    for (unsigned p = 0; p <= PROCESSES; p++)
+        for (unsigned i = 0; i < n; i++)
+            if (lowest_process(&pending[i]) == p) places[found++] = i;
+}
+
 void append(struct history *h, const struct event *e) {
     if (h->n == HISTORY) abort();
     for (unsigned p = 0; p < PROCESSES; p++)

@@ -51,7 +51,11 @@ struct history {
 
 bool involved(const struct event *e, unsigned p);
 bool same_event(const struct event *e, const struct event *f); /* mask, clock and labels all agree */
-unsigned lowest_process(const struct event *e);
+unsigned lowest_process(const struct event *e); /* PROCESSES where the mask is 0 */
+
+/* The places of so many pending events in the order in which take goes through them: from the lowest process up, at a
+ * tie by place; one of no process comes last. In a watch that calls wrote that is how they stand. */
+void in_turn(const struct event *pending, unsigned n, unsigned *places);
 void append(struct history *h, const struct event *e);
 const struct event *numbered(const struct history *h, unsigned p, unsigned n); /* p's event number n; NULL if none */
 bool ready(const struct event *e, const unsigned *counts);
@@ -122,7 +126,7 @@ struct model {
     struct rule rule;
     struct history history;
     unsigned pending_number;
-    struct event pending[PENDING]; /* by lowest process and its count */
+    struct event pending[PENDING]; /* by lowest process and its count; a test may put them in another order */
     uint8_t closed;                /* bit p: process p is closed */
     struct cut first;              /* the first cut of a history that begins late, judged */
 };
@@ -165,6 +169,10 @@ uint64_t model_find(const struct model *m, uint64_t line, size_t record_len, siz
 uint64_t model_close(struct model *m, uint64_t process, uint8_t *record, size_t record_len, uint8_t *window,
                      size_t window_len);
 
+/* Where a take that is lent a window of this length stops that tries the pending events in this order: at the place of
+ * the first ready one that has a false clock or fits. PENDING: at none. Ready: whether any was. */
+unsigned take_stops(const struct model *m, const unsigned *places, size_t window_len, bool *any_ready);
+
 /* A move to the other form: there the watch is laid down anew. The first two lengths are of the form that it has. */
 uint64_t model_move(struct model *m, size_t record_len, size_t window_len, uint8_t *to_record, size_t to_record_len,
                     uint8_t *to_window, size_t to_window_len);
@@ -196,13 +204,20 @@ unsigned bytes_offer(const struct layout *form, const struct words *w, uint8_t *
 uint64_t bytes_find(const struct layout *form, uint64_t line, const uint8_t *record, size_t record_len,
                     const uint8_t *window, size_t window_len);
 
-/* What take may do on these bytes. Whether a window fits is free, so more than one may be possible. */
+/* What take may do on these bytes. Whether a window fits is free, so more than one may be possible. What is written
+ * when an event leaves is free as well, but not which events come to their turn. */
 struct possible {
     unsigned refused; /* 6 or 34: then nothing else is possible */
     bool nothing_ready, taken, false_clock, no_room;
+    uint32_t may_be_taken;  /* bit i: the event in pending place i, by no false clock before it */
+    unsigned false_place;   /* of the event that gives 35 */
 };
 struct possible bytes_take(const struct layout *form, const uint8_t *record, size_t record_len, const uint8_t *window,
                            size_t window_len, size_t scratch_len);
+
+/* The event in that pending place is gone and nothing else: those after it move up as they are. The scope leaves free
+ * what 35 writes on such bytes; the library's header has these words for all of them, and is held to that here. */
+void bytes_leave(const struct layout *form, uint8_t *record, unsigned place);
 
 /* The reply of close, and what it writes. Which frontiers stay is told by the bytes of record and window alone; what is
  * answered then the scope leaves free, and the library promises how many these are. */
