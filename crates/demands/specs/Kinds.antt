@@ -37,17 +37,6 @@ isFalseClock (found i) = false
 isFalseClock absent = false
 isFalseClock (processClosed n) = false
 
--- An offer of an event that was pending already.
-abbrev pub isAgain : (a : Answer) → Bool
-isAgain (turnedBack n i) = false
-isAgain (state c t k) = false
-isAgain nothingReady = false
-isAgain (held n) = false
-isAgain again = true
-isAgain (found i) = false
-isAgain absent = false
-isAgain (processClosed n) = false
-
 -- A process was closed.
 abbrev pub isClosed : (a : Answer) → Bool
 isClosed (turnedBack n i) = false

@@ -25,8 +25,7 @@ use Rattle.call_close.specs.CloseCases.{CloseCase, close-case}
 use Rattle.demands.specs.Mislent.{answerTo}
 use Rattle.demands.specs.Run.{Call, offers, takes, finds, closes, mislends, Watch, answeredBy, offeredLedger, acceptedBy, after, run, opened}
 use Rattle.demands.specs.calls.OpenLaws.{OpenCase, open-case, turned-back, opens}
-use Rattle.demands.specs.statements.Again.{lastOf, withoutAgains, otherAnswers, SameButAgains, AgainsMakeNoDifference}
-use Rattle.demands.specs.Kinds.{isAgain}
+use Rattle.demands.specs.statements.Again.{isAgain, lastOf, withoutAgains, otherAnswers, SameButAgains, AgainsMakeNoDifference}
 
 -- ---- Only offers are answered "again"
 

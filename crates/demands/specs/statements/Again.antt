@@ -14,7 +14,6 @@ use Rattle.numbers.specs.Refusal.{conflictNumber, takenNumber}
 use Rattle.answers.specs.Answer.{Answer, turnedBack, nothingReady, again}
 use Rattle.call_open.specs.Open.{openCall}
 use Rattle.call_offer.specs.Offer.{offeredEvent, offerCall}
-use Rattle.demands.specs.Kinds.{isAgain}
 use Rattle.demands.specs.Run.{Call, offers, Passed, Watch, answeredBy, after, opened}
 use Rattle.demands.specs.EveryList.{AfterEveryList, atEnd, NamesOpen}
 
@@ -56,6 +55,17 @@ abbrev pub AgainIsExact : Type 0
 AgainIsExact = AfterEveryList AgainExact
 
 -- ---- A list without its repeats
+
+-- An answer is "again".
+abbrev pub isAgain : (a : Answer) → Bool
+isAgain (turnedBack n i) = false
+isAgain (state c t k) = false
+isAgain nothingReady = false
+isAgain (held n) = false
+isAgain again = true
+isAgain (found i) = false
+isAgain absent = false
+isAgain (processClosed n) = false
 
 -- The last answer of some, newest first.
 unfoldable pub lastOf : (answers : List Answer) → Answer
