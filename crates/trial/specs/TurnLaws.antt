@@ -36,14 +36,20 @@ unfolding lowest
 lowest-le e = trailing-le 8 (e .mask)
 
 -- one event more
-places-here : (p i : ℕ) (e : Event) (es : List Event) → lowest e ≡ p → placesOf p i (e ∷ es) ≡ i ∷ placesOf p (i + 1) es
+pub places-here : (p i : ℕ) (e : Event) (es : List Event) → lowest e ≡ p → placesOf p i (e ∷ es) ≡ i ∷ placesOf p (i + 1) es
 unfolding placesOf
 places-here p i e es h = rw (eq-eqb (lowest e) p h)
 
-places-pass : (p i : ℕ) (e : Event) (es : List Event) → (lowest e ≡ p → ⊥)
+pub places-pass : (p i : ℕ) (e : Event) (es : List Event) → (lowest e ≡ p → ⊥)
     → placesOf p i (e ∷ es) ≡ placesOf p (i + 1) es
 unfolding placesOf
 places-pass p i e es h = rw (ne-eqb (lowest e) p h)
+
+-- no event has a process from 9 up,
+pub none-beyond : (p i : ℕ) (es : List Event) → 8 < p → placesOf p i es ≡ []
+none-beyond p i [] l = unfold placesOf in refl
+none-beyond p i (e ∷ es) l =
+    places-pass p i e es (λ q. omega (arith, lowest-le e)) ∙ none-beyond p (i + 1) es l
 
 -- an event of a lower process is none of these,
 below-passed : (n p i : ℕ) (e : Event) (es : List Event) → lowest e < p
@@ -84,7 +90,13 @@ one-longer (suc n) p i e es l m = go (decLt p (lowest e)) (one-longer n (p + 1) 
     go (yes g) rest =
         let more = rest (omega arith) (omega arith) in
         unfold placesFrom in
-        rw (places-pass p i e es (λ q. omega arith), length-append, length-append, more) (omega arith)
+        rw (
+          places-pass p i e es (λ q. omega arith),
+          length-append (placesOf p (i + 1) es) (placesFrom n (p + 1) i (e ∷ es)),
+          length-append (placesOf p (i + 1) es) (placesFrom n (p + 1) (i + 1) es),
+          more,
+        )
+        (omega arith)
 
 -- Each event has its turn.
 pub length-turn : (i : ℕ) (es : List Event) → length (placesFrom 9 0 i es) ≡ length es
@@ -152,3 +164,12 @@ standing (e ∷ es) n p i q a =
 -- Where the lowest processes ascend, the order is the one in which the events stand.
 pub turn-stands : (es : List Event) → T (ascending 0 es) → inTurn es ≡ upFrom (length es) 0
 turn-stands es a = standing es 9 0 0 refl a
+
+getD-up : (n i t : ℕ) → t < n → getD (upFrom n i) t 0 ≡ i + t
+unfolding upFrom
+getD-up zero i t l = absurd (omega arith)
+getD-up (suc n) i zero l = omega arith
+getD-up (suc n) i (suc t) l = getD-up n (i + 1) t (omega arith) ∙ omega arith
+
+pub turn-stands-at : (es : List Event) → T (ascending 0 es) → (t : ℕ) → t < length es → getD (inTurn es) t 0 ≡ t
+turn-stands-at es a t l = rw (turn-stands es a) (getD-up (length es) 0 t l ∙ omega arith)
