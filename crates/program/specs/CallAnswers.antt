@@ -20,9 +20,9 @@ use Rattle.frontiers.specs.Bytes.{frontiers}
 use Rattle.window.specs.Step.{fits, keptAfter}
 use Rattle.window.specs.SteppedCount.{stepped-many}
 use Rattle.refusals.specs.RefusalLaws.{right-length}
-use Rattle.trial.specs.Trial.{validAmong, settingIn, undecided, false-clock, chosen as takes, tried}
+use Rattle.trial.specs.Trial.{validAmong, settingIn, Decision, undecided, false-clock, chosen as takes, trial}
 use Rattle.call_take.specs.Take.{Taken, decided, takeWithin, allowedOf, takeCapped, takeCall}
-use Rattle.trial.specs.TrialLaws.{Outcome, outcome, none-decides, falsifies, chooses}
+use Rattle.trial.specs.TrialLaws.{Right, trial-right}
 use Rattle.program.specs.TakenCountsLaws.{first-taken, counted-taken}
 use Rattle.rules.specs.Fault.{Fault}
 use Rattle.rules.specs.grammar.GrammarTheorem.{reader-first-fault}
@@ -141,27 +141,13 @@ module _ (w room : ℕ) (s window : List ℕ) (b : Bytes s) (long : length s ≡
 
   -- The ready pending events are gone through.
   within-told : TakeTold w (takeWithin w room s window)
-  unfolding takeWithin pendingEvents
-  within-told = go (outcome w s (validAmong kept) room kept first 0 false pending)
+  unfolding takeWithin
+  within-told = go (trial w s room kept) (trial-right w s (validAmong kept) room kept)
     where
-      first : Event
-      first = pendingAt w s 0
-
-      pending : List Event
-      pending = listOf (pendingCount s) (pendingAt w s)
-
-      many : length pending ≡ pendingCount s
-      many = length-listOf (pendingCount s) (pendingAt w s)
-
-      go : Outcome w s (validAmong kept) room kept 0 false pending first
-          → TakeTold w (decided w s window kept (tried w s (validAmong kept) room kept 0 false pending))
-      go (none-decides after t u o) = rw t (none-told after)
-      go (falsifies j l t r n u) = rw t (falsified-told (0 + j))
-      go (chooses j l t r a f u) =
-          let z : 0 + j ≡ j = omega arith in
-          let e : getD pending j first ≡ pendingAt w s j =
-          getD-listOf (pendingCount s) (pendingAt w s) j first (omega (arith, l, many)) in
-          rw (t, z) (taken-told j (rw e at r) (rw e at f))
+      go : (d : Decision) → Right w s (validAmong kept) room kept d → TakeTold w (decided w s window kept d)
+      go (undecided seen) r = none-told seen
+      go (false-clock i) r = falsified-told i
+      go (takes i) r = taken-told i (r .1) (r .3)
 
 -- A take of whatever bytes.
 pub take-told : (w : ℕ) (s window scratch : List ℕ) → Bytes s → TakeTold w (takeCall w s window scratch)
