@@ -1,22 +1,19 @@
 -- What the code learns from its choice: which decision it was, and what holds of the event that was decided on.
-use Prim.Native.Nat.{ℕ, _+_, _≤_, _<_}
+use Prim.Native.Nat.{ℕ, _≤_, _<_}
 use native.Mathlib.Omega.{arith}
-use mathlib.Core.Path.{_≡_, ap, subst, _∙_}
-use mathlib.Core.Bool.{Bool, false}
+use mathlib.Core.Path.{_≡_, subst}
+use mathlib.Core.Bool.{Bool}
 use mathlib.Core.List.{List}
 use lib.Dec.{T, ltb, leb, leb→le, ltb→lt}
-use lib.ListN.{length, getD}
-use Rattle.clocks.specs.declared.Event.{Event}
 use Rattle.clocks.specs.stored.BoundedLaws.{and-l, and-r}
-use Rattle.clocks.specs.stored.CountsLaws.{length-listOf, getD-listOf}
 use Rattle.frontiers.specs.declared.Frontier.{Frontier}
 use Rattle.frontiers.specs.Bytes.{frontiers}
 use Rattle.window.specs.Step.{Setting, fits, keptAfter}
 use Rattle.trial.specs.declared.Choice.the-variants.{Undecided, Falsified, Chosen}
-use Rattle.records.specs.Record.{keptCount, pendingCount, pendingAt, pendingEvents, readyIn}
+use Rattle.records.specs.Record.{keptCount, pendingCount, pendingAt, readyIn}
 use Rattle.trial.specs.Trial.{Decision, undecided, false-clock, chosen, validAmong, settingIn, trial}
 use Rattle.call_take.specs.Take.{decided, takeWithin}
-use Rattle.trial.specs.TrialLaws.{Outcome, outcome, none-decides, falsifies, chooses}
+use Rattle.trial.specs.TrialLaws.{Right, trial-right}
 use Rattle.trial.specs.TrialCode.{choiceFor}
 
 -- Of an event that is taken: it is pending and ready, and so many frontiers, at least one and no more than are allowed,
@@ -33,20 +30,6 @@ unfolding fits
 fits-e t allowed fs h = (ltb→lt 0 (keptAfter t fs) (and-l (ltb 0 (keptAfter t fs)) (leb (keptAfter t fs) allowed) h), leb→le (keptAfter t fs) allowed (and-r (ltb 0 (keptAfter t fs)) (leb (keptAfter t fs) allowed) h))
 
 module _ (w : ℕ) (s : List ℕ) (allowed : ℕ) (fs : List Frontier) where
-  abbrev first : Event
-  first = pendingAt w s 0
-
-  came : Outcome w s (validAmong fs) allowed fs 0 false (pendingEvents w s) first
-  came = outcome w s (validAmong fs) allowed fs first 0 false (pendingEvents w s)
-
-  count : length (pendingEvents w s) ≡ pendingCount s
-  unfolding pendingEvents
-  count = length-listOf (pendingCount s) (pendingAt w s)
-
-  at-place : (j : ℕ) → j < pendingCount s → getD (pendingEvents w s) j first ≡ pendingAt w s j
-  unfolding pendingEvents
-  at-place j l = getD-listOf (pendingCount s) (pendingAt w s) j first l
-
   -- ---- Which decision it was
   from-undecided : (seen : Bool) (d : Decision) → Undecided seen ≡ choiceFor w s fs d → d ≡ undecided seen
   unfolding choiceFor
@@ -71,36 +54,28 @@ module _ (w : ℕ) (s : List ℕ) (allowed : ℕ) (fs : List Frontier) where
   choice-undecided seen h = from-undecided seen (trial w s allowed fs) h
 
   -- ---- What holds of the event
+  right : (d : Decision) → trial w s allowed fs ≡ d → Right w s (validAmong fs) allowed fs d
+  right d e = subst (Right w s (validAmong fs) allowed fs) e (trial-right w s (validAmong fs) allowed fs)
+
   pub choice-falsified : (i : ℕ) → Falsified i ≡ choiceFor w s fs (trial w s allowed fs)
       → ((trial w s allowed fs) ≡ false-clock i) × (i < pendingCount s)
-  choice-falsified i h =
-      (from-falsified i (trial w s allowed fs) h, go came (from-falsified i (trial w s allowed fs) h))
-    where
-      go : Outcome w s (validAmong fs) allowed fs 0 false (pendingEvents w s) first
-          → (trial w s allowed fs) ≡ false-clock i → i < pendingCount s
-      go (none-decides after t u o) d = let z : _≡_ {A = ℕ} 0 1 = cc in absurd (omega arith)
-      go (falsifies j l t r n u) d = let same : i ≡ 0 + j = cc in omega (arith, count)
-      go (chooses j l t r v f u) d = let z : _≡_ {A = ℕ} 0 1 = cc in absurd (omega arith)
+  choice-falsified i h = let d = from-falsified i (trial w s allowed fs) h in (d, right (false-clock i) d .0)
 
   pub choice-chosen : (i kept : ℕ) → Chosen i kept ≡ choiceFor w s fs (trial w s allowed fs)
       → ((trial w s allowed fs) ≡ chosen i) × Taking w s allowed fs i kept
-  choice-chosen i kept h = let c = from-chosen i kept (trial w s allowed fs) h in (c .0, go came (c .0) (c .1))
-    where
-      go : Outcome w s (validAmong fs) allowed fs 0 false (pendingEvents w s) first → (trial w s allowed fs) ≡ chosen i
-          → kept ≡ keptAfter (settingIn w s (pendingAt w s i)) fs → Taking w s allowed fs i kept
-      go (none-decides after t u o) d k = let z : _≡_ {A = ℕ} 0 1 = cc in absurd (omega arith)
-      go (falsifies j l t r n u) d k = let z : _≡_ {A = ℕ} 0 1 = cc in absurd (omega arith)
-      go (chooses j l t r v f u) d k =
-          let same : i ≡ 0 + j = cc in
-          let here : getD (pendingEvents w s) j first ≡ pendingAt w s i = at-place j (omega (arith, count)) ∙ ap (pendingAt w s) (omega arith) in
-          let room = fits-e (settingIn w s (pendingAt w s i)) allowed fs (subst (λ (e : Event). T (fits (settingIn w s e) allowed fs)) here f) in
-          record {
-            pending = omega (arith, count);
-            ready = subst (λ (e : Event). T (readyIn w s e)) here r;
-            many = k;
-            some = omega (arith, room .0);
-            few = omega (arith, room .1);
-          }
+  choice-chosen i kept h =
+      let c = from-chosen i kept (trial w s allowed fs) h in
+      let of = right (chosen i) (c .0) in
+      let room = fits-e (settingIn w s (pendingAt w s i)) allowed fs (of .3) in (
+        c .0,
+        record {
+          pending = of .0;
+          ready = of .1;
+          many = c .1;
+          some = omega (arith, c .1, room .0);
+          few = omega (arith, c .1, room .1);
+        },
+      )
 
 -- A take within so many frontiers, by its decision.
 pub within-by : (w allowed : ℕ) (s window : List ℕ) (d : Decision)

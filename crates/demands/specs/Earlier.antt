@@ -2,16 +2,16 @@
 -- cuts: its clock is true). Take alone differs. They are kept to say what the change left as it was:
 -- statements/Earlier.
 use Prim.Native.Nat.{ℕ}
-use mathlib.Core.Bool.{Bool, false, cond, _||_}
+use mathlib.Core.Bool.{Bool, cond, _||_}
 use mathlib.Core.List.{List, [], _∷_, _++_}
 use lib.ListN.{length, replicate}
 use Rattle.clocks.specs.declared.Event.{Event}
 use Rattle.clocks.specs.Counts.{clockRows}
 use Rattle.clocks.specs.Joined.{joinedBy}
 use Rattle.frontiers.specs.Bytes.{frontiers}
-use Rattle.records.specs.Record.{keptCount, lastClocks, pendingEvents}
+use Rattle.records.specs.Record.{keptCount, lastClocks}
 use Rattle.refusals.specs.Refusals.{roomOf, badState}
-use Rattle.trial.specs.Trial.{Decision, tried}
+use Rattle.trial.specs.Trial.{Decision, trialBy}
 use Rattle.call_open.specs.Open.{openCall}
 use Rattle.call_take.specs.Take.{Taken, decided, badLengths, allowedOf, takeCapped}
 use Rattle.demands.specs.Run.{Call, offers, takes, finds, closes, mislends, Watch, afterTake, after, opened}
@@ -23,7 +23,7 @@ joinedIn w s e = joinedBy 8 e (clockRows (lastClocks w s))
 -- Take's trial of the pending events by this rule.
 unfoldable pub earlierTrial : (w cap : ℕ) (s window : List ℕ) → Decision
 earlierTrial w cap s window =
-    tried w s (joinedIn w s) (allowedOf w cap window) (frontiers w window (keptCount s)) 0 false (pendingEvents w s)
+    trialBy w s (joinedIn w s) (allowedOf w cap window) (frontiers w window (keptCount s))
 
 -- Take by it: turned back as it is now, and else as the trial decides.
 unfoldable pub earlierTake : (w cap : ℕ) (s window scratch : List ℕ) → Taken

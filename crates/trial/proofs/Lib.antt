@@ -1,2 +1,3 @@
 -- What the functions' proofs here share.
+pub mod TurnSteps
 pub mod TrialSteps

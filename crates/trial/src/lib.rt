@@ -1,6 +1,9 @@
 // Take's trial of the pending events (01, The calls: take; 02 [2]): each ready one in turn, first its clock and then
 // its fit, until one is decided on.
 
+// The order in which they are tried.
+mod turn;
+
 use clocks::Event;
 use frontiers::stored::counts_at;
 use lookup::order::counts_same;
@@ -9,6 +12,8 @@ use records::fields::pending_count;
 use records::fields::pending_event;
 use records::fields::process_count;
 use records::fields::taken_counts;
+use turn::in_order;
+use turn::place_in_turn;
 ghost use Prim.Native.Nat.{_≤_};
 ghost use mathlib.Core.Path.{_≡_};
 ghost use mathlib.Core.Bool.{_&&_};
@@ -65,8 +70,8 @@ fn fitting(kept: usize, allowed: usize) -> bool
     kept <= allowed
 }
 
-// The first pending event that has a false clock, or that fits, with its marks; or none, and whether one was ready. The
-// kept frontiers are looked through for what an event knows of, one by one: on any bytes, in any order.
+// The first pending event in turn that has a false clock, or that fits, with its marks; or none, and whether one was
+// ready. The kept frontiers are looked through for what an event knows of, one by one: on any bytes, in any order.
 pub fn decide(
     record: &[u8],
     w: usize,
@@ -86,9 +91,11 @@ pub fn decide(
 {
     let taken = taken_counts(record, w);
     let pending = pending_count(record);
+    let ordered = in_order(record, w, pending);
     let mut choice = Choice::Undecided { seen: false };
-    let mut i = 0;
-    'events: while i < pending {
+    let mut turn = 0;
+    'events: while turn < pending {
+        let i = place_in_turn(record, w, pending, ordered, turn);
         let e = pending_event(record, w, i);
         if clocks::step::ready(e, taken) {
             let known = clocks::step::lowered(e);
@@ -110,7 +117,7 @@ pub fn decide(
             }
             choice = Choice::Undecided { seen: true };
         }
-        i += 1;
+        turn += 1;
     }
     choice
 }

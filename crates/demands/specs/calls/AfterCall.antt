@@ -31,13 +31,14 @@ use Rattle.demands.specs.calls.OfferLaws.{accepted-watching}
 use Rattle.call_close.specs.CloseCases as closing
 use Rattle.call_close.specs.CloseCases.{CloseCase, close-case}
 use Rattle.demands.specs.calls.CloseLaws.{closed-are, closed-watching}
-use Rattle.trial.specs.Trial.{validAmong, Decision, tried, settingIn}
+use Rattle.trial.specs.Trial.{validAmong, Decision, settingIn}
 use Rattle.call_take.specs.Take as take
 use Rattle.call_take.specs.Take.{decided, allowedOf, takeCapped, Taken}
 use Rattle.records.specs.Record.{readyIn, keptCount, removed}
 use Rattle.refusals.specs.Refusals.{badRecordLength, badWindowLength, roomOf, badState}
 use Rattle.answers.specs.Answer.{turnedBack}
-use Rattle.trial.specs.TrialLaws.{Outcome, outcome, none-decides, falsifies, chooses}
+use Rattle.trial.specs.TrialLaws.{walked, as-they-stand, Outcome, outcome, none-decides, falsifies, chooses}
+use Rattle.demands.specs.calls.PendingOrder.{ordered-ascends}
 use Rattle.demands.specs.calls.TakeLaws.{falsified-watching, taken-watching, taken-window}
 use Rattle.demands.specs.Status.{removeAt}
 use Rattle.refusals.specs.RefusalLaws.{room-few}
@@ -129,9 +130,9 @@ module _ (w k : ℕ) (table : List Line) (start : Cut) (R : Rule w k table start
     unfolding takeCapped takenLedger badLengths
     take-6 h = (rw h, rw h)
 
-    -- else it goes through the pending events
+    -- else it goes through the pending events, which stand in the order in which they are tried
     abbrev pub decision : Decision
-    decision = tried w bytes (validAmong (X .kept)) (allowedOf w cap lent) (X .kept) 0 false (L .pending)
+    decision = walked w bytes (validAmong (X .kept)) (allowedOf w cap lent) (X .kept) 0 false (L .pending)
 
     read : frontiers w lent (keptCount bytes) ≡ X .kept
     read =
@@ -149,7 +150,9 @@ module _ (w k : ℕ) (table : List Line) (start : Cut) (R : Rule w k table start
     )
       where
         same : trialOf w cap bytes lent ≡ decision
-        same = rw (read, says-pending w k table start R L bytes lent X)
+        same =
+            let pending = says-pending w k table start R L bytes lent X in
+            as-they-stand w bytes _ _ _ (rw pending (ordered-ascends (L .pending) (X .ordered))) ∙ rw (read, pending)
 
         n : badState w (roomOf w (length lent)) bytes ≡ false
         n =

@@ -5,11 +5,13 @@ use mathlib.Core.Path.{_≡_, refl, sym, ap₂, subst, _∙_}
 use mathlib.Core.Bool.{Bool, true, false, cond}
 use mathlib.Core.List.{List, [], _∷_, List·Memᴰ, List·Memᴰ·head, List·Memᴰ·tail, List·Memᴰ·cases-cons, List·Memᴰ·not-nil, List·Memᴰ·append-cases}
 use mathlib.Core.Logic.{_⊎_, inl, inr, ⊎-elim, _↔_}
-use lib.Dec.{T}
+use lib.Dec.{T, leb, le→leb}
 use lib.ListN.{length, getD, take}
 use Rattle.clocks.specs.declared.Event.{Event}
-use Rattle.clocks.specs.stored.KeyLaws.{before-total, before-irreflexive, before-transitive}
-use Rattle.clocks.specs.Key.{keyOf, keyBefore}
+use Rattle.clocks.specs.stored.KeyLaws.{before-e, before-total, before-irreflexive, before-transitive}
+use Rattle.clocks.specs.Key.{lowest, keyOf, keyBefore}
+use Rattle.clocks.specs.stored.BoundedLaws.{and-i}
+use Rattle.trial.specs.TurnLaws.{ascending}
 use Rattle.clocks.specs.cuts.EventLaws.{true-T}
 use Rattle.frontiers.specs.ListLaws.{place-member}
 use Rattle.call_offer.specs.Offer.{placeAmong}
@@ -73,6 +75,23 @@ remove-ordered (suc i) [] o = tt
 remove-ordered zero (f ∷ fs) o = o .1
 remove-ordered (suc i) (f ∷ fs) o =
     ((λ g m. o .0 g (remove-e i fs g (unfold removeAt in m))), remove-ordered i fs (o .1))
+
+-- ---- by the lowest process
+process-le : (e f : Event) → T (keyBefore (keyOf e) (keyOf f)) → lowest e ≤ lowest f
+unfolding keyOf
+process-le e f t = ⊎-elim (λ l. omega arith) (λ q. omega arith) (before-e (keyOf e) (keyOf f) t)
+
+ascends-from : (p : ℕ) (es : List Event) → ((f : Event) → List·Memᴰ f es → p ≤ lowest f) → Ordered es
+    → T (ascending p es)
+unfolding ascending
+ascends-from p [] h o = tt
+ascends-from p (e ∷ es) h o =
+    and-i (leb p (lowest e)) (ascending (lowest e) es) (le→leb p (lowest e) (h e (List·Memᴰ·head refl)))
+    (ascends-from (lowest e) es (λ f m. process-le e f (o .0 f m)) (o .1))
+
+-- the lowest processes of pending events ascend: as they stand they are tried
+pub ordered-ascends : (es : List Event) → Ordered es → T (ascending 0 es)
+ordered-ascends es o = ascends-from 0 es (λ f m. omega arith) o
 
 -- ---- ordered lists with the same members are one
 pub ordered-unique : (xs ys : List Event) → Ordered xs → Ordered ys

@@ -63,8 +63,7 @@ module _ (w k : ℕ) (table : List Line) (start : Cut) (R : Rule w k table start
       → earlierTrial w cap bytes lent ≡ trialOf w cap bytes lent
   unfolding earlierTrial trialOf
   same-decision none =
-      same-trial w bytes (joinedIn w bytes) (validAmong fs) (allowedOf w cap lent) fs 0 false
-      (pendingEvents w bytes) passes none
+      same-trial w bytes (joinedIn w bytes) (validAmong fs) (allowedOf w cap lent) fs passes none
 
   never-bad : badState w (roomOf w (length lent)) bytes ≡ false
   never-bad =

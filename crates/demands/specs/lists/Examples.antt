@@ -30,7 +30,7 @@ use Rattle.records.specs.Record.{takenCounts, lastClocks, tableLines, pendingAt
 use Rattle.refusals.specs.Refusals.{badRecordLength, badWindowLength, roomOf, badProcesses, badState, namesClosed, alreadyTaken, conflicts, conflicting, notOpen, namedBy}
 use Rattle.call_open.specs.Open.{firstRecord, openTable, openRead, openCall}
 use Rattle.call_offer.specs.Offer.{placeAmong, offerCall}
-use Rattle.trial.specs.Trial.{validAmong, settingIn, tried}
+use Rattle.trial.specs.Trial.{validAmong, settingIn, placesOf, placesFrom, tried}
 use Rattle.call_take.specs.Take.{decided, takeWithin, takeCapped}
 use Rattle.call_close.specs.Close.{remaining, closeProcess, closeCall}
 use Rattle.demands.specs.Status.{insertAt, removeAt}
@@ -49,7 +49,7 @@ frontiersAt21 =
     ∷ []
 
 pub starred : StarredExamples
-unfolding repeated sameEvent badStart restAt aWordAt eWordAt wordAt andThen expect expectDigit closeAt atomAt innerWith unaryWith binaryWith bodyWith formAt readRule lineCount constantWeight unaryWeight binaryWeight trueLines constantLines linesBefore linesAfter linesBetween linesAfterBoth linesAt startFrontier firstRecord openTable openRead openCall trailingZeros bit bytesOf valueOf number put involved count apply minus listOf allBelow anyBelow anyOf ready less lowered validAmong lowest keyOf keyBefore badMask badClock badLabels stays enabledAt advanced filtered slotCounts mergeInto merge slots sought withoutLast consider gathered judgedBy lay stepped keptAfter fits frontierLength countBytes frontierBytes frontierFrom frontierAt frontiers framed windowBytes replaced before same standing bisect gallop seek tableBytes goodLine goodFrom lineAt linesFrom propositionJudged notJudged andJudged eyJudged esJudged asJudged judgeLine judgeFrom takenCounts lastClocks tableLines pendingAt pendingEvents eventBytes inserted removed clocksSet counted badRecordLength badWindowLength roomOf badProcesses badState namesClosed alreadyTaken conflicts conflicting placeAmong offerCall settingIn readyIn tried stateOf decided takeWithin takeCapped after run trialOf stoppedAt takenLedger offeredLedger closedLedger notOpen namedBy closedSet remaining closeProcess closeCall insertAt removeAt headed vectors sourceKeeps consistent redundant redundantWithin served taken clockOf event isNumber
+unfolding repeated sameEvent badStart restAt aWordAt eWordAt wordAt andThen expect expectDigit closeAt atomAt innerWith unaryWith binaryWith bodyWith formAt readRule lineCount constantWeight unaryWeight binaryWeight trueLines constantLines linesBefore linesAfter linesBetween linesAfterBoth linesAt startFrontier firstRecord openTable openRead openCall trailingZeros bit bytesOf valueOf number put involved count apply minus listOf allBelow anyBelow anyOf ready less lowered validAmong lowest keyOf keyBefore badMask badClock badLabels stays enabledAt advanced filtered slotCounts mergeInto merge slots sought withoutLast consider gathered judgedBy lay stepped keptAfter fits frontierLength countBytes frontierBytes frontierFrom frontierAt frontiers framed windowBytes replaced before same standing bisect gallop seek tableBytes goodLine goodFrom lineAt linesFrom propositionJudged notJudged andJudged eyJudged esJudged asJudged judgeLine judgeFrom takenCounts lastClocks tableLines pendingAt pendingEvents eventBytes inserted removed clocksSet counted badRecordLength badWindowLength roomOf badProcesses badState namesClosed alreadyTaken conflicts conflicting placeAmong offerCall settingIn readyIn placesOf placesFrom tried stateOf decided takeWithin takeCapped after run trialOf stoppedAt takenLedger offeredLedger closedLedger notOpen namedBy closedSet remaining closeProcess closeCall insertAt removeAt headed vectors sourceKeeps consistent redundant redundantWithin served taken clockOf event isNumber
 starred =
     let ab : watch 2 someOrder (a1 ++ a2 ++ b1) .window ≡ windowBytes 2 200 frontiersAt21 = refl in
     let ba : watch 2 someOrder (b1 ++ a1 ++ a2) .window ≡ windowBytes 2 200 frontiersAt21 = refl in

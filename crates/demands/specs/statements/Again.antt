@@ -2,7 +2,7 @@
 -- and that such offers make no difference. Proved in lists/Again and lists/WithoutAgains.
 use Prim.Native.Nat.{ℕ, _<_}
 use mathlib.Core.Path.{_≡_}
-use mathlib.Core.Bool.{true, cond}
+use mathlib.Core.Bool.{Bool, true, false, cond}
 use mathlib.Core.List.{List, [], _∷_, List·Memᴰ}
 use mathlib.Core.Logic.{_↔_, _≢_}
 use Rattle.clocks.specs.declared.Event.{Event}
@@ -11,7 +11,7 @@ use Rattle.clocks.specs.History.{In, taken}
 use Rattle.clocks.specs.Refusal.{Faultless}
 use Rattle.rules.specs.Formula.{Formula}
 use Rattle.numbers.specs.Refusal.{conflictNumber, takenNumber}
-use Rattle.answers.specs.Answer.{Answer, turnedBack, nothingReady, again}
+use Rattle.answers.specs.Answer.{Answer, turnedBack, state, nothingReady, held, again, found, absent, processClosed}
 use Rattle.call_open.specs.Open.{openCall}
 use Rattle.call_offer.specs.Offer.{offeredEvent, offerCall}
 use Rattle.demands.specs.Run.{Call, offers, Passed, Watch, answeredBy, after, opened}

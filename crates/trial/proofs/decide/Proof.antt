@@ -1,4 +1,4 @@
--- No event before i decided, and `seen` says whether one of them was ready: the laws `tried-pass`, `-full`, `-false`,
+-- No event tried before decided, and `seen` says whether one of them was ready: the laws `tried-pass`, `-full`, `-false`,
 -- `-fits` and `-end`. No frontier before j is what the event knows of: the laws `search-next`, `-here` and `-none`.
 use Rattle.trial.proofs.decide.Tie as tie
 use Prim.Native.Nat.{ℕ, _-_, _+_, _≤_}
@@ -32,32 +32,40 @@ use Rattle.trial.specs.TrialCode.{choiceFor}
 abbrev stands : List ℕ → Frontier → Bool
 stands known f = same (f .counts) known
 
--- The trial from pending event i on.
+-- The trial from the event after so many turns on.
 abbrev from : ℕ → List ℕ → ℕ → List ℕ → ℕ → ℕ → Bool → Decision
-from w s allowed window n i seen =
-    triedFrom w s (validAmong (frontiers w window n)) allowed (frontiers w window n) i seen
+from w s allowed window n turn seen =
+    triedFrom w s (validAmong (frontiers w window n)) allowed (frontiers w window n) turn seen
 
 abbrev Inv-loop : tie.InvT-loop
-Inv-loop s w window marks n allowed taken pending i e known j₀ j =
-    (j ≤ n) × (anyOf (stands known) (frontiers w window n) ≡ passesFrom n (frontierAt w window) (stands known) j)
+Inv-loop s w window marks n allowed taken pending ordered turn i e known j₀ j =
+    (n ≤ 1024) × (j ≤ n) × (anyOf (stands known) (frontiers w window n) ≡ passesFrom n (frontierAt w window) (stands known) j)
 
 abbrev μ-loop : tie.MeasureT-loop
-μ-loop s w window marks n allowed taken pending i e known j₀ j = n - j
+μ-loop s w window marks n allowed taken pending ordered turn i e known j₀ j = n - j
 
 abbrev Inv-events : tie.InvT-events
-Inv-events s w window marks₀ n allowed taken pending choice₀ i₀ marks choice i =
-    (i ≤ pending)
+Inv-events s w window marks₀ n allowed taken pending ordered choice₀ turn₀ marks choice turn =
+    (turn ≤ pending)
     × ((seen : Bool) × (choice ≡ Undecided seen)
-    × (trial w s allowed (frontiers w window n) ≡ from w s allowed window n i seen)
+    × (trial w s allowed (frontiers w window n) ≡ from w s allowed window n turn seen)
     × (length marks ≡ length marks₀))
 
 abbrev μ-events : tie.MeasureT-events
-μ-events s w window marks₀ n allowed taken pending choice₀ i₀ marks choice i = pending - i
+μ-events s w window marks₀ n allowed taken pending ordered choice₀ turn₀ marks choice turn = pending - turn
 
--- ---- Places in the walk: the start, where an event turned out to be ready, and the scan for what it knows of
+-- ---- Places in the walk: an event whose turn it is, the head of the loop over events, the start, where the event turned
+-- out to be ready, and the scan for what it knows of
+
+abbrev placed : tie.After-ready Inv-loop μ-loop Inv-events μ-events
+    → tie.After-place-in-turn Inv-loop μ-loop Inv-events μ-events
+placed c = c .before .before
+
+abbrev head : tie.After-ready Inv-loop μ-loop Inv-events μ-events → tie.At-events Inv-loop μ-loop Inv-events μ-events
+head c = placed c .before .before
 
 abbrev start : tie.After-ready Inv-loop μ-loop Inv-events μ-events → tie.Start Inv-loop μ-loop Inv-events μ-events
-start c = let read = c .before .before .before in read .before .before .before .before .before .before
+start c = let ordered = head c .before in ordered .before .before .before .before .before .before
 
 abbrev was-ready : tie.After-lowered Inv-loop μ-loop Inv-events μ-events
     → tie.After-ready Inv-loop μ-loop Inv-events μ-events
@@ -67,11 +75,11 @@ abbrev scanned : tie.After-counts-same Inv-loop μ-loop Inv-events μ-events
     → tie.After-lowered Inv-loop μ-loop Inv-events μ-events
 scanned c = let head = c .before .before .before in head .before
 
--- ---- The tests' answers are those of pending event number i
+-- ---- The tests' answers are those of the pending event
 
 -- The event and the frontiers, as the definition has them.
 abbrev event : tie.After-ready Inv-loop μ-loop Inv-events μ-events → Event
-event c = let a = start c .args in pendingAt (a .w) (now (a .«record»)) (c .before .before .before .events .i)
+event c = let a = start c .args in pendingAt (a .w) (now (a .«record»)) (placed c .place-in-turn .result)
 
 abbrev kept : tie.After-ready Inv-loop μ-loop Inv-events μ-events → List Frontier
 kept c = let a = start c .args in frontiers (a .w) (now (a .window)) (a .n)
@@ -80,8 +88,8 @@ tested-ready : (c : tie.After-ready Inv-loop μ-loop Inv-events μ-events)
     → readyIn (start c .args .w) (now (start c .args .«record»)) (event c) ≡ c .ready .result
 unfolding readyIn
 tested-ready c =
-    let head = c .before .before .before in
-    rw (← (c .before .pending-event .ensures), ← (head .before .before .taken-counts .ensures))
+    let counted = head c .before .before in
+    rw (← (c .before .pending-event .ensures), ← (counted .before .taken-counts .ensures))
     (sym (c .ready .ensures))
 
 -- What the event knows of is looked for among them,
@@ -112,7 +120,7 @@ is-known c =
     let low = scanned (c .before) in
     let a = start (was-ready low) .args in
     let l = c .before .before .before .before .loop in
-    tested-valid low ∙ l .inv .1
+    tested-valid low ∙ l .inv .2
     ∙ search-here (a .n) (frontierAt (a .w) (now (a .window))) (stands (low .lowered .result)) (l .j) (search needs)
     (tested-here (c .before) ∙ c .if3 .taken)
 
@@ -122,7 +130,7 @@ not-known c =
     let low = c .before .before in
     let a = start (was-ready low) .args in
     let l = c .before .loop in
-    tested-valid low ∙ l .inv .1
+    tested-valid low ∙ l .inv .2
     ∙ search-none (a .n) (frontierAt (a .w) (now (a .window))) (stands (low .lowered .result)) (l .j) (search needs)
 
 -- So many frontiers were counted, and fit or not.
@@ -145,17 +153,20 @@ tested-fits c =
 
 -- An event that is not ready is passed over, and so is one that does not fit.
 abbrev onward : tie.After-ready Inv-loop μ-loop Inv-events μ-events → ℕ → Bool → Decision
-onward c i seen = let a = start c .args in from (a .w) (now (a .«record»)) (a .allowed) (now (a .window)) (a .n) i seen
+onward c turn seen =
+    let a = start c .args in from (a .w) (now (a .«record»)) (a .allowed) (now (a .window)) (a .n) turn seen
 
-passed : (c : tie.Else1 Inv-loop μ-loop Inv-events μ-events) → let l = c .before .before .before .before .events in
-    onward (c .before) (l .i) (l .inv .1 .0) ≡ onward (c .before) (l .i + 1) (l .inv .1 .0)
-passed c = tried-pass _ _ _ _ _ _ _ (omega arith) (tested-ready (c .before) ∙ c .if1 .left)
+passed : (c : tie.Else1 Inv-loop μ-loop Inv-events μ-events) → let l = head (c .before) .events in
+    onward (c .before) (l .turn) (l .inv .1 .0) ≡ onward (c .before) (l .turn + 1) (l .inv .1 .0)
+passed c =
+    tried-pass _ _ _ _ _ _ _ _ (omega arith) (placed (c .before) .place-in-turn .ensures .0)
+    (tested-ready (c .before) ∙ c .if1 .left)
 
 passed-full : (c : tie.Else4 Inv-loop μ-loop Inv-events μ-events) → let r = trying (c .before) in
-    let l = r .before .before .before .events in
-    onward r (l .i) (l .inv .1 .0) ≡ onward r (l .i + 1) true
+    let l = head r .events in
+    onward r (l .turn) (l .inv .1 .0) ≡ onward r (l .turn + 1) true
 passed-full c =
-    tried-full _ _ _ _ _ _ _ (omega arith)
+    tried-full _ _ _ _ _ _ _ _ (omega arith) (placed (trying (c .before)) .place-in-turn .ensures .0)
     (tested-ready (trying (c .before)) ∙ scanned (asked (c .before) .before .before) .before .if1 .taken)
     (is-known (asked (c .before) .before))
     (tested-fits (c .before) ∙ c .if4 .left)
@@ -173,9 +184,15 @@ taken-counts-requires c κs = search needs
 pending-count-requires : tie.Need-pending-count-requires Inv-loop μ-loop Inv-events μ-events
 pending-count-requires c κs = search needs
 
+in-order-requires : tie.Need-in-order-requires Inv-loop μ-loop Inv-events μ-events
+in-order-requires c κs = search needs
+
 events-holds : tie.Need-events-holds Inv-loop μ-loop Inv-events μ-events
 unfolding triedFrom
 events-holds c = (search needs, (false, refl, refl, refl))
+
+place-in-turn-requires : tie.Need-place-in-turn-requires Inv-loop μ-loop Inv-events μ-events
+place-in-turn-requires c κs = (search needs, (search needs, (search needs, (search needs, search needs))))
 
 pending-event-requires : tie.Need-pending-event-requires Inv-loop μ-loop Inv-events μ-events
 pending-event-requires c κs = search needs
@@ -188,14 +205,14 @@ lowered-requires c κs = search needs
 
 loop-holds : tie.Need-loop-holds Inv-loop μ-loop Inv-events μ-events
 unfolding frontiers
-loop-holds c = (search needs, refl)
+loop-holds c = (search needs, search needs, refl)
 
 counts-at-requires : tie.Need-counts-at-requires Inv-loop μ-loop Inv-events μ-events
 counts-at-requires c κs =
-    let a = start (was-ready (c .before .before)) .args in
+    let first = start (was-ready (c .before .before)) in
     let l = c .before .loop in
-    let inside = place-within (l .j) (a .n) (a .w) (search needs) in
-    (search needs, (search needs, omega (arith, inside)))
+    let inside = place-within (l .j) (first .args .n) (first .args .w) (search needs) in
+    (search needs, (search needs, omega (arith, inside, first .pre .1 .1 .1 .1 .0 .1)))
 
 counts-same-requires : tie.Need-counts-same-requires Inv-loop μ-loop Inv-events μ-events
 counts-same-requires c κs = search needs
@@ -211,30 +228,35 @@ loop-again c =
     let a = start (was-ready (scanned (c .before))) .args in
     let l = c .before .before .before .before .loop in (
       search needs,
-      l .inv .1
+      search needs,
+      l .inv .2
           ∙ search-next (a .n) (frontierAt (a .w) (now (a .window))) (stands (scanned (c .before) .lowered .result))
           (l .j) (search needs)
           (tested-here (c .before) ∙ c .if3 .left),
     )
 
 kept-with-requires : tie.Need-kept-with-requires Inv-loop μ-loop Inv-events μ-events
-kept-with-requires c κs = (
-  search needs,
-  (search needs, (search needs, (search needs, (read-ready (scanned (c .before .before)), search needs)))),
-)
+kept-with-requires c κs =
+    let low = scanned (c .before .before) in
+    let first = start (was-ready low) in
+    let room = first .pre .1 .1 .1 .1 in
+    let long = head (was-ready low) .events .inv .1 .3 in (
+      search needs,
+      (first .pre .1 .0, (first .pre .1 .1 .0, (room .0, (read-ready low, omega (arith, long, room .1))))),
+    )
 
 fitting-requires : tie.Need-fitting-requires Inv-loop μ-loop Inv-events μ-events
 fitting-requires c κs = search needs
 
-add-i : tie.Need-add-i Inv-loop μ-loop Inv-events μ-events
-add-i c = search needs
+add-turn : tie.Need-add-turn Inv-loop μ-loop Inv-events μ-events
+add-turn c = search needs
 
 events-less : tie.Need-events-less Inv-loop μ-loop Inv-events μ-events
 events-less c = search needs
 
 events-again : tie.Need-events-again Inv-loop μ-loop Inv-events μ-events
 events-again c =
-    let l = c .before .before .before .before .events in (
+    let l = head (c .before) .events in (
       search needs,
       ⊎-elim
           (λ v.
@@ -285,11 +307,11 @@ returns-2 : tie.Need-returns-2 Inv-loop μ-loop Inv-events μ-events
 unfolding choiceFor
 returns-2 c =
     let low = c .before .before in
-    let l = was-ready low .before .before .before .events in (
+    let l = head (was-ready low) .events in (
       sym (ap (choiceFor _ _ _)
           (l .inv .1 .2
-          ∙ tried-false _ _ _ _ _ _ _ (omega arith) (tested-ready (was-ready low) ∙ low .before .if1 .taken)
-          (not-known c))),
+          ∙ tried-false _ _ _ _ _ _ _ _ (omega arith) (placed (was-ready low) .place-in-turn .ensures .0)
+          (tested-ready (was-ready low) ∙ low .before .if1 .taken) (not-known c))),
       λ i kept e. let z : _≡_ {A = ℕ} 0 1 = cc in absurd (omega arith),
     )
 
@@ -301,19 +323,20 @@ unfolding choiceFor
 returns-3 c =
     let r = trying (c .before) in
     let a = start r .args in
-    let l = r .before .before .before .events in
+    let l = head r .events in
+    let place = placed r .place-in-turn in
     let counted = c .before .before .before .before .kept-with in
     let read = r .before .pending-event .ensures in (
-      ap (Chosen (l .i))
+      ap (Chosen (place .result))
           (counted .ensures .0
           ∙ ap (λ (e : Event). keptAfter (settingIn (a .w) (now (a .«record»)) e)
           (frontiers (a .w) (now (a .window)) (a .n))) read)
           ∙ sym (ap (choiceFor (a .w) (now (a .«record»)) (frontiers (a .w) (now (a .window)) (a .n)))
-          (l .inv .1 .2 ∙ tried-fits _ _ _ _ _ _ _ (omega arith)
+          (l .inv .1 .2 ∙ tried-fits _ _ _ _ _ _ _ _ (omega arith) (place .ensures .0)
           (tested-ready r ∙ scanned (asked (c .before) .before .before) .before .if1 .taken)
           (is-known (asked (c .before) .before))
           (tested-fits (c .before) ∙ c .if4 .taken))),
-      λ i kept e. let same : i ≡ l .i = cc in rw (same, ← read) (counted .ensures .1),
+      λ i kept e. let same : i ≡ place .result = cc in rw (same, ← read) (counted .ensures .1),
     )
 
 pub decide-spec : {M : Type 1} → statement M
@@ -326,7 +349,9 @@ decide-spec =
     μ-events
     taken-counts-requires
     pending-count-requires
+    in-order-requires
     events-holds
+    place-in-turn-requires
     pending-event-requires
     ready-requires
     lowered-requires
@@ -338,7 +363,7 @@ decide-spec =
     loop-again
     kept-with-requires
     fitting-requires
-    add-i
+    add-turn
     events-less
     events-again
     same-length
