@@ -3,9 +3,9 @@ use Prim.Native.Nat.{ℕ, _*_}
 
 pub data Result : Type 0 where
   -- turned back, by a number of 01 or 02
-  refused : ℕ → Result
+  refused : (n : ℕ) → Result
   -- done: the value, as the rows of a page
-  gives : ℕ → Result
+  gives : (n : ℕ) → Result
 
 -- The reply word, as replyWord has it: number + 65,536 value; flag and place are 0.
 unfoldable pub resultWord : (r : Result) → ℕ

@@ -5,9 +5,9 @@ use mathlib.Core.List.{List, [], _∷_, _++_}
 
 pub data Part : Type 0 where
   -- so many bytes
-  plain : ℕ → Part
+  plain : (n : ℕ) → Part
   -- so many counts
-  counts : ℕ → Part
+  counts : (n : ℕ) → Part
 
 -- The length of a part, and of parts one behind the other.
 unfoldable pub partLength : (w : ℕ) → (part : Part) → ℕ

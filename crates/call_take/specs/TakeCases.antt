@@ -1,27 +1,25 @@
 -- A take comes, on all bytes, to one of four things: its buffers turn it back, no event is decided on, one leaves with
 -- a false clock, or one is taken.
-use Prim.Native.Nat.{ℕ, _+_, _≤_}
+use Prim.Native.Nat.{ℕ, _≤_}
 use native.Mathlib.Omega.{arith}
 use native.Mathlib.Nat.{min-le-right}
-use mathlib.Core.Path.{_≡_, refl, ap, _∙_}
-use mathlib.Core.Bool.{Bool, false, not, _||_}
+use mathlib.Core.Path.{_≡_, refl}
+use mathlib.Core.Bool.{Bool, not, _||_}
 use mathlib.Core.List.{List}
 use mathlib.Core.Logic.{_⊎_, inl, inr}
 use lib.Dec.{T, ltb, leb, eqb, leb→le, ltb→lt}
-use lib.ListN.{length, getD}
-use Rattle.clocks.specs.declared.Event.{Event}
+use lib.ListN.{length}
 use Rattle.clocks.specs.stored.BoundedLaws.{and-l, and-r, or-false-e}
-use Rattle.clocks.specs.stored.CountsLaws.{length-listOf, getD-listOf}
 use Rattle.frontiers.specs.declared.Frontier.{Frontier}
 use Rattle.frontiers.specs.Bytes.{frontiers}
 use Rattle.window.specs.Step.{fits, keptAfter}
-use Rattle.records.specs.Record.{recordLength, pendingCount, keptCount, pendingAt, pendingEvents, readyIn}
+use Rattle.records.specs.Record.{recordLength, keptCount, pendingAt, readyIn}
 use Rattle.refusals.specs.Refusals.{badRecordLength, badWindowLength, roomOf, badState}
 use Rattle.refusals.specs.RefusalLaws.{right-length, room-few}
 use Rattle.answers.specs.Answer.{turnedBack}
 use Rattle.answers.specs.Turns.{by-test}
-use Rattle.trial.specs.Trial.{undecided, false-clock, chosen, validAmong, settingIn, trial}
-use Rattle.trial.specs.TrialLaws.{Outcome, outcome, none-decides, falsifies, chooses}
+use Rattle.trial.specs.Trial.{Decision, undecided, false-clock, chosen, validAmong, settingIn, trial}
+use Rattle.trial.specs.TrialLaws.{Right, trial-right}
 use Rattle.call_take.specs.Take.{Taken, decided, takeWithin, allowedOf, takeCapped}
 
 -- Of an event that is taken: it is ready, and 1 to 1,024 frontiers are kept.
@@ -48,34 +46,25 @@ module _ (w allowed : ℕ) (s window scratch : List ℕ) (long : length s ≡ re
   abbrev kept : List Frontier
   kept = frontiers w window (keptCount s)
 
-  taking : (e : Event) (i : ℕ) → e ≡ pendingAt w s i → T (readyIn w s e) → T (fits (settingIn w s e) allowed kept)
+  taking : (i : ℕ) → T (readyIn w s (pendingAt w s i)) → T (fits (settingIn w s (pendingAt w s i)) allowed kept)
       → Taking w s kept i
   unfolding fits
-  taking e i q r f =
+  taking i r f =
       let n = keptAfter (settingIn w s (pendingAt w s i)) kept in
-      let here : T (ltb 0 n) = and-l (ltb 0 n) (leb n allowed) (rw q at f) in
-      let most : n ≤ allowed = leb→le n allowed (and-r (ltb 0 n) (leb n allowed) (rw q at f)) in
-      record { long = long; ready = rw q at r; some = ltb→lt 0 n here; few = omega arith }
+      let here : T (ltb 0 n) = and-l (ltb 0 n) (leb n allowed) f in
+      let most : n ≤ allowed = leb→le n allowed (and-r (ltb 0 n) (leb n allowed) f) in
+      record { long = long; ready = r; some = ltb→lt 0 n here; few = omega arith }
 
   -- The ready pending events are gone through.
   within-case : Case w s window scratch kept (takeWithin w allowed s window)
-  unfolding takeWithin pendingEvents
-  within-case = go (outcome w s (validAmong kept) allowed kept first 0 false (pendingEvents w s))
+  unfolding takeWithin
+  within-case = go (trial w s allowed kept) (trial-right w s (validAmong kept) allowed kept)
     where
-      first : Event
-      first = pendingAt w s 0
-
-      go : Outcome w s (validAmong kept) allowed kept 0 false (pendingEvents w s) first
-          → Case w s window scratch kept (decided w s window kept (trial w s allowed kept))
-      go (none-decides after t u o) = none after (ap (decided w s window kept) t)
-      go (falsifies j l t r n u) = falsified (0 + j) (ap (decided w s window kept) t)
-      go (chooses j l t r v f u) =
-          let z : 0 + j ≡ j = omega arith in
-          let many = length-listOf (pendingCount s) (pendingAt w s) in
-          let e : getD (pendingEvents w s) j first ≡ pendingAt w s j =
-          getD-listOf (pendingCount s) (pendingAt w s) j first (omega (arith, l, many)) in
-          takes j (taking (getD (pendingEvents w s) j first) j e r f)
-          (ap (decided w s window kept) (t ∙ ap chosen z))
+      go : (d : Decision) → Right w s (validAmong kept) allowed kept d
+          → Case w s window scratch kept (decided w s window kept d)
+      go (undecided seen) r = none seen refl
+      go (false-clock i) r = falsified i refl
+      go (chosen i) r = takes i (taking i (r .1) (r .3)) refl
 
 pub take-case : (w cap : ℕ) (s window scratch : List ℕ) → TakeCase w cap s window scratch
 unfolding takeCapped

@@ -4,15 +4,15 @@ use Prim.Native.Nat.{ℕ}
 -- A formula of PaCTL (source 000, section 2: the logic's syntax).
 pub data Pactl : Type 0 where
   -- proposition b of process p
-  proposition : ℕ → ℕ → Pactl
-  negation : Pactl → Pactl
-  conjunction : Pactl → Pactl → Pactl
+  proposition : (p b : ℕ) → Pactl
+  negation : (f : Pactl) → Pactl
+  conjunction : (f g : Pactl) → Pactl
   -- EY φ: some preceding cut has φ
-  existsYesterday : Pactl → Pactl
+  existsYesterday : (f : Pactl) → Pactl
   -- E(φ S ψ)
-  existsSince : Pactl → Pactl → Pactl
+  existsSince : (f g : Pactl) → Pactl
   -- A(φ S ψ)
-  allSince : Pactl → Pactl → Pactl
+  allSince : (f g : Pactl) → Pactl
 
 -- φ ∨ ψ = ¬(¬φ ∧ ¬ψ) (source 000, section 2: additional operators; so are the next seven).
 unfoldable pub disjunction : (x y : Pactl) → Pactl

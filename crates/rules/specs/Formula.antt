@@ -10,10 +10,10 @@ use Rattle.pactl.specs.Pactl.{Pactl, proposition, negation, conjunction, exists
 
 -- A form of a rule's text (01, The rule): (at p b), a word alone, a word and one form, a word and two forms.
 pub data Formula : Type 0 where
-  atom : ℕ → ℕ → Formula
-  constant : Constant → Formula
-  unary : Unary → Formula → Formula
-  binary : Binary → Formula → Formula → Formula
+  atom : (p b : ℕ) → Formula
+  constant : (w : Constant) → Formula
+  unary : (w : Unary) (f : Formula) → Formula
+  binary : (w : Binary) (f g : Formula) → Formula
 
 -- The meaning of a word alone: true; false = ¬true.
 unfoldable pub constantMeaning : (True : Constant) → Pactl

@@ -57,7 +57,7 @@ wordAt s i =
 
 -- What reading a form gives: the place after it and the form, or a fault's number and place.
 pub data Reading : Type 0 where
-  formed : ℕ → Formula → Reading
+  formed : (place : ℕ) (f : Formula) → Reading
   faulty : (n place : ℕ) → Reading
 
 -- Goes on after a form; a fault stays.

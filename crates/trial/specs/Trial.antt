@@ -47,9 +47,9 @@ inTurn es = placesFrom 9 0 0 es
 
 -- What take decides: on nothing (was some event ready?), that pending event i has a false clock, or to take event i.
 pub data Decision : Type 0 where
-  undecided : Bool → Decision
-  false-clock : ℕ → Decision
-  chosen : ℕ → Decision
+  undecided : (seen : Bool) → Decision
+  false-clock : (i : ℕ) → Decision
+  chosen : (i : ℕ) → Decision
 
 -- The pending events with these numbers are tried one after the other, with a test of their clocks, where `seen` says
 -- that one before was ready and `allowed` frontiers fit.

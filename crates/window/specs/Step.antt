@@ -64,8 +64,8 @@ filtered t (x ∷ xs) = cond (t x) (x ∷ filtered t xs) (filtered t xs)
 
 -- A frontier to be laid down: one that stays, or a new one to be judged.
 pub data Slot : Type 0 where
-  staying : Frontier → Slot
-  fresh : Frontier → Slot
+  staying : (f : Frontier) → Slot
+  fresh : (f : Frontier) → Slot
 
 unfoldable pub slotCounts : (slot : Slot) → List ℕ
 slotCounts (staying f) = f .counts
