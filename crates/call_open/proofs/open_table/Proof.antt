@@ -30,11 +30,13 @@ same-length c = search needs
 same-length-2 : tie.Need-same-length-2
 same-length-2 c = search needs
 
+-- The reply by rewriting and not by `cc`: of a wrong word `cc` only says that it met a bound of its own.
 returns : tie.Need-returns
 returns c =
     let a = c .before .before .before .before .before .before .before .before .before .before .before .before .before .before .args in
-    let n = length (now (a .window)) in (
-      cc (opened-reply (a .w) (a .k) (a .labels) (now (a .table)) (a .lines) n),
+    let n = length (now (a .window)) in
+    let j = c .before .before .before .before .before .before .before .before .before .before in (
+      rw (c .state-word .ensures, c .before .has-bit .ensures, j .judge .ensures) (opened-reply (a .w) (a .k) (a .labels) (now (a .table)) (a .lines) n),
       (
         cc (opened-bytes (a .w) (a .k) (a .labels) (now (a .table)) (a .lines) n),
         cc (opened-window (a .w) (a .k) (a .labels) (now (a .table)) (a .lines) n),

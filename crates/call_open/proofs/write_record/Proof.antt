@@ -44,10 +44,12 @@ copy-in-requires c κs = let a = c .before .before .before .before .before .befo
 same-length : tie.Need-same-length
 same-length c = let a = c .before .before .before .before .before .before .before .before .before .before .before .before .before .before .before .args in omega (arith, kept-length (c .before .before .before .before .before .before .before .before .before .before .clear .last .0) (a .k) (a .lines))
 
+-- By rewriting and not by `cc`: of a wrong byte `cc` only says that it met a bound of its own.
 returns : tie.Need-returns
 returns c =
     let a = c .before .before .before .before .before .before .before .before .before .before .before .before .before .before .before .args in
-    cc (stored-record (a .w) (a .k) (a .lines) (now (a .«record»)) (now (a .table)) (search needs) (search needs) (search needs))
+    let stored = stored-record (a .w) (a .k) (a .lines) (now (a .«record»)) (now (a .table)) (search needs) (search needs) (search needs) in
+    rw (c .before .before .copy-in .ensures, c .before .before .before .before .before .before .write-u32 .ensures, c .before .before .before .before .before .before .before .before .before .before .clear .ensures, c .before .before .before .before .before .before .before .before .before .before .before .before .table-place .ensures .0) stored
 
 pub write-record-spec : {M : Type 1} → statement M
 write-record-spec =

@@ -1,6 +1,6 @@
 -- The last frontier's values.
 use Rattle.call_take.proofs.verdict.Tie as tie
-use Prim.Native.Nat.{ℕ, _-_}
+use Prim.Native.Nat.{ℕ, _+_, _-_, _*_, _≤_, _<_}
 use native.Mathlib.Omega.{arith}
 use mathlib.Core.Path.{sym, ap, _∙_}
 use borrow.Author.Needs.{needs}
@@ -14,10 +14,12 @@ use Rattle.call_take.proofs.TakenSteps.{last-values}
 sub-values-at : tie.Need-sub-values-at
 sub-values-at c = search needs
 
+-- Whichever of them is read, so that a wrong one is refused for its verdict and not here.
+within : (i kept size bytes : ℕ) → i < kept → kept * size ≤ bytes → i * size + size ≤ bytes
+within i kept size bytes h long = omega (arith, count-within i kept size h)
+
 values-at-requires : tie.Need-values-at-requires
-values-at-requires c κs =
-    let a = c .before .args in
-    (search needs, (omega arith, omega (arith, count-within (a .kept - 1) (a .kept) (frontierLength (a .w)) (omega arith))))
+values-at-requires c κs = let a = c .before .args in (search needs, (omega arith, within _ (a .kept) (frontierLength (a .w)) _ (omega arith) (search needs)))
 
 sub-has-bit : tie.Need-sub-has-bit
 sub-has-bit c = search needs
