@@ -49,8 +49,8 @@
 extern "C" {
 #endif
 
-#define WATCH_VERSION "0.9.0"    /* of this header and of the library that it was installed with */
-#define WATCH_VERSION_NUMBER 900 /* the same as a number: 10000 major + 100 minor + patch */
+#define WATCH_VERSION "0.9.1"    /* of this header and of the library that it was installed with */
+#define WATCH_VERSION_NUMBER 901 /* the same as a number: 10000 major + 100 minor + patch */
 
 #define WATCH_PROCESSES 8        /* at most so many processes */
 #define WATCH_LINES 64           /* a rule has at most so many lines */
