@@ -3,10 +3,9 @@
 -- What a reader has to believe
 pub mod Split
 pub mod Stages
-pub mod Answered
+pub mod Turn
 -- What is proved of it
 pub mod TakenCountsLaws
 pub mod CallAnswers
 pub mod LineAnswers
-pub mod AnsweredTheorem
 pub mod Rooms
