@@ -4,13 +4,19 @@ use native.Mathlib.Omega.{arith}
 use mathlib.Core.Path.{_≡_, refl, sym, ap, _∙_}
 use mathlib.Core.Bool.{Bool, true, false, cond}
 use mathlib.Core.List.{List, [], _++_, append-assoc, append-nil}
+use lib.Dec.{eqb}
 use lib.ListN.{length, take, drop}
-use lib.Seq.{length-take-le, take-append-add, take-append-le}
+use lib.Seq.{length-take-le, take-append-add, take-append-le, take-at, drop-at}
+use Rattle.records.specs.Record.{takenCounts}
 use Rattle.call_take.specs.Take.{Taken, takeCall}
 use Rattle.reply_text.specs.Form.{programWidth}
 use Rattle.reply_text.specs.Texts.{answerText}
-use Rattle.replies.specs.Following.{takesAgain}
-use Rattle.program.specs.Turn.{Took, takesWhile}
+use Rattle.replies.specs.Replies.{Possible}
+use Rattle.replies.specs.Following.{accepted, takesAgain, eventStage, overStage}
+use Rattle.program.specs.declared.Session.{Session}
+use Rattle.program.specs.Stages.{Standing, lineRead, Stands}
+use Rattle.program.specs.Turn.{Took, takesWhile, mostTakes, windowBytes, cut, turned, Responded}
+use Rattle.program.specs.LineAnswers.{line-possible}
 
 -- What is laid at the front of a part stands after what stands before the part.
 pub laid-after : (xs ys : List ℕ) (a r k : ℕ) → a ≤ length xs → r ≤ length ys
@@ -82,3 +88,72 @@ pub ahead-last : (whole : Took) (before : List ℕ) (k : ℕ) (s window scratch 
 unfolding takesWhile
 ahead-last whole before k s window scratch laid h =
     (sym (append-nil laid) ∙ h .text, h .bytes, h .kept, h .spent)
+
+-- ---- The whole turn
+
+-- The part that is lent is what the calls get.
+pub cut-stands : (t : Standing) (r : Session) (rule s window : List ℕ) → Stands t r rule s window
+    → Stands (cut t) r rule s (take (windowBytes (r .room)) window)
+unfolding cut
+cut-stands t r rule s window h = record {
+  replied = h .replied;
+  stage = h .stage;
+  processes = h .processes;
+  frontiers = h .frontiers;
+  text = h .text;
+  bytes = h .bytes;
+  kept = rw (h .frontiers, h .kept);
+}
+
+module _ (t : Standing) (session next : Session) (line rule s window rule′ s′ part : List ℕ)
+    (h : Stands t session rule s window) (g : Stands (lineRead (cut t) line) next rule′ s′ part) where
+  abbrev u : Standing
+  u = lineRead (cut t) line
+
+  -- The line's answer is possible with the record that it leaves.
+  pub answer-told : session .stage < overStage
+      → Possible (eqb (session .stage) eventStage) (takenCounts programWidth s′) (u .answer)
+  unfolding cut
+  answer-told l = rw (h .stage, g .bytes) (line-possible (cut t) line (rw (h .stage) at l))
+
+  -- The answer's text, and those of the takes; what is left.
+  module _ (scratch out s″ part″ lent″ before : List ℕ) (follows : Bool) (end : ℕ) (on : Bool) where
+    abbrev n : ℕ
+    n = windowBytes (session .room)
+
+    abbrev o : Took
+    o = takesWhile mostTakes follows (next .k) s′ (take n (part ++ drop n window)) (take n scratch)
+
+    pub responded : length part ≡ n → before ≡ answerText (next .k) (u .answer) → follows ≡ accepted (u .answer)
+        → take end out ≡ before ++ o .text → s″ ≡ o .bytes → part″ ≡ o .window → lent″ ≡ o .scratch
+        → Responded (turned t line scratch) (record { session = next; length = end; on = on }) rule′ s″
+        (part″ ++ drop n (part ++ drop n window)) (lent″ ++ drop n scratch) out
+    unfolding turned
+    responded long text following laid bytes kept spent =
+        let m = windowBytes (t .room) in
+        let same = take-at part (drop n window) n long in
+        let w = takesWhile mostTakes (accepted (u .answer)) (u .k) (u .bytes) (u .window) (take m scratch) in
+        let q : o ≡ w = rw (same, following, g .processes, g .bytes, g .kept, h .frontiers) in
+        let beyond : drop n window ≡ drop m (t .window) = rw (h .frontiers, h .kept) in
+        let first : before ≡ answerText (u .k) (u .answer) =
+        text ∙ ap (λ (k : ℕ). answerText k (u .answer)) (g .processes) in
+        record {
+          stands = record {
+            replied = g .replied;
+            stage = g .stage;
+            processes = g .processes;
+            frontiers = g .frontiers;
+            text = g .text;
+            bytes = bytes ∙ ap (λ (x : Took). x .bytes) q;
+            kept =
+                ap (λ (x : List ℕ). part″ ++ x) (drop-at part (drop n window) n long ∙ beyond)
+                ∙ ap (λ (x : List ℕ). x ++ drop m (t .window)) (kept ∙ ap (λ (x : Took). x .window) q);
+          };
+          laid =
+              laid
+              ∙ ap (λ (x : List ℕ). x ++ o .text) first
+              ∙ ap (λ (x : Took). answerText (u .k) (u .answer) ++ x .text) q;
+          spent =
+              ap (λ (x : List ℕ). x ++ drop n scratch) (spent ∙ ap (λ (x : Took). x .scratch) q)
+              ∙ ap (λ (r : ℕ). w .scratch ++ drop (windowBytes r) scratch) (h .frontiers);
+        }
