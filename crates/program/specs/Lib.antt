@@ -8,4 +8,6 @@ pub mod Turn
 pub mod TakenCountsLaws
 pub mod CallAnswers
 pub mod LineAnswers
+pub mod PendingLaws
+pub mod TakesTheorem
 pub mod Rooms

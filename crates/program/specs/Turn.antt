@@ -1,19 +1,16 @@
 -- A line with its takes (01, Examples: the program): what is printed, and what the program knows then. After an
--- accepted event it takes until nothing is ready or 36. That the takes come to an end, and that every session is known,
--- is proved in TurnTheorem.
+-- accepted event it takes until nothing is ready or 36. That the takes come to an end is proved in TakesTheorem.
 use Prim.Native.Nat.{ℕ, zero, suc, _*_}
 use mathlib.Core.Path.{_≡_}
 use mathlib.Core.Bool.{Bool, true, false}
 use mathlib.Core.List.{List, [], _++_}
 use lib.ListN.{take, drop}
-use Rattle.answers.specs.Answer.{Answer}
+use Rattle.answers.specs.Answer.{nothingReady}
 use Rattle.call_take.specs.Take.{takeCall}
-use Rattle.program.specs.declared.Session.{Session}
 use Rattle.program.specs.declared.Response.{Response}
 use Rattle.reply_text.specs.Form.{programWidth, programFrontier}
 use Rattle.reply_text.specs.Texts.{answerText}
-use Rattle.replies.specs.Replies.{partsOf}
-use Rattle.replies.specs.Following.{accepted, takesAgain}
+use Rattle.replies.specs.Following.{accepted, takesAgain, watchStage}
 use Rattle.program.specs.Stages.{Standing, lineRead, Stands}
 
 -- ---- Takes
@@ -59,6 +56,18 @@ TakesEnd =
 -- The bytes of a window that has room for so many frontiers.
 abbrev pub windowBytes : (room : ℕ) → ℕ
 windowBytes room = programFrontier * room
+
+-- Before the first line.
+unfoldable pub atFirst : (bytes window : List ℕ) → Standing
+atFirst bytes window = record {
+  answer = nothingReady;
+  stage = watchStage;
+  k = 0;
+  room = 0;
+  rule = [];
+  bytes = bytes;
+  window = window;
+}
 
 -- The same, where the window is the part of its buffer that the room asks for.
 unfoldable pub cut : Standing → Standing
@@ -107,22 +116,3 @@ pub record Responded (u : Turned) (r : Response) (rule state window scratch out 
   pub stands : Stands (u .standing) (r .session) rule state window
   pub laid : take (r .length) out ≡ u .text
   pub spent : scratch ≡ u .scratch
-
--- What the program knows by its session and buffers, where the last line's answer is a.
-unfoldable pub known : Answer → Session → List ℕ → List ℕ → List ℕ → Standing
-known a s rule bytes window = record {
-  answer = a;
-  stage = s .stage;
-  k = s .k;
-  room = s .room;
-  rule = take (s .text) rule;
-  bytes = bytes;
-  window = window;
-}
-
--- So the promise speaks of every session: the first has the parts of `nothingReady`, a later one those of the answer to
--- the line before.
-abbrev pub EachSessionIsKnown : Type 0
-EachSessionIsKnown =
-    (a : Answer) (s : Session) (rule bytes window : List ℕ) → s .reply ≡ partsOf a
-    → Stands (known a s rule bytes window) s rule bytes window

@@ -12,10 +12,10 @@ use replies::takes_again;
 use reply_text::answer_text;
 use reply_text::form::FRONTIER_BYTES;
 use watch32::watch32_take;
-ghost use Prim.Native.Nat.{_+_, _*_, _≤_, _<_};
+ghost use Prim.Native.Nat.{ℕ, _+_, _*_, _≤_, _<_};
 ghost use mathlib.Core.Path.{_≡_};
 ghost use mathlib.Core.Bool.{cond};
-ghost use mathlib.Core.List.{_++_};
+ghost use mathlib.Core.List.{List, _++_};
 ghost use lib.Dec.{ltb};
 ghost use lib.ListN.{length, take};
 ghost use Rattle.records.specs.Record.{recordLength, takenCounts};
@@ -26,7 +26,7 @@ ghost use Rattle.reply_text.specs.Texts.{answerText};
 ghost use Rattle.replies.specs.Replies.{partsOf, Possible};
 ghost use Rattle.replies.specs.Following.{takesAgain, overStage};
 ghost use Rattle.program.specs.Stages.{Standing, Stands, Within};
-ghost use Rattle.program.specs.Turn.{takesWhile, mostTakes, turned, Responded};
+ghost use Rattle.program.specs.Turn.{takesWhile, mostTakes, atFirst, turned, Responded};
 
 // One answer's text has room in so many bytes.
 const TEXT_BYTES: usize = 256;
@@ -119,6 +119,25 @@ fn take_all(
         left = turns(took.follows, left - 1);
     }
     at
+}
+
+// Where the program stands before the first line.
+pub fn begin() -> Session
+    ensures { λ r. ⌜ ((rule bytes window : List ℕ) → Stands (atFirst bytes window) r rule bytes window) ⌝ }
+    ensures { λ r. ⌜ ((n : ℕ) → Within n r) ⌝ }
+{
+    Session {
+        stage: 0,
+        k: 0,
+        room: 0,
+        text: 0,
+        reply: Reply {
+            number: 0,
+            place: 0,
+            holds: false,
+            value: 0,
+        },
+    }
 }
 
 // Answers a line, with the takes that follow it. The window and the scratch are whole buffers, and the calls are lent
