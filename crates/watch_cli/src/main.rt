@@ -13,7 +13,7 @@ use reply_text::form::RECORD_BYTES;
 use reply_text::form::WINDOW_BYTES;
 
 const OUT: i32 = 1;
-// What is kept of a line. Its first 4,107 bytes decide what it is answered with (line_laws LinePrefixDecides).
+// What is kept of a line. Its first 4,107 bytes decide what it is answered with (line_laws LinePrefix).
 const LINE_BYTES: usize = 4112;
 
 // Answers line after line, until the input or the program is over. A line's answers are written, whole, before the next
