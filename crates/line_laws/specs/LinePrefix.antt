@@ -6,7 +6,7 @@ use mathlib.Core.List.{List}
 use lib.ListN.{take}
 use Rattle.lines.specs.Lines.{watchLine, ruleLine, startLine, didLine}
 
--- So many bytes are enough: 4,096 may pass, and of a number that begins in them eleven digits show that it is too large.
+-- So many bytes are enough: 4,096 may pass, and eleven digits show that a number which begins in them is too large.
 abbrev pub decidingBytes : ℕ
 decidingBytes = 4107
 

@@ -2,7 +2,7 @@
 use Prim.Native.Nat.{ℕ, _+_, _-_, _≤_, _<_}
 use native.Mathlib.Omega.{arith}
 use mathlib.Core.Path.{_≡_, sym, subst, _∙_, ap}
-use mathlib.Core.Bool.{Bool, true, false, cond, not, _||_}
+use mathlib.Core.Bool.{Bool, true, false, not, _||_}
 use mathlib.Core.List.{List}
 use lib.Dec.{T, eqb}
 use lib.ListN.{length, getD}
@@ -19,7 +19,7 @@ use Rattle.frontiers.specs.Bytes.{countBytes, frontiers}
 use Rattle.records.specs.Record.{takenPlace, clocksPlace, recordLength, pendingPlace, pendingCount, keptCount, takenCounts, pendingAt, pendingEvents, removed, clocksSet, counted}
 use Rattle.refusals.specs.Refusals.{badRecordLength, badWindowLength, roomOf, badState}
 use Rattle.refusals.specs.RefusalLaws.{right-length, state-within}
-use Rattle.answers.specs.Answer.{turnedBack, stateOf}
+use Rattle.answers.specs.Answer.{turnedBack}
 use Rattle.answers.specs.Turns.{by-test}
 use Rattle.window.specs.Step.{stepped}
 use Rattle.trial.specs.Trial.{validAmong, settingIn, undecided, false-clock, chosen, tried}

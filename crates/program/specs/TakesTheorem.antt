@@ -18,7 +18,8 @@ stopped zero k s window scratch = refl
 stopped (suc n) k s window scratch = refl
 
 -- One more than the pending events is enough; where there are more than 32 the first take is refused.
-enough : (n : ℕ) (follows : Bool) (k : ℕ) (s window scratch : List ℕ) → 0 < n → (pendingCount s ≤ 32 → pendingCount s < n)
+enough : (n : ℕ) (follows : Bool) (k : ℕ) (s window scratch : List ℕ) → 0 < n
+    → (pendingCount s ≤ 32 → pendingCount s < n)
     → takesWhile n follows k s window scratch .follows ≡ false
 unfolding takesWhile
 enough zero follows k s window scratch some less = absurd (omega arith)

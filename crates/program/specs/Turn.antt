@@ -45,7 +45,7 @@ takesWhile (suc n) true k bytes window scratch =
 abbrev pub mostTakes : ℕ
 mostTakes = 33
 
--- So many takes are enough, whatever the buffers hold: behind them none is to follow.
+-- So many takes are enough, whatever the buffers hold: after them none is to follow.
 abbrev pub TakesEnd : Type 0
 TakesEnd =
     (follows : Bool) (k : ℕ) (bytes window scratch : List ℕ)

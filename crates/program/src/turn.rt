@@ -63,7 +63,8 @@ fn take_next(
     requires { ⌜ at + 256 ≤ length (now out) ⌝ }
     ensures end { λ r. ⌜ r .end ≤ at + 256 ⌝ }
     ensures text { λ r. ⌜ take (r .end) (now (out .exit)) ≡ take at (now (out .entry))
-        ++ answerText k (takeCall programWidth (now («record» .entry)) (now (window .entry)) (now (scratch .entry)) .answer) ⌝ }
+        ++ answerText k (takeCall programWidth (now («record» .entry)) (now (window .entry))
+        (now (scratch .entry)) .answer) ⌝ }
     ensures follows { λ r. ⌜ r .follows ≡ takesAgain (takeCall programWidth (now («record» .entry))
         (now (window .entry)) (now (scratch .entry)) .answer) ⌝ }
     ensures bytes { λ r. ⌜ now («record» .exit) ≡ takeCall programWidth (now («record» .entry)) (now (window .entry))

@@ -93,7 +93,10 @@ respond-requires c κs =
     let line = c .before .before .before .before .before .before .before .before .before .line2 .given in
     let short = length-take-le (n .result .length) (n .last .1 .1 .0) (n .ensures .0) in (
       l .inv .1,
-      (omega (arith, short, n .ensures .0, line, l .inv .5), (rw (l .inv .5) (l .inv .2), (l .inv .6, l .inv .7, l .inv .8, omega (arith, l .inv .9)))),
+      (
+        omega (arith, short, n .ensures .0, line, l .inv .5),
+        (rw (l .inv .5) (l .inv .2), (l .inv .6, l .inv .7, l .inv .8, omega (arith, l .inv .9))),
+      ),
     )
 
 array-share-prefix-out : tie.Need-array-share-prefix-out Inv-loop μ-loop
@@ -123,7 +126,8 @@ loop-again c =
     let rule : length (r .last .1 .1 .0) ≡ 4112 = out .before .before .before .before .rule2 .given in
     let kept = answered out .before .before .before .before .before .before .before .before .before .before in
     let chunk = kept .before .chunk2 .given in
-    let on = goes-on (r .result .on) (not (c .before .before .before .before .write-all .result) && ltb (head n .loop .session .stage) 3) (c .before .if2 .left) in (
+    let unwritten = not (c .before .before .before .before .write-all .result) in
+    let on = goes-on (r .result .on) (unwritten && ltb (head n .loop .session .stage) 3) (c .before .if2 .left) in (
       omega (arith, n .next-line .ensures .1, chunk),
       ltb-true (r .result .session .stage) overStage (sym (r .ensures .1 .1 .1) ∙ on),
       subst (λ (m : ℕ). Within m (r .result .session)) rule (r .ensures .1 .0),

@@ -1,9 +1,9 @@
+-- The text stands at the front of the part that is lent, and so after what is laid: the law `laid-after`.
 use native.Mathlib.Omega.{arith}
-use mathlib.Core.Path.{_≡_, refl, sym, ap, _∙_}
-use Prim.Native.Nat.{ℕ, _≤_, _<_, _-_, _+_, _*_}
+use mathlib.Core.Path.{ap, _∙_}
+use Prim.Native.Nat.{ℕ, _≤_, _-_, _+_}
 use mathlib.Core.List.{List, _++_}
-use lib.ListN.{length, getD, take, drop, set, length-set}
-use mathlib.Core.Logic.{⊎-elim}
+use lib.ListN.{take}
 use denote.Ref.{now}
 use Rattle.program.proofs.TurnSteps.{laid-after}
 use borrow.Author.Needs.{needs}
@@ -36,7 +36,13 @@ returns c =
     let z = c .before .before .answer-text in
     let a = c .before .before .before .before .before .before .args in
     let short : z .result ≤ 256 = search needs in
-    (omega (arith, short), λ b p e. laid-after (now (a .out)) (z .last .1 .1 .1 .1 .0) (a .at) (z .result) (a .at + 256 - a .at) (search needs) (search needs) ∙ ap (λ (t : List ℕ). take (a .at) (now (a .out)) ++ t) (z .ensures .1 b p e))
+    let part = z .last .1 .1 .1 .1 .0 in
+    let length = a .at + 256 - a .at in (
+      omega (arith, short),
+      λ b p e.
+          laid-after (now (a .out)) part (a .at) (z .result) length (search needs) (search needs)
+          ∙ ap (λ (t : List ℕ). take (a .at) (now (a .out)) ++ t) (z .ensures .1 b p e),
+    )
 
 pub lay-spec : {M : Type 1} → statement M
 lay-spec =

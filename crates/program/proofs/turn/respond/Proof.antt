@@ -2,7 +2,7 @@
 -- takes' texts stand after it (`responded`). The room is within the buffers.
 use native.Mathlib.Omega.{arith}
 use mathlib.Core.Path.{_≡_, refl, sym, _∙_}
-use Prim.Native.Nat.{ℕ, _≤_}
+use Prim.Native.Nat.{_≤_}
 use mathlib.Core.List.{_++_}
 use lib.ListN.{length, drop}
 use lib.Seq.{length-take-le}
@@ -84,10 +84,11 @@ slice-aggregate-take-all-2 c =
 take-all-requires : tie.Need-take-all-requires
 take-all-requires c κs =
     let f = followed (c .before .before .before) in
+    let laid = f .before .before .before in
     let w = lent f in
     let p = start (answered w) .pre .1 .1 .1 in (
       answered w .answer .ensures .1 .processes,
-      (w .before .before .«record» .given ∙ p .0, omega (arith, f .before .before .before .lay .ensures .0, f .before .before .out .given, p .3)),
+      (w .before .before .«record» .given ∙ p .0, omega (arith, laid .lay .ensures .0, f .before .before .out .given, p .3)),
     )
 
 same-length : tie.Need-same-length
@@ -111,17 +112,23 @@ returns c =
     let f = followed (all .before .before .before .before) in
     let z = answered (lent f) in
     let a = start z .args in
+    let rule = now (a .rule) in
+    let state = now (a .«record») in
+    let window = now (a .window) in
     let part = z .answer .last .1 .1 .1 .1 .0 in
     let n = windowBytes (a .session .room) in
-    let inside : n ≤ length (now (a .window)) = omega (arith, room-fits z, start z .pre .1 .1 .1 .1) in
-    let long = lent f .window .given .0 ∙ length-take-le n (now (a .window)) inside in
+    let inside : n ≤ length window = omega (arith, room-fits z, start z .pre .1 .1 .1 .1) in
+    let long = lent f .window .given .0 ∙ length-take-le n window inside in
     let laid = f .before .before .before .lay in
     let e = all .take-all .ensures in (
       λ t h.
-          let g = z .answer .ensures .0 (cut t) (cut-stands t (a .session) (now (a .rule)) (now (a .«record»)) (now (a .window)) h) in
-          let told = answer-told t (a .session) (z .answer .result) (now (a .line)) (now (a .rule)) (now (a .«record»)) (now (a .window)) _ _ part h g (start z .pre .0) in
-          responded t (a .session) (z .answer .result) (now (a .line)) (now (a .rule)) (now (a .«record»)) (now (a .window)) _ _ part h g
-          (now (a .scratch)) _ _ _ _ _ _ _ _ long (laid .ensures .1 _ told (g .replied)) (f .takes .ensures _ _ told (g .replied)) (e .1 .0) (e .1 .1 .0) (e .1 .1 .1 .0) (e .1 .1 .1 .1),
+          let g = z .answer .ensures .0 (cut t) (cut-stands t (a .session) rule state window h) in
+          let next = z .answer .result in
+          let line = now (a .line) in
+          let told = answer-told t (a .session) next line rule state window _ _ part h g (start z .pre .0) in
+          responded t (a .session) next line rule state window _ _ part h g (now (a .scratch)) _ _ _ _ _ _ _ _ long
+          (laid .ensures .1 _ told (g .replied)) (f .takes .ensures _ _ told (g .replied))
+          (e .1 .0) (e .1 .1 .0) (e .1 .1 .1 .0) (e .1 .1 .1 .1),
       (z .answer .ensures .1, (e .0, refl)),
     )
 

@@ -1,9 +1,9 @@
+-- With what is laid, the takes that are left come to the whole (`Ahead`); each turn is one take less (`ahead-step`), and
+-- each has room for its text.
 use native.Mathlib.Omega.{arith}
-use mathlib.Core.Path.{_≡_, refl, sym, ap, _∙_}
-use Prim.Native.Nat.{ℕ, _≤_, _<_, _-_, _+_, _*_}
-use mathlib.Core.List.{List, _++_}
-use lib.ListN.{length, getD, take, drop, set, length-set}
-use mathlib.Core.Logic.{⊎-elim}
+use mathlib.Core.Path.{_≡_, refl, _∙_}
+use Prim.Native.Nat.{_≤_, _-_, _+_, _*_}
+use lib.ListN.{length, take}
 use Rattle.program.specs.Turn.{takesWhile, mostTakes}
 use Rattle.program.proofs.TurnSteps.{not-more, Ahead, ahead-first, ahead-step, ahead-last}
 use denote.Ref.{now}
@@ -42,7 +42,9 @@ loop-holds c =
       refl,
       refl,
       refl,
-      rw left (ahead-first (take (a .start) (now (a .out))) mostTakes (a .follows) (a .k) (now (a .«record»)) (now (a .window)) (now (a .scratch))),
+      rw left
+          (ahead-first (take (a .start) (now (a .out))) mostTakes (a .follows) (a .k)
+          (now (a .«record»)) (now (a .window)) (now (a .scratch))),
     )
 
 take-next-requires : tie.Need-take-next-requires Inv-loop μ-loop
@@ -72,8 +74,10 @@ loop-again c =
       c .before .before .before .before .before .before .window .given ∙ l .inv .2,
       c .before .before .before .before .scratch .given ∙ l .inv .3,
       c .before .before .out .given ∙ l .inv .4,
-      ahead-step _ _ (a .k) (l .left) (c .turns2 .result) (t .result .follows) (l .«record») (l .window) (l .scratch) (take (l .at) (l .out)) _ _ _ _
-          (head c .loop-test .taken) (l .inv .5) (c .turns2 .ensures) (e .1 .1 .0) (e .1 .1 .1 .0) (e .1 .1 .1 .1 .0) (e .1 .1 .1 .1 .1) (e .1 .0),
+      ahead-step _ _ (a .k) (l .left) (c .turns2 .result) (t .result .follows)
+          (l .«record») (l .window) (l .scratch) (take (l .at) (l .out)) _ _ _ _
+          (head c .loop-test .taken) (l .inv .5) (c .turns2 .ensures)
+          (e .1 .1 .0) (e .1 .1 .1 .0) (e .1 .1 .1 .1 .0) (e .1 .1 .1 .1 .1) (e .1 .0),
     )
 
 same-length : tie.Need-same-length Inv-loop μ-loop
@@ -94,7 +98,9 @@ returns c =
     let none : l .left ≡ 0 = omega (arith, c .loop-test .left) in
     let a = start (c .before .before) .args in
     let whole = takesWhile mostTakes (a .follows) (a .k) (now (a .«record»)) (now (a .window)) (now (a .scratch)) in
-    let z = ahead-last whole (take (a .start) (now (a .out))) (a .k) (l .«record») (l .window) (l .scratch) (take (l .at) (l .out)) (rw none at (l .inv .5)) in
+    let before = take (a .start) (now (a .out)) in
+    let laid = take (l .at) (l .out) in
+    let z = ahead-last whole before (a .k) (l .«record») (l .window) (l .scratch) laid (rw none at (l .inv .5)) in
     (omega (arith, l .inv .0), (z .0, (z .1, (z .2, z .3))))
 
 pub take-all-spec : {M : Type 1} → statement M

@@ -1,4 +1,5 @@
--- What the take answers is possible with the record that it leaves (`take-told`), so its text and what follows are known.
+-- What the take answers is possible with the record that it leaves (`take-told`), so its text is known, and whether
+-- another follows.
 use Prim.Native.Nat.{ℕ}
 use mathlib.Core.Path.{sym, subst}
 use mathlib.Core.Bool.{false}
