@@ -28,7 +28,7 @@ unfolding number
 number-alike s t a n e = rw e
 
 -- What the removal of pending event i lays down from its place on.
-abbrev behind : ℕ → List ℕ → ℕ → List ℕ
+abbrev pub behind : ℕ → List ℕ → ℕ → List ℕ
 behind w s i =
     take ((pendingCount s - (i + 1)) * eventLength w) (drop (pendingPlace w (i + 1)) s) ++ replicate (eventLength w) 0
 
@@ -48,7 +48,7 @@ length-removed w s i =
     ∙ length-sets s (pendingPlace w i) (behind w s i)
 
 -- The last clocks stand after the taken counts.
-clocks-leave : (w n : ℕ) (s : List ℕ) (e : Event) → take (clocksPlace w) (clocksSet w n s e) ≡ take (clocksPlace w) s
+pub clocks-leave : (w n : ℕ) (s : List ℕ) (e : Event) → take (clocksPlace w) (clocksSet w n s e) ≡ take (clocksPlace w) s
 unfolding clocksSet
 clocks-leave w zero s e = refl
 clocks-leave w (suc p) s e = go (involved e p) ∙ clocks-leave w p s e

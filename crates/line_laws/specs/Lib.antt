@@ -6,6 +6,7 @@ pub mod Fault
 pub mod RuleLineFault
 pub mod FirstFaults
 pub mod LineSays
+pub mod LinePrefix
 -- Pieces, read and written
 pub mod pieces
 -- A line's answer is its first fault

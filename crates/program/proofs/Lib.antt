@@ -2,3 +2,4 @@
 mod SplitSteps
 mod KeptRule
 mod StageSteps
+mod TurnSteps

@@ -3,9 +3,10 @@
 -- What a reader has to believe
 pub mod Split
 pub mod Stages
-pub mod Answered
+pub mod Turn
 -- What is proved of it
 pub mod CallAnswers
 pub mod LineAnswers
-pub mod AnsweredTheorem
+pub mod PendingLaws
+pub mod TakesTheorem
 pub mod Rooms

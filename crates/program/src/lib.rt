@@ -6,6 +6,8 @@ use replies::Reply;
 pub mod split;
 // What each line is answered with.
 pub mod stages;
+// A line with its takes.
+pub mod turn;
 
 // What was found in some bytes: how many of them are used, how many bytes the line has now, and whether it ends there.
 pub struct Scan {
@@ -22,4 +24,18 @@ pub struct Session {
     pub room: usize,
     pub text: usize,
     pub reply: Reply,
+}
+
+// Texts laid so far: the place after them, and whether a take is to follow.
+pub struct Laid {
+    pub end: usize,
+    pub follows: bool,
+}
+
+// A line answered with its takes: where the program stands then, the length of the answers' text, and whether the
+// program goes on.
+pub struct Response {
+    pub session: Session,
+    pub length: usize,
+    pub on: bool,
 }

@@ -1,44 +1,33 @@
-// The program watch (01, Examples: the program): reads lines of standard input, and prints answers. What is answered to
-// a line, with which text, and what follows from it stands in the crate `program`; here are the reading, the writing
-// and the loops around them.
+// The program watch (01, Examples: the program): reads lines of standard input, and prints answers. What is printed for
+// a line stands in the crate `program`; here are the reading, the writing and the loop around them.
 
 // Standard input, from chunks of any size to lines.
 mod input;
-// Answers, printed.
-mod answers;
 
-use answers::respond;
-use answers::turns;
 use input::Input;
 use input::next_line;
-use program::Session;
-use replies::Reply;
-use reply_text::form::FRONTIER_BYTES;
+use program::turn::OUT_BYTES;
+use program::turn::begin;
+use program::turn::respond;
 use reply_text::form::RECORD_BYTES;
 use reply_text::form::WINDOW_BYTES;
 
-// What is kept of a line. Its first 4,107 bytes decide what it is answered with (line_laws LinePrefixDecides).
+const OUT: i32 = 1;
+// What is kept of a line. Its first 4,107 bytes decide what it is answered with (line_laws LinePrefix).
 const LINE_BYTES: usize = 4112;
 
-// Answers line after line, until the input or the program is over.
+// Answers line after line, until the input or the program is over. A line's answers are written, whole, before the next
+// line is waited for. A first state that cannot be written ends the program. A proved loop has to end, and nothing says
+// that the input does: so lines are counted down, from a number that no input has.
 fn main() {
     let mut chunk = [0u8; 4096];
     let mut line = [0u8; LINE_BYTES];
+    let mut rule = [0u8; LINE_BYTES];
     let mut record = [0u8; RECORD_BYTES];
     let mut window = [0u8; WINDOW_BYTES];
     let mut scratch = [0u8; WINDOW_BYTES];
-    let mut session = Session {
-        stage: 0,
-        k: 0,
-        room: 0,
-        text: 0,
-        reply: Reply {
-            number: 0,
-            place: 0,
-            holds: false,
-            value: 0,
-        },
-    };
+    let mut out = [0u8; OUT_BYTES];
+    let mut session = begin();
     let mut input = Input {
         at: 0,
         end: 0,
@@ -52,15 +41,21 @@ fn main() {
         }
         input = next.rest;
         let n = next.length;
-        let bytes = FRONTIER_BYTES * session.room;
         let turn = respond(
             session,
             &line[..n],
+            &mut rule,
             &mut record,
-            &mut window[..bytes],
+            &mut window,
             &mut scratch,
+            &mut out,
         );
+        let end = turn.length;
+        let written = io::write_all(OUT, &out[..end]);
+        if !turn.on | (!written & (session.stage < 3)) {
+            return;
+        }
         session = turn.session;
-        left = turns(left, turn.on);
+        left -= 1;
     }
 }

@@ -14,6 +14,7 @@ use Rattle.line_pieces.specs.declared.Read.{Read}
 use Rattle.line_pieces.specs.declared.Read.the-variants.{At, Refused}
 use Rattle.line_pieces.specs.Reading.{valueRead, thenBytes, headRead, lineLimit, limited}
 use Rattle.lines.specs.Lines.{processLimit, watchOf, watchLine, startOf, startLine, didOf, didLine, ruleOf, ruleLine}
+use Rattle.line_laws.specs.LinePrefix.{FirstBytesDecide}
 use Rattle.line_laws.specs.Grammar.{Piece, aByte, list, watchPieces, startPieces, didPieces}
 use Rattle.line_laws.specs.pieces.ReadPieces.{readPiece, readPieces, pieces-from}
 use Rattle.line_laws.specs.pieces.NumberTextRead.{if-known}
@@ -173,14 +174,10 @@ more-enough : {A : Type 0} (line : List ℕ → A) → ((s : List ℕ) → line 
     → (n : ℕ) → enough ≤ n → (s : List ℕ) → line (take n s) ≡ line s
 more-enough line decided n h s = sym (decided (take n s)) ∙ ap line (take-take enough n s h) ∙ decided s
 
-pub watch-decided : (n : ℕ) → enough ≤ n → (s : List ℕ) → watchLine (take n s) ≡ watchLine s
-watch-decided = more-enough watchLine watch-enough
-
-pub rule-decided : (k n : ℕ) → enough ≤ n → (s : List ℕ) → ruleLine (take n s) k ≡ ruleLine s k
-rule-decided k = more-enough (λ (s : List ℕ). ruleLine s k) (λ s. rule-enough s k)
-
-pub start-decided : (k n : ℕ) → enough ≤ n → (s : List ℕ) → startLine (take n s) k ≡ startLine s k
-start-decided k = more-enough (λ (s : List ℕ). startLine s k) (λ s. start-enough s k)
-
-pub did-decided : (k n : ℕ) → enough ≤ n → (s : List ℕ) → didLine (take n s) k ≡ didLine s k
-did-decided k = more-enough (λ (s : List ℕ). didLine s k) (λ s. did-enough s k)
+pub first-bytes-decide : FirstBytesDecide
+first-bytes-decide n h k s = (
+  more-enough watchLine watch-enough n h s,
+  more-enough (λ (l : List ℕ). ruleLine l k) (λ l. rule-enough l k) n h s,
+  more-enough (λ (l : List ℕ). startLine l k) (λ l. start-enough l k) n h s,
+  more-enough (λ (l : List ℕ). didLine l k) (λ l. did-enough l k) n h s,
+)
