@@ -28,24 +28,24 @@ unfolding number
 number-alike s t a n e = rw e
 
 -- What the removal of pending event i lays down from its place on.
-abbrev pub behind : ℕ → List ℕ → ℕ → List ℕ
-behind w s i =
+abbrev pub movedUp : ℕ → List ℕ → ℕ → List ℕ
+movedUp w s i =
     take ((pendingCount s - (i + 1)) * eventLength w) (drop (pendingPlace w (i + 1)) s) ++ replicate (eventLength w) 0
 
 -- The removal leaves the taken counts, and the length.
 pub removed-taken : (w : ℕ) (s : List ℕ) (i : ℕ) → takenCounts w (removed w s i) ≡ takenCounts w s
 unfolding takenCounts removed
 removed-taken w s i = listOf-same 8 _ _ λ p l.
-    let moved = sets s (pendingPlace w i) (behind w s i) in
+    let moved = sets s (pendingPlace w i) (movedUp w s i) in
     number-alike _ s (8 + p * w) w
     (part-sets-after moved 2 ((pendingCount s - 1) ∷ []) (8 + p * w) w (omega arith)
-    ∙ part-sets-before s (pendingPlace w i) (behind w s i) (8 + p * w) w (omega (arith, count-within p 8 w l)))
+    ∙ part-sets-before s (pendingPlace w i) (movedUp w s i) (8 + p * w) w (omega (arith, count-within p 8 w l)))
 
 length-removed : (w : ℕ) (s : List ℕ) (i : ℕ) → length (removed w s i) ≡ length s
 unfolding removed
 length-removed w s i =
-    length-set (sets s (pendingPlace w i) (behind w s i)) 2 (pendingCount s - 1)
-    ∙ length-sets s (pendingPlace w i) (behind w s i)
+    length-set (sets s (pendingPlace w i) (movedUp w s i)) 2 (pendingCount s - 1)
+    ∙ length-sets s (pendingPlace w i) (movedUp w s i)
 
 -- The last clocks stand after the taken counts.
 pub clocks-leave : (w n : ℕ) (s : List ℕ) (e : Event) → take (clocksPlace w) (clocksSet w n s e) ≡ take (clocksPlace w) s

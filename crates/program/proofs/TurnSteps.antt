@@ -12,10 +12,10 @@ use Rattle.call_take.specs.Take.{takeCall}
 use Rattle.reply_text.specs.Form.{programWidth}
 use Rattle.reply_text.specs.Texts.{answerText}
 use Rattle.replies.specs.Replies.{Possible}
-use Rattle.replies.specs.Following.{accepted, takesAgain, eventStage, overStage}
+use Rattle.replies.specs.Following.{isAccepted, takesAgain, eventStage, overStage}
 use Rattle.program.specs.declared.Session.{Session}
 use Rattle.program.specs.Stages.{Standing, lineRead, Stands}
-use Rattle.program.specs.Turn.{Took, takesWhile, mostTakes, windowBytes, cut, turned, Responded}
+use Rattle.program.specs.Turn.{Took, takesWhile, mostTakes, roomBytes, cut, turned, Responded}
 use Rattle.program.specs.LineAnswers.{line-possible}
 
 -- What is laid at the front of a part stands after what stands before the part.
@@ -93,7 +93,7 @@ ahead-last whole before k s window scratch laid h =
 
 -- The part that is lent is what the calls get.
 pub cut-stands : (t : Standing) (r : Session) (rule s window : List ℕ) → Stands t r rule s window
-    → Stands (cut t) r rule s (take (windowBytes (r .room)) window)
+    → Stands (cut t) r rule s (take (roomBytes (r .room)) window)
 unfolding cut
 cut-stands t r rule s window h = record {
   replied = h .replied;
@@ -119,20 +119,20 @@ module _ (t : Standing) (session next : Session) (line rule s window rule′ s�
   -- The answer's text, and those of the takes; what is left.
   module _ (scratch out s″ part″ lent″ before : List ℕ) (follows : Bool) (end : ℕ) (on : Bool) where
     abbrev n : ℕ
-    n = windowBytes (session .room)
+    n = roomBytes (session .room)
 
     abbrev o : Took
     o = takesWhile mostTakes follows (next .k) s′ (take n (part ++ drop n window)) (take n scratch)
 
-    pub responded : length part ≡ n → before ≡ answerText (next .k) (u .answer) → follows ≡ accepted (u .answer)
+    pub responded : length part ≡ n → before ≡ answerText (next .k) (u .answer) → follows ≡ isAccepted (u .answer)
         → take end out ≡ before ++ o .text → s″ ≡ o .bytes → part″ ≡ o .window → lent″ ≡ o .scratch
         → Responded (turned t line scratch) (record { session = next; length = end; on = on }) rule′ s″
         (part″ ++ drop n (part ++ drop n window)) (lent″ ++ drop n scratch) out
     unfolding turned
     responded long text following laid bytes kept spent =
-        let m = windowBytes (t .room) in
+        let m = roomBytes (t .room) in
         let same = take-at part (drop n window) n long in
-        let w = takesWhile mostTakes (accepted (u .answer)) (u .k) (u .bytes) (u .window) (take m scratch) in
+        let w = takesWhile mostTakes (isAccepted (u .answer)) (u .k) (u .bytes) (u .window) (take m scratch) in
         let q : o ≡ w = rw (same, following, g .processes, g .bytes, g .kept, h .frontiers) in
         let beyond : drop n window ≡ drop m (t .window) = rw (h .frontiers, h .kept) in
         let first : before ≡ answerText (u .k) (u .answer) =
@@ -155,5 +155,5 @@ module _ (t : Standing) (session next : Session) (line rule s window rule′ s�
               ∙ ap (λ (x : Took). answerText (u .k) (u .answer) ++ x .text) q;
           spent =
               ap (λ (x : List ℕ). x ++ drop n scratch) (spent ∙ ap (λ (x : Took). x .scratch) q)
-              ∙ ap (λ (r : ℕ). w .scratch ++ drop (windowBytes r) scratch) (h .frontiers);
+              ∙ ap (λ (r : ℕ). w .scratch ++ drop (roomBytes r) scratch) (h .frontiers);
         }

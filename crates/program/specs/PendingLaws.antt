@@ -13,28 +13,27 @@ use Rattle.clocks.specs.declared.Event.{Event}
 use Rattle.clocks.specs.Event.{apply}
 use Rattle.clocks.specs.Counts.{at, listOf}
 use Rattle.clocks.specs.stored.BoundedLaws.{or-false-e}
-use Rattle.clocks.specs.stored.CountsLaws.{length-listOf}
 use Rattle.frontiers.specs.declared.Frontier.{Frontier}
 use Rattle.frontiers.specs.Bytes.{countBytes, frontiers}
-use Rattle.records.specs.Record.{takenPlace, clocksPlace, recordLength, pendingPlace, pendingCount, keptCount, takenCounts, pendingAt, pendingEvents, removed, clocksSet, counted}
+use Rattle.records.specs.Record.{takenPlace, clocksPlace, recordLength, pendingPlace, pendingCount, keptCount, takenCounts, pendingAt, removed, clocksSet, counted}
 use Rattle.refusals.specs.Refusals.{badRecordLength, badWindowLength, roomOf, badState}
 use Rattle.refusals.specs.RefusalLaws.{right-length, state-within}
 use Rattle.answers.specs.Answer.{turnedBack}
 use Rattle.answers.specs.Turns.{by-test}
 use Rattle.window.specs.Step.{stepped}
-use Rattle.trial.specs.Trial.{validAmong, settingIn, undecided, false-clock, chosen, tried}
-use Rattle.trial.specs.TrialLaws.{Outcome, outcome, none-decides, falsifies, chooses}
+use Rattle.trial.specs.Trial.{validAmong, settingIn, Decision, undecided, false-clock, chosen, trial}
+use Rattle.trial.specs.TrialLaws.{Right, trial-right}
 use Rattle.call_take.specs.Take.{Taken, decided, takeWithin, allowedOf, takeCapped, takeCall}
 use Rattle.replies.specs.Following.{takesAgain}
-use Rattle.program.specs.TakenCountsLaws.{behind, clocks-leave}
+use Rattle.call_take.specs.TakenCountsLaws.{movedUp, clocks-leave}
 
 -- One event is gone.
 pending-removed : (w : ℕ) (s : List ℕ) (i : ℕ) → length s ≡ recordLength w
     → pendingCount (removed w s i) ≡ pendingCount s - 1
 unfolding removed
 pending-removed w s i long =
-    let moved = sets s (pendingPlace w i) (behind w s i) in
-    let inside : 2 < length moved = omega (arith, long, length-sets s (pendingPlace w i) (behind w s i)) in
+    let moved = sets s (pendingPlace w i) (movedUp w s i) in
+    let inside : 2 < length moved = omega (arith, long, length-sets s (pendingPlace w i) (movedUp w s i)) in
     getD-set-same moved 2 (pendingCount s - 1) 0 inside
 
 -- What is counted stands elsewhere.
@@ -77,23 +76,13 @@ module _ (w room : ℕ) (s window : List ℕ) (long : length s ≡ recordLength 
       (few, omega (arith, l, pending-removed w s i long, pending-counted w (removed w s i) (pendingAt w s i) n))
 
   within-lowers : Lowers s (takeWithin w room s window)
-  unfolding takeWithin pendingEvents
-  within-lowers = go (outcome w s (validAmong kept) room kept first 0 false pending)
+  unfolding takeWithin
+  within-lowers = go (trial w s room kept) (trial-right w s (validAmong kept) room kept)
     where
-      first : Event
-      first = pendingAt w s 0
-
-      pending : List Event
-      pending = listOf (pendingCount s) (pendingAt w s)
-
-      many : length pending ≡ pendingCount s
-      many = length-listOf (pendingCount s) (pendingAt w s)
-
-      go : Outcome w s (validAmong kept) room kept 0 false pending first
-          → Lowers s (decided w s window kept (tried w s (validAmong kept) room kept 0 false pending))
-      go (none-decides after t u o) = rw t (none-lowers after)
-      go (falsifies j l t r n u) = rw t (false-lowers (0 + j) (omega (arith, l, many)))
-      go (chooses j l t r a f u) = rw t (chosen-lowers (0 + j) (omega (arith, l, many)))
+      go : (d : Decision) → Right w s (validAmong kept) room kept d → Lowers s (decided w s window kept d)
+      go (undecided seen) r = none-lowers seen
+      go (false-clock i) r = false-lowers i (r .0)
+      go (chosen i) r = chosen-lowers i (r .0)
 
 -- A take of whatever bytes.
 pub take-lowers : (w : ℕ) (s window scratch : List ℕ) → Lowers s (takeCall w s window scratch)

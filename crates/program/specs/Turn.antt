@@ -10,7 +10,7 @@ use Rattle.call_take.specs.Take.{takeCall}
 use Rattle.program.specs.declared.Response.{Response}
 use Rattle.reply_text.specs.Form.{programWidth, programFrontier}
 use Rattle.reply_text.specs.Texts.{answerText}
-use Rattle.replies.specs.Following.{accepted, takesAgain, watchStage}
+use Rattle.replies.specs.Following.{isAccepted, takesAgain, watchStage}
 use Rattle.program.specs.Stages.{Standing, lineRead, Stands}
 
 -- ---- Takes
@@ -54,8 +54,8 @@ TakesEnd =
 -- ---- A line and its takes
 
 -- The bytes of a window that has room for so many frontiers.
-abbrev pub windowBytes : (room : ℕ) → ℕ
-windowBytes room = programFrontier * room
+abbrev pub roomBytes : (room : ℕ) → ℕ
+roomBytes room = programFrontier * room
 
 -- Before the first line.
 unfoldable pub atFirst : (bytes window : List ℕ) → Standing
@@ -78,7 +78,7 @@ cut t = record {
   room = t .room;
   rule = t .rule;
   bytes = t .bytes;
-  window = take (windowBytes (t .room)) (t .window);
+  window = take (roomBytes (t .room)) (t .window);
 }
 
 -- What a line and its takes print, and leave: the scratch is the takes' own.
@@ -91,9 +91,9 @@ pub record Turned : Type 0 where
 -- for; what stands after it stays.
 unfoldable pub turned : (t : Standing) (line scratch : List ℕ) → Turned
 turned t line scratch =
-    let n = windowBytes (t .room) in
+    let n = roomBytes (t .room) in
     let u = lineRead (cut t) line in
-    let o = takesWhile mostTakes (accepted (u .answer)) (u .k) (u .bytes) (u .window) (take n scratch) in
+    let o = takesWhile mostTakes (isAccepted (u .answer)) (u .k) (u .bytes) (u .window) (take n scratch) in
     record {
       text = answerText (u .k) (u .answer) ++ o .text;
       standing = record {

@@ -8,7 +8,7 @@ use lib.ListN.{length, drop}
 use lib.Seq.{length-take-le}
 use denote.Ref.{now}
 use Rattle.reply_text.specs.Form.{programWindow}
-use Rattle.program.specs.Turn.{windowBytes, cut}
+use Rattle.program.specs.Turn.{roomBytes, cut}
 use Rattle.program.proofs.TurnSteps.{cut-stands, answer-told, responded}
 use borrow.Author.Needs.{needs}
 use Rattle.program.proofs.turn.respond.Statement.{statement}
@@ -27,11 +27,11 @@ abbrev followed : tie.After-take-all-arg → tie.After-takes
 followed c = c .before
 
 -- The room is within the buffers, and the window is as long as it was.
-room-fits : (c : tie.After-answer) → windowBytes (start c .args .session .room) ≤ programWindow
+room-fits : (c : tie.After-answer) → roomBytes (start c .args .session .room) ≤ programWindow
 room-fits c = omega (arith, start c .pre .1 .1 .0 .frontiers)
 
 window-long : (c : tie.After-window)
-    → let n = windowBytes (start (answered c) .args .session .room) in
+    → let n = roomBytes (start (answered c) .args .session .room) in
     length (answered c .answer .last .1 .1 .1 .1 .0 ++ drop n (now (start (answered c) .args .window)))
     ≡ programWindow
 window-long c =
@@ -116,7 +116,7 @@ returns c =
     let state = now (a .«record») in
     let window = now (a .window) in
     let part = z .answer .last .1 .1 .1 .1 .0 in
-    let n = windowBytes (a .session .room) in
+    let n = roomBytes (a .session .room) in
     let inside : n ≤ length window = omega (arith, room-fits z, start z .pre .1 .1 .1 .1) in
     let long = lent f .window .given .0 ∙ length-take-le n window inside in
     let laid = f .before .before .before .lay in
