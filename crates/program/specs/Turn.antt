@@ -69,7 +69,7 @@ atFirst bytes window = record {
   window = window;
 }
 
--- The same, where the window is the part of its buffer that the room asks for.
+-- What the program knows, where the window is cut to the part of its buffer that the room asks for.
 unfoldable pub cut : Standing → Standing
 cut t = record {
   answer = t .answer;
@@ -81,14 +81,14 @@ cut t = record {
   window = take (roomBytes (t .room)) (t .window);
 }
 
--- What a line and its takes print, and leave: the scratch is the takes' own.
+-- What a line and its takes print, what the program knows then, and the bytes of the scratch, which only takes write.
 pub record Turned : Type 0 where
   pub text : List ℕ
   pub standing : Standing
   pub scratch : List ℕ
 
--- A line where the window and the scratch are whole buffers. The calls are lent the part of each that the room asks
--- for; what stands after it stays.
+-- A line, where the window and the scratch are whole buffers: the calls are lent the part of each that the room asks
+-- for, and what stands after it stays. Takes follow an accepted event.
 unfoldable pub turned : (t : Standing) (line scratch : List ℕ) → Turned
 turned t line scratch =
     let n = roomBytes (t .room) in
