@@ -1,4 +1,4 @@
--- The larger and the smaller of two cuts, count by count.
+-- The cut of zeros, and the larger and the smaller of two cuts, count by count.
 use Prim.Native.Nat.{max, min}
 use Rattle.clocks.specs.Event.{Cut}
 
@@ -7,3 +7,7 @@ upper S R p = max (S p) (R p)
 
 abbrev pub lower : Cut → Cut → Cut
 lower S R p = min (S p) (R p)
+
+-- The cut of zeros.
+abbrev pub zeros : Cut
+zeros p = 0

@@ -48,7 +48,3 @@ less e S p = S p - one (involved e p)
 -- The event's clock before the event itself: what it knows of.
 unfoldable pub lowered : (e : Event) → Cut
 lowered e = less e (count e)
-
--- The cut of zeros.
-abbrev pub zeros : Cut
-zeros p = 0

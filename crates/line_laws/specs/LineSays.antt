@@ -14,7 +14,7 @@ use Rattle.rules.specs.Text.{textOf, Grammatical, WithinLimits}
 use Rattle.call_words.specs.Words.{unpackCounts, unpackLabels}
 use Rattle.codec.specs.Decimal.{value}
 use Rattle.line_pieces.specs.Reading.{lineLimit}
-use Rattle.line_pieces.specs.NumberList.{eight}
+use Rattle.line_pieces.specs.NumberList.{eightValues}
 use Rattle.lines.specs.declared.WatchLine.the-variants.{Watch}
 use Rattle.lines.specs.declared.StartLine.the-variants.{Start}
 use Rattle.lines.specs.declared.DidLine.the-variants.{Did}
@@ -78,7 +78,7 @@ Named p ps = (j : ℕ) × ((j < length ps) × (at ps j ≡ p))
 -- words are these numbers.
 pub record Offers (mask c01 c23 c45 c67 labels : ℕ) (ps cs ls : List ℕ) : Type 0 where
   pub take-part : (p : ℕ) → (bit mask p ≡ true) ↔ Named p ps
-  pub counts : unpackCounts 4 (c01 ∷ c23 ∷ c45 ∷ c67 ∷ []) ≡ eight cs
+  pub counts : unpackCounts 4 (c01 ∷ c23 ∷ c45 ∷ c67 ∷ []) ≡ eightValues cs
   pub labelled : (j : ℕ) → j < length ps → at (unpackLabels labels) (at ps j) ≡ at ls j
   pub unlabelled : (p : ℕ) → (Named p ps → ⊥) → at (unpackLabels labels) p ≡ 0
 
@@ -99,12 +99,12 @@ WatchIsAsSaid = (s : List ℕ) (k room : ℕ) → (watchLine s ≡ Watch k room)
 abbrev pub StartIsAsSaid : Type 0
 StartIsAsSaid =
     (s : List ℕ) (k labels : ℕ) → startLine s k ≡ Start labels
-    → (ls : List ℕ) × (StartSays s k ls × (unpackLabels labels ≡ eight ls))
+    → (ls : List ℕ) × (StartSays s k ls × (unpackLabels labels ≡ eightValues ls))
 
 abbrev pub StartSaidIsRead : Type 0
 StartSaidIsRead =
     (s : List ℕ) (k : ℕ) (ls : List ℕ) → StartSays s k ls
-    → (labels : ℕ) × ((startLine s k ≡ Start labels) × (unpackLabels labels ≡ eight ls))
+    → (labels : ℕ) × ((startLine s k ≡ Start labels) × (unpackLabels labels ≡ eightValues ls))
 
 -- The event that is offered is the one that the line says; and a line that says an event is read, and offers it.
 abbrev pub EventIsAsSaid : Type 0

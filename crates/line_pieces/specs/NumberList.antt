@@ -55,9 +55,9 @@ thenClose s least most (At i n) =
 thenClose s least most (Refused n i) = Refused n i
 
 -- A list's first eight numbers, 0 where it has fewer: the others are counted only.
-abbrev pub eight : (ns : List ℕ) → List ℕ
-eight ns = listOf 8 (at ns)
+abbrev pub eightValues : (ns : List ℕ) → List ℕ
+eightValues ns = listOf 8 (at ns)
 
 -- A list read, as the code keeps it.
 unfoldable pub numbersRead : (l : ListRead) → Numbers
-numbersRead l = record { values = eight (l .numbers); read = l .read }
+numbersRead l = record { values = eightValues (l .numbers); read = l .read }

@@ -19,7 +19,7 @@ use Rattle.lines.specs.declared.DidLine.the-variants.{Did, Refused as Di
 use Rattle.lines.specs.declared.RuleLine.{RuleLine}
 use Rattle.lines.specs.declared.RuleLine.the-variants.{Rule, Refused as RuleRefused}
 use Rattle.line_pieces.specs.Reading.{valueRead, thenByte, thenBytes, headRead, thenNumber, thenEnd, limited, thenLast}
-use Rattle.line_pieces.specs.NumberList.{thenList, thenSpacedList, thenClose, eight}
+use Rattle.line_pieces.specs.NumberList.{thenList, thenSpacedList, thenClose, eightValues}
 use Rattle.lines.specs.Words.{packedWord, placed}
 
 -- The limits on numbers (01, Turned back, from the input: 10): k, the number of processes; clock counts, which have 32
@@ -58,11 +58,11 @@ startOf labels (Refused n i) = StartRefused n i
 unfoldable pub startLine : (s : List ℕ) (k : ℕ) → StartLine
 startLine s k =
     let labels = thenSpacedList s labelLimit (headRead s (ascii "(start")) in
-    startOf (eight (labels .numbers)) (limited s (thenEnd s (thenClose s k k (labels .read))))
+    startOf (eightValues (labels .numbers)) (limited s (thenEnd s (thenClose s k k (labels .read))))
 
 -- Word i of the four that hold a clock: two counts, the lower process in the lower half.
 abbrev pub clockWord : (counts : List ℕ) (i : ℕ) → ℕ
-clockWord counts i = packedWord (countLimit + 1) (take 2 (drop (2 * i) (eight counts)))
+clockWord counts i = packedWord (countLimit + 1) (take 2 (drop (2 * i) (eightValues counts)))
 
 -- (did (p ..) (c ..) (l ..)): some processes, ascending; a count for each of k processes; a label byte for each of
 -- those that take part.

@@ -15,7 +15,7 @@ use Rattle.replies.specs.Replies.{Possible}
 use Rattle.replies.specs.Following.{isAccepted, takesAgain, eventStage, overStage}
 use Rattle.program.specs.declared.Session.{Session}
 use Rattle.program.specs.Stages.{Standing, lineRead, Stands}
-use Rattle.program.specs.Turn.{Took, takesWhile, mostTakes, roomBytes, cut, turned, Responded}
+use Rattle.program.specs.Turn.{Took, takesWhile, mostTakes, roomBytes, lentPart, turned, Responded}
 use Rattle.program.specs.LineAnswers.{line-possible}
 
 -- What is laid at the front of a part stands after what stands before the part.
@@ -93,8 +93,8 @@ ahead-last whole before k s window scratch laid h =
 
 -- The part that is lent is what the calls get.
 pub cut-stands : (t : Standing) (r : Session) (rule s window : List ℕ) → Stands t r rule s window
-    → Stands (cut t) r rule s (take (roomBytes (r .room)) window)
-unfolding cut
+    → Stands (lentPart t) r rule s (take (roomBytes (r .room)) window)
+unfolding lentPart
 cut-stands t r rule s window h = record {
   replied = h .replied;
   stage = h .stage;
@@ -106,15 +106,15 @@ cut-stands t r rule s window h = record {
 }
 
 module _ (t : Standing) (session next : Session) (line rule s window rule′ s′ part : List ℕ)
-    (h : Stands t session rule s window) (g : Stands (lineRead (cut t) line) next rule′ s′ part) where
+    (h : Stands t session rule s window) (g : Stands (lineRead (lentPart t) line) next rule′ s′ part) where
   abbrev u : Standing
-  u = lineRead (cut t) line
+  u = lineRead (lentPart t) line
 
   -- The line's answer is possible with the record that it leaves.
   pub answer-told : session .stage < overStage
       → Possible (eqb (session .stage) eventStage) (takenCounts programWidth s′) (u .answer)
-  unfolding cut
-  answer-told l = rw (h .stage, g .bytes) (line-possible (cut t) line (rw (h .stage) at l))
+  unfolding lentPart
+  answer-told l = rw (h .stage, g .bytes) (line-possible (lentPart t) line (rw (h .stage) at l))
 
   -- The answer's text, and those of the takes; what is left.
   module _ (scratch out s″ part″ lent″ before : List ℕ) (follows : Bool) (end : ℕ) (on : Bool) where

@@ -37,7 +37,7 @@ pub record Standing : Type 0 where
   pub window : List ℕ
 
 -- A line is refused, and nothing changes but the stage.
-unfoldable pub refuse : Standing → ℕ → ℕ → Standing
+unfoldable pub refuse : (s : Standing) (n place : ℕ) → Standing
 refuse s n place = record {
   answer = turnedBack n place;
   stage = nextStage (s .stage) true;
@@ -49,27 +49,27 @@ refuse s n place = record {
 }
 
 -- The watch line gives processes and room, and is answered with nothing.
-unfoldable pub watchRead : Standing → WatchLine → Standing
+unfoldable pub watchRead : (s : Standing) (r : WatchLine) → Standing
 watchRead s (Watch k room) =
     cond (badProcesses k) (refuse s 5 0)
     (record { answer = nothingReady; stage = nextStage (s .stage) false; k = k; room = room; rule = s .rule; bytes = s .bytes; window = s .window })
 watchRead s (WatchRefused n place) = refuse s n place
 
 -- The rule's line gives the rule's text, and is answered with nothing.
-unfoldable pub ruleRead : Standing → List ℕ → RuleLine → Standing
+unfoldable pub ruleRead : (s : Standing) (line : List ℕ) (r : RuleLine) → Standing
 ruleRead s line (Rule start end) =
     record { answer = nothingReady; stage = nextStage (s .stage) false; k = s .k; room = s .room; rule = ruleText line; bytes = s .bytes; window = s .window }
 ruleRead s line (RuleRefused n place) = refuse s n place
 
 -- The start labels open the watch.
-unfoldable pub startRead : Standing → StartLine → Standing
+unfoldable pub startRead : (s : Standing) (r : StartLine) → Standing
 startRead s (Start labels) =
     let r = openCall programWidth (s .rule) (s .k) (unpackLabels labels) (s .bytes) (s .window) in
     record { answer = r .answer; stage = nextStage (s .stage) (isRefused (r .answer)); k = s .k; room = s .room; rule = s .rule; bytes = r .bytes; window = r .window }
 startRead s (StartRefused n place) = refuse s n place
 
 -- An event is offered.
-unfoldable pub didRead : Standing → DidLine → Standing
+unfoldable pub didRead : (s : Standing) (r : DidLine) → Standing
 didRead s (Did mask c01 c23 c45 c67 labels) =
     let clock = unpackCounts programWidth (c01 ∷ c23 ∷ c45 ∷ c67 ∷ []) in
     let r = offerCall programWidth mask clock (unpackLabels labels) (s .bytes) in
@@ -77,7 +77,7 @@ didRead s (Did mask c01 c23 c45 c67 labels) =
 didRead s (DidRefused n place) = refuse s n place
 
 -- A line at its stage.
-unfoldable pub lineRead : Standing → List ℕ → Standing
+unfoldable pub lineRead : (s : Standing) (line : List ℕ) → Standing
 lineRead s line =
     cond (eqb (s .stage) watchStage) (watchRead s (watchLine line))
     (cond (eqb (s .stage) ruleStage) (ruleRead s line (ruleLine line (s .k)))

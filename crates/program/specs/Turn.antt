@@ -70,8 +70,8 @@ atFirst bytes window = record {
 }
 
 -- What the program knows, where the window is cut to the part of its buffer that the room asks for.
-unfoldable pub cut : Standing → Standing
-cut t = record {
+unfoldable pub lentPart : (t : Standing) → Standing
+lentPart t = record {
   answer = t .answer;
   stage = t .stage;
   k = t .k;
@@ -92,7 +92,7 @@ pub record Turned : Type 0 where
 unfoldable pub turned : (t : Standing) (line scratch : List ℕ) → Turned
 turned t line scratch =
     let n = roomBytes (t .room) in
-    let u = lineRead (cut t) line in
+    let u = lineRead (lentPart t) line in
     let o = takesWhile mostTakes (isAccepted (u .answer)) (u .k) (u .bytes) (u .window) (take n scratch) in
     record {
       text = answerText (u .k) (u .answer) ++ o .text;

@@ -9,7 +9,8 @@ use mathlib.Core.List.{List, [], _∷_, _++_, map, List·Memᴰ, List·Memᴰ·h
 use mathlib.Core.Logic.{_⊎_, ⊎-elim, _↔_}
 use lib.Dec.{T}
 use lib.ListN.{length, length-append, length-map}
-use Rattle.clocks.specs.Event.{Cut, zeros}
+use Rattle.clocks.specs.Event.{Cut}
+use Rattle.clocks.specs.Bounds.{zeros}
 use Rattle.clocks.specs.Counts.{at, listOf}
 use Rattle.lookup.specs.Order.{before}
 use Rattle.lookup.specs.OrderLaws.{before-less, before-tail}

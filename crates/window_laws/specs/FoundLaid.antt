@@ -5,7 +5,8 @@ use mathlib.Core.Path.{_≡_, sym, ap, _∙_}
 use mathlib.Core.List.{List, [], _∷_, map, List·Memᴰ}
 use lib.ListN.{length, getD, length-map}
 use Rattle.clocks.specs.declared.Event.{Event}
-use Rattle.clocks.specs.Event.{Cut, zeros}
+use Rattle.clocks.specs.Event.{Cut}
+use Rattle.clocks.specs.Bounds.{zeros}
 use Rattle.clocks.specs.Counts.{listOf, at}
 use Rattle.frontiers.specs.declared.Frontier.{Frontier}
 use Rattle.lookup.specs.Seek.{seek, keysOf}

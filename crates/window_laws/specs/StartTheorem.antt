@@ -15,7 +15,8 @@ use Rattle.pactl.specs.ModelCuts.{Leads}
 use Rattle.pactl.specs.Truth.{Model, lineTruth}
 use Rattle.pactl.specs.JudgeTruth.{judged-right}
 use Rattle.clocks.specs.History.{taken, event, labelOf, Consistent, maskOf}
-use Rattle.clocks.specs.Event.{Cut, zeros}
+use Rattle.clocks.specs.Event.{Cut}
+use Rattle.clocks.specs.Bounds.{zeros}
 use Rattle.clocks.specs.Counts.{listOf}
 use Rattle.clocks.specs.cuts.Lattice.{zeros-consistent}
 use Rattle.clocks.specs.stored.CountsLaws.{getD-listOf}

@@ -32,10 +32,10 @@ record Decided (k allowed : ℕ) (f : Formula) (start : Cut) (L : Ledger) (answe
   nothing : Settled L → (answer ≡ nothingReady) × (then ≡ L)
   full : NoRoom k allowed L → (answer ≡ turnedBack 36 0) × (then ≡ L)
   falsifies : (x : FalseClock k allowed L)
-      → (answer ≡ turnedBack 35 0) × (then ≡ falsifiedLedger L (x .0) (x .1 .before ++ x .1 .behind))
+      → (answer ≡ turnedBack 35 0) × (then ≡ falsifiedLedger L (x .0) (x .1 .earlier ++ x .1 .later))
   chooses : (counts : List ℕ) (truth : Bool) (kept : ℕ) (x : Takes k allowed f start L counts truth kept)
       → (answer ≡ state counts truth kept)
-      × (then ≡ chosenLedger L (x .event) (x .stops .before ++ x .stops .behind))
+      × (then ≡ chosenLedger L (x .event) (x .stops .earlier ++ x .stops .later))
 
 -- ---- Laws
 

@@ -159,8 +159,8 @@ module _ (w k : ℕ) (f : Formula) (start : Cut) (room : ℕ) (some : 1 ≤ room
   takes-it = record {
     event = e;
     stops = record {
-      before = [];
-      behind = [];
+      earlier = [];
+      later = [];
       pending-are = ap (λ (L : Ledger). L .pending) offered;
       ready = rw offered (past .0 .ready);
       passed = λ x m. absurd (List·Memᴰ·not-nil m);

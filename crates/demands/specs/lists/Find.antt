@@ -43,7 +43,7 @@ first-unique has cuts i j x y = ⊎-elim (λ q. sym (x .place) ∙ ap length (q 
     (⊎-elim
     (λ m. absurd (clash (y .none-before (x .cut) m) (x .here)))
     (λ m. absurd (clash (x .none-before (y .cut) m) (y .here))))
-    (which-first (x .before) (x .behind) (y .before) (y .behind) (x .cut) (y .cut) (sym (x .cuts-are) ∙ y .cuts-are))
+    (which-first (x .earlier) (x .later) (y .earlier) (y .later) (x .cut) (y .cut) (sym (x .cuts-are) ∙ y .cuts-are))
   where
     clash : {b : Bool} → b ≡ false → b ≡ true → ⊥
     clash p q = let z : _≡_ {A = Bool} false true = sym p ∙ q in let u : _≡_ {A = ℕ} 0 1 = cc in omega arith
@@ -73,9 +73,9 @@ module _ (line : ℕ) (F : Cut → Frontier) (has : Property)
           let m : j < length cuts = omega (arith, l, length-map cuts F) in
           here j (q ∙ ap found (omega arith))
           (record {
-            before = take j cuts;
+            earlier = take j cuts;
             cut = getD cuts j zero-cut;
-            behind = drop (suc j) cuts;
+            later = drop (suc j) cuts;
             cuts-are = split-at cuts j zero-cut m;
             place = length-take-le j cuts (omega arith);
             here = at-place j true m t;
@@ -99,7 +99,7 @@ module _ (line : ℕ) (F : Cut → Frontier) (has : Property)
       back : Case → FirstAt has cuts i → findFrom line 0 (map F cuts) ≡ found i
       back (here j q x) y = q ∙ ap found (first-unique has cuts j i x y)
       back (nowhere-here q n) y =
-          let m : List·Memᴰ (y .cut) cuts = rw (y .cuts-are) (Memᴰ·append-right (y .before) (List·Memᴰ·head refl)) in
+          let m : List·Memᴰ (y .cut) cuts = rw (y .cuts-are) (Memᴰ·append-right (y .earlier) (List·Memᴰ·head refl)) in
           let z : _≡_ {A = Bool} false true = sym (n (y .cut) m) ∙ y .here in
           let u : _≡_ {A = ℕ} 0 1 = cc in absurd (omega arith)
 
@@ -112,7 +112,7 @@ module _ (line : ℕ) (F : Cut → Frontier) (has : Property)
 
       back : Case → ((S : Cut) → List·Memᴰ S cuts → has S ≡ false) → findFrom line 0 (map F cuts) ≡ absent
       back (here j q x) n =
-          let m : List·Memᴰ (x .cut) cuts = rw (x .cuts-are) (Memᴰ·append-right (x .before) (List·Memᴰ·head refl)) in
+          let m : List·Memᴰ (x .cut) cuts = rw (x .cuts-are) (Memᴰ·append-right (x .earlier) (List·Memᴰ·head refl)) in
           let z : _≡_ {A = Bool} false true = sym (n (x .cut) m) ∙ x .here in
           let u : _≡_ {A = ℕ} 0 1 = cc in absurd (omega arith)
       back (nowhere-here q n) r = q

@@ -137,10 +137,10 @@ module _ (w k : ℕ) (f : Formula) (start : Cut) (R : Rule w k (linesAt 0 f) sta
           number-unique k (L .closed) (y .event ∷ L .history) n kept (rw (← e) (x .kept-are)) (y .kept-are) in
           a ∙ rw (i, j, m)
 
-  pub false-ledger : (x : FalseClock k allowed L) → then ≡ falsifiedLedger L (x .0) (x .1 .before ++ x .1 .behind)
+  pub false-ledger : (x : FalseClock k allowed L) → then ≡ falsifiedLedger L (x .0) (x .1 .earlier ++ x .1 .later)
   false-ledger y = go cases
     where
-      go : Cases → then ≡ falsifiedLedger L (y .0) (y .1 .before ++ y .1 .behind)
+      go : Cases → then ≡ falsifiedLedger L (y .0) (y .1 .earlier ++ y .1 .later)
       go (nothing a s) = absurd (s (y .0) (stops-pending k allowed L (y .0) (y .1)) (y .1 .ready))
       go (full a x) = absurd (false-stopping k allowed L y (x .1 (y .0) (stops-pending k allowed L (y .0) (y .1))))
       go (falsified a x o) =
@@ -150,10 +150,10 @@ module _ (w k : ℕ) (f : Formula) (start : Cut) (R : Rule w k (linesAt 0 f) sta
       go (took c t n a x o) = absurd (not-both k allowed L f start c t n x y)
 
   pub state-ledger : (counts : List ℕ) (truth : Bool) (kept : ℕ) (x : Takes k allowed f start L counts truth kept)
-      → then ≡ chosenLedger L (x .event) (x .stops .before ++ x .stops .behind)
+      → then ≡ chosenLedger L (x .event) (x .stops .earlier ++ x .stops .later)
   state-ledger counts truth kept y = go cases
     where
-      go : Cases → then ≡ chosenLedger L (y .event) (y .stops .before ++ y .stops .behind)
+      go : Cases → then ≡ chosenLedger L (y .event) (y .stops .earlier ++ y .stops .later)
       go (nothing a s) = absurd (s (y .event) (stops-pending k allowed L (y .event) (y .stops)) (y .stops .ready))
       go (full a x) =
           absurd (takes-stopping k allowed L f start counts truth kept y

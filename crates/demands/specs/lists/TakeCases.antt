@@ -45,16 +45,16 @@ use Rattle.demands.specs.Status.{removeAt}
 -- ---- A take stops at one event
 module _ (k allowed : ℕ) (L : Ledger) where
   pub stops-pending : (e : Event) → StopsAt k allowed L e → List·Memᴰ e (L .pending)
-  stops-pending e s = rw (s .pending-are) (Memᴰ·append-right (s .before) (List·Memᴰ·head refl))
+  stops-pending e s = rw (s .pending-are) (Memᴰ·append-right (s .earlier) (List·Memᴰ·head refl))
 
   -- an event that is not passed over: there a take stops, if it comes so far
   abbrev pub Stopping : Event → Type 0
   Stopping e = PassedOver k (L .closed) allowed (L .history) e → ⊥
 
   pub one-stop : (e f : Event) (s : StopsAt k allowed L e) → Stopping e → (t : StopsAt k allowed L f) → Stopping f
-      → (s .before ≡ t .before) × (e ≡ f) × (s .behind ≡ t .behind)
+      → (s .earlier ≡ t .earlier) × (e ≡ f) × (s .later ≡ t .later)
   one-stop e f s a t b = ⊎-elim (λ q. q) (⊎-elim (λ m. absurd (a (t .passed e m))) (λ m. absurd (b (s .passed f m))))
-      (which-first (s .before) (s .behind) (t .before) (t .behind) e f (sym (s .pending-are) ∙ t .pending-are))
+      (which-first (s .earlier) (s .later) (t .earlier) (t .later) e f (sym (s .pending-are) ∙ t .pending-are))
 
   pub false-stopping : (x : FalseClock k allowed L) → Stopping (x .0)
   false-stopping x p = x .2 (p (x .1 .ready) .0)
@@ -100,11 +100,11 @@ module _ (w k : ℕ) (f : Formula) (start : Cut) (R : Rule w k (linesAt 0 f) sta
     nothing : takeCapped w cap bytes lent scratch .answer ≡ nothingReady → Settled L → Answered
     full : takeCapped w cap bytes lent scratch .answer ≡ turnedBack 36 0 → NoRoom k allowed L → Answered
     falsified : takeCapped w cap bytes lent scratch .answer ≡ turnedBack 35 0 → (x : FalseClock k allowed L)
-        → then ≡ falsifiedLedger L (x .0) (x .1 .before ++ x .1 .behind) → Answered
+        → then ≡ falsifiedLedger L (x .0) (x .1 .earlier ++ x .1 .later) → Answered
     took : (counts : List ℕ) (truth : Bool) (kept : ℕ)
         → takeCapped w cap bytes lent scratch .answer ≡ state counts truth kept
         → (x : Takes k allowed f start L counts truth kept)
-        → then ≡ chosenLedger L (x .event) (x .stops .before ++ x .stops .behind) → Answered
+        → then ≡ chosenLedger L (x .event) (x .stops .earlier ++ x .stops .later) → Answered
 
   ready-at : (j : ℕ) → j < length (L .pending)
       → T (readyIn w bytes (pendingEvent j)) ↔ Ready (pendingEvent j) (taken (L .history))
@@ -170,8 +170,8 @@ module _ (w k : ℕ) (f : Formula) (start : Cut) (R : Rule w k (linesAt 0 f) sta
       → ((i : ℕ) → i < j → Indecisive w bytes (validAmong (X .kept)) allowed (X .kept) (pendingEvent i))
       → StopsAt k allowed L (pendingEvent j)
   stops j l r u = record {
-    before = take j (L .pending);
-    behind = drop (suc j) (L .pending);
+    earlier = take j (L .pending);
+    later = drop (suc j) (L .pending);
     pending-are = split-at (L .pending) j noEvent l;
     ready = r;
     passed = λ e m.

@@ -22,13 +22,13 @@ use Rattle.numbers.specs.Refusal.{lengthNumber, noLineNumber, stateNumber}
 
 -- Of these cuts, the one with i before it is the first that has a property.
 pub record FirstAt (has : Property) (cuts : List Cut) (i : ℕ) : Type 0 where
-  pub before : List Cut
+  pub earlier : List Cut
   pub cut : Cut
-  pub behind : List Cut
-  pub cuts-are : cuts ≡ before ++ (cut ∷ behind)
-  pub place : length before ≡ i
+  pub later : List Cut
+  pub cuts-are : cuts ≡ earlier ++ (cut ∷ later)
+  pub place : length earlier ≡ i
   pub here : has cut ≡ true
-  pub none-before : (S : Cut) → List·Memᴰ S before → has S ≡ false
+  pub none-before : (S : Cut) → List·Memᴰ S earlier → has S ≡ false
 
 -- PaCTL's truth of a line of the rule after the list's taken events.
 abbrev pub lineOf : (k : ℕ) (f : Formula) (start : Cut) (Z : Watch) (line : ℕ) → Property

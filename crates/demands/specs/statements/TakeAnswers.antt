@@ -30,11 +30,11 @@ PassedOver k closed allowed ts e =
 
 -- The event at which a take stops: a pending one that is ready, where those before it are passed over.
 pub record StopsAt (k allowed : ℕ) (L : Ledger) (e : Event) : Type 0 where
-  pub before : List Event
-  pub behind : List Event
-  pub pending-are : L .pending ≡ before ++ (e ∷ behind)
+  pub earlier : List Event
+  pub later : List Event
+  pub pending-are : L .pending ≡ earlier ++ (e ∷ later)
   pub ready : Ready e (taken (L .history))
-  pub passed : (f : Event) → List·Memᴰ f before → PassedOver k (L .closed) allowed (L .history) f
+  pub passed : (f : Event) → List·Memᴰ f earlier → PassedOver k (L .closed) allowed (L .history) f
 
 -- The ledger with an event gone with a false clock, or taken, where these stay pending.
 abbrev pub falsifiedLedger : (L : Ledger) (e : Event) (others : List Event) → Ledger
@@ -105,10 +105,10 @@ pub record AnswersExact (w k : ℕ) (f : Formula) (start : Cut) (Z : Watch) (cap
       × (nextTake w Z cap more scratch .answer ≡ state counts truth kept))))
   -- the event at which it stops is pending no more: it is among those with a false clock, or the newest of those taken
   pub ledger-false : (x : FalseClock k (allowedNext w Z cap more) (Z .ledger))
-      → nextLedger w Z cap more scratch ≡ falsifiedLedger (Z .ledger) (x .0) (x .1 .before ++ x .1 .behind)
+      → nextLedger w Z cap more scratch ≡ falsifiedLedger (Z .ledger) (x .0) (x .1 .earlier ++ x .1 .later)
   pub ledger-state : (counts : List ℕ) (truth : Bool) (kept : ℕ)
       → (x : Takes k (allowedNext w Z cap more) f start (Z .ledger) counts truth kept)
-      → nextLedger w Z cap more scratch ≡ chosenLedger (Z .ledger) (x .event) (x .stops .before ++ x .stops .behind)
+      → nextLedger w Z cap more scratch ≡ chosenLedger (Z .ledger) (x .event) (x .stops .earlier ++ x .stops .later)
 
 pub record TakeExact (w k : ℕ) (f : Formula) (start : Cut) (Z : Watch) : Type 0 where
   pub wrong-lengths : (cap more : ℕ) (scratch : List ℕ)

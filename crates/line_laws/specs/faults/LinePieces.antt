@@ -6,7 +6,7 @@ use mathlib.Core.Bool.{true}
 use mathlib.Core.List.{List}
 use Rattle.codec.specs.Ascii.{ascii}
 use Rattle.line_pieces.specs.Reading.{valueRead, thenBytes, headRead, thenNumber, limited, thenLast}
-use Rattle.line_pieces.specs.NumberList.{thenList, thenSpacedList, thenClose, eight}
+use Rattle.line_pieces.specs.NumberList.{thenList, thenSpacedList, thenClose, eightValues}
 use Rattle.lines.specs.Lines.{kLimit, labelLimit, processLimit, watchOf, watchLine, startOf, startLine, didOf, didLine}
 use Rattle.line_laws.specs.Grammar.{watchPieces, startPieces, didPieces}
 use Rattle.line_laws.specs.pieces.ReadPieces.{readPiece, readPieces}
@@ -33,7 +33,7 @@ unfolding watchPieces watchLine thenLast thenBytes lineRead readPiece readPieces
 watch-read s = refl
 
 pub start-read : (s : List ℕ) (k : ℕ)
-    → startLine s k ≡ startOf (eight (thenSpacedList s labelLimit (headRead s (ascii "(start")) .numbers))
+    → startLine s k ≡ startOf (eightValues (thenSpacedList s labelLimit (headRead s (ascii "(start")) .numbers))
     (limited s (lineRead s (startPieces k)))
 unfolding startPieces startLine thenBytes lineRead readPiece readPieces
 start-read s k = refl

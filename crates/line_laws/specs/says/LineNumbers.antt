@@ -18,7 +18,7 @@ use Rattle.line_pieces.specs.declared.Read.the-variants.{At, Refused}
 use Rattle.codec.specs.Decimal.{digits, value}
 use Rattle.line_pieces.specs.NumberLaws.{inside, number-after}
 use Rattle.line_pieces.specs.Reading.{valueRead, thenByte, thenBytes, headRead, thenNumber, thenEnd, lineLimit, limited, thenLast}
-use Rattle.line_pieces.specs.NumberList.{thenList, thenSpacedList, thenClose, eight}
+use Rattle.line_pieces.specs.NumberList.{thenList, thenSpacedList, thenClose, eightValues}
 use Rattle.lines.specs.declared.WatchLine.the-variants.{Watch}
 use Rattle.lines.specs.declared.StartLine.the-variants.{Start}
 use Rattle.lines.specs.declared.DidLine.the-variants.{Did}
@@ -191,7 +191,7 @@ start-answers ls (At i v) labels e = (i, v, (refl, cc))
 start-answers ls (Refused m i) labels e = let z : _≡_ {A = ℕ} 0 1 = cc in absurd (omega arith)
 
 pub start-said : (s : List ℕ) (k labels : ℕ) → startLine s k ≡ Start labels
-    → (ls : List ℕ) × (StartSays s k ls × (labels ≡ packedWord 256 (eight ls)))
+    → (ls : List ℕ) × (StartSays s k ls × (labels ≡ packedWord 256 (eightValues ls)))
 unfolding startLine
 start-said s k labels h =
     let a = start-answers _ _ labels h in

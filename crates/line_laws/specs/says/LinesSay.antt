@@ -14,7 +14,7 @@ use Rattle.clocks.specs.Counts.{at}
 use Rattle.clocks.specs.stored.CountsLaws.{at-listOf, at-beyond, length-listOf, listOf-at}
 use Rattle.call_words.specs.Words.{unpackLabels}
 use Rattle.line_pieces.specs.declared.Read.the-variants.{At}
-use Rattle.line_pieces.specs.NumberList.{eight}
+use Rattle.line_pieces.specs.NumberList.{eightValues}
 use Rattle.lines.specs.declared.DidLine.the-variants.{Did}
 use Rattle.lines.specs.Words.{packedWord, placed}
 use Rattle.lines.specs.Lines.{countLimit, labelLimit, processLimit, clockWord, didOf}
@@ -119,15 +119,15 @@ offered ps cs ls mask c01 c23 c45 c67 labels p c l e =
 
 -- ---- Start labels
 
-eight-small : (ls : List ℕ) → InLimits false 0 labelLimit ls → (p : ℕ) → at (eight ls) p < 256
+eight-small : (ls : List ℕ) → InLimits false 0 labelLimit ls → (p : ℕ) → at (eightValues ls) p < 256
 eight-small ls h p = go (decLt p 8)
   where
-    go : Dec (p < 8) → at (eight ls) p < 256
+    go : Dec (p < 8) → at (eightValues ls) p < 256
     go (yes l) = let q = at-most false 0 labelLimit ls h p in rw (at-listOf 8 (at ls) p l) (omega (arith, q))
-    go (no l) = rw (at-beyond (eight ls) p (omega (arith, length-listOf 8 (at ls)))) (lit< tt)
+    go (no l) = rw (at-beyond (eightValues ls) p (omega (arith, length-listOf 8 (at ls)))) (lit< tt)
 
-eight-unpacked : (ls : List ℕ) → InLimits false 0 labelLimit ls → unpackLabels (packedWord 256 (eight ls)) ≡ eight ls
-eight-unpacked ls h = labels-unpacked (eight ls) (eight-small ls h) ∙ listOf-at 8 (eight ls) (length-listOf 8 (at ls))
+eight-unpacked : (ls : List ℕ) → InLimits false 0 labelLimit ls → unpackLabels (packedWord 256 (eightValues ls)) ≡ eightValues ls
+eight-unpacked ls h = labels-unpacked (eightValues ls) (eight-small ls h) ∙ listOf-at 8 (eightValues ls) (length-listOf 8 (at ls))
 
 -- ---- The theorem
 
@@ -154,7 +154,7 @@ event-is-as-said s k mask c01 c23 c45 c67 labels h =
     )
 
 pub start-said-is-read : StartSaidIsRead
-start-said-is-read s k ls x = (packedWord 256 (eight ls), (start-said-read s k ls x, eight-unpacked ls (x .limits)))
+start-said-is-read s k ls x = (packedWord 256 (eightValues ls), (start-said-read s k ls x, eight-unpacked ls (x .limits)))
 
 pub event-said-is-read : EventSaidIsRead
 unfolding didOf

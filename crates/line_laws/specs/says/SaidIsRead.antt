@@ -15,7 +15,7 @@ use Rattle.codec.specs.Decimal.{isDigit, value}
 use Rattle.line_pieces.specs.Number.{numberOf, numberAt}
 use Rattle.line_pieces.specs.NumberLaws.{digit-bounds}
 use Rattle.line_pieces.specs.Reading.{valueRead, thenByte, thenBytes, thenNumber, thenEnd, lineLimit, limited, thenLast}
-use Rattle.line_pieces.specs.NumberList.{listRead, afterNumber, numbersAt, thenList, thenSpacedList, thenClose, eight}
+use Rattle.line_pieces.specs.NumberList.{listRead, afterNumber, numbersAt, thenList, thenSpacedList, thenClose, eightValues}
 use Rattle.lines.specs.declared.WatchLine.the-variants.{Watch}
 use Rattle.lines.specs.declared.StartLine.the-variants.{Start}
 use Rattle.lines.specs.Words.{packedWord}
@@ -195,7 +195,7 @@ last-read s e v h short = rw (h .stands .0) (ended-read s (e + 1) v (ends-on s e
 -- ---- The lines
 
 pub start-said-read : (s : List ℕ) (k : ℕ) (ls : List ℕ) → StartSays s k ls
-    → startLine s k ≡ Start (packedWord 256 (eight ls))
+    → startLine s k ≡ Start (packedWord 256 (eightValues ls))
 unfolding startLine startOf
 start-said-read s k ls x =
     pass-bytes s (ascii "(start") (spaced (x .label-digits) ++ 41 ∷ []) 0 0 (ends-all s _ (x .text)) (λ j head h₁.

@@ -10,7 +10,7 @@ use Rattle.codec.specs.Bit.{bit}
 use Rattle.clocks.specs.Counts.{at, listOf}
 use Rattle.clocks.specs.stored.CountsLaws.{listOf-same}
 use Rattle.call_words.specs.Words.{part, unpackCounts, unpackLabels}
-use Rattle.line_pieces.specs.NumberList.{eight}
+use Rattle.line_pieces.specs.NumberList.{eightValues}
 use Rattle.lines.specs.Words.{packedWord}
 use Rattle.lines.specs.Lines.{countLimit, clockWord}
 
@@ -47,7 +47,7 @@ part-is : (bits base : ℕ) → 2 ^ bits ≡ base → (vs : List ℕ) (i : ℕ) 
 unfolding part
 part-is bits base e vs i h = rw (two-to bits i, e) (word-part base (omega (arith, h)) vs i ∙ mod-eq-of-lt h)
 
-pub labels-unpacked : (vs : List ℕ) → ((p : ℕ) → at vs p < 256) → unpackLabels (packedWord 256 vs) ≡ eight vs
+pub labels-unpacked : (vs : List ℕ) → ((p : ℕ) → at vs p < 256) → unpackLabels (packedWord 256 vs) ≡ eightValues vs
 unfolding unpackLabels
 labels-unpacked vs h = listOf-same 8 (part 8 (packedWord 256 vs)) (at vs) (λ p _. part-is 8 256 refl vs p (h p))
 
@@ -60,7 +60,7 @@ two-parts a b h l = (
 )
 
 pub counts-unpacked : (cs : List ℕ) → ((p : ℕ) → at cs p < countLimit + 1)
-    → unpackCounts 4 (clockWord cs 0 ∷ clockWord cs 1 ∷ clockWord cs 2 ∷ clockWord cs 3 ∷ []) ≡ eight cs
+    → unpackCounts 4 (clockWord cs 0 ∷ clockWord cs 1 ∷ clockWord cs 2 ∷ clockWord cs 3 ∷ []) ≡ eightValues cs
 unfolding unpackCounts listOf
 counts-unpacked cs h =
     let w₀ = two-parts (at cs 0) (at cs 1) (h 0) (h 1) in

@@ -15,33 +15,33 @@ use Rattle.line_pieces.specs.declared.Read.{Read}
 use Rattle.line_pieces.specs.declared.Read.the-variants.{At, Refused}
 use Rattle.line_pieces.specs.Number.{numberAt}
 use Rattle.line_pieces.specs.NumberLaws.{inside, number-after}
-use Rattle.line_pieces.specs.NumberList.{afterNumber, numbersAt, allNumbersAt, eight, numbersRead}
+use Rattle.line_pieces.specs.NumberList.{afterNumber, numbersAt, allNumbersAt, eightValues, numbersRead}
 
 -- ---- The numbers kept
 
 -- A number more takes the place behind those that are there; behind the eighth place it is not kept.
-pub eight-more : (ns : List ℕ) (v : ℕ) → eight (ns ++ v ∷ []) ≡ set (eight ns) (length ns) v
+pub eight-more : (ns : List ℕ) (v : ℕ) → eightValues (ns ++ v ∷ []) ≡ set (eightValues ns) (length ns) v
 eight-more ns v =
-    ext-getD 0 (eight (ns ++ v ∷ [])) (set (eight ns) (length ns) v)
-    (length-listOf 8 (at (ns ++ v ∷ [])) ∙ sym (length-listOf 8 (at ns)) ∙ sym (length-set (eight ns) (length ns) v))
+    ext-getD 0 (eightValues (ns ++ v ∷ [])) (set (eightValues ns) (length ns) v)
+    (length-listOf 8 (at (ns ++ v ∷ [])) ∙ sym (length-listOf 8 (at ns)) ∙ sym (length-set (eightValues ns) (length ns) v))
     (λ p h. let q : p < 8 = omega (arith, length-listOf 8 (at (ns ++ v ∷ []))) in
     getD-listOf 8 (at (ns ++ v ∷ [])) p 0 q ∙ go p q (ltb p (length ns)) (eqb p (length ns)) refl refl)
   where
     go : (p : ℕ) → p < 8 → (a b : Bool) → ltb p (length ns) ≡ a → eqb p (length ns) ≡ b
-        → at (ns ++ v ∷ []) p ≡ getD (set (eight ns) (length ns) v) p 0
+        → at (ns ++ v ∷ []) p ≡ getD (set (eightValues ns) (length ns) v) p 0
     go p q a true e f =
         let r : p ≡ length ns = eqb-true p (length ns) f in
-        let l : length ns < length (eight ns) = omega (arith, length-listOf 8 (at ns)) in
-        rw (r) (getD-append-seam ns v [] 0 ∙ sym (getD-set-same (eight ns) (length ns) v 0 l))
+        let l : length ns < length (eightValues ns) = omega (arith, length-listOf 8 (at ns)) in
+        rw (r) (getD-append-seam ns v [] 0 ∙ sym (getD-set-same (eightValues ns) (length ns) v 0 l))
     go p q true false e f =
         let r : p < length ns = ltb-true p (length ns) e in
         List·getD-append ns (v ∷ []) 0 p r
-        ∙ sym (getD-set-other (eight ns) (length ns) p v 0 (eqb-false p (length ns) f) ∙ getD-listOf 8 (at ns) p 0 q)
+        ∙ sym (getD-set-other (eightValues ns) (length ns) p v 0 (eqb-false p (length ns) f) ∙ getD-listOf 8 (at ns) p 0 q)
     go p q false false e f =
         let l : length ns ≤ p = ltb-false p (length ns) e in
         let r : length (ns ++ v ∷ []) ≤ p = omega (arith, length-append ns (v ∷ []), eqb-false p (length ns) f) in
         at-beyond (ns ++ v ∷ []) p r
-        ∙ sym (getD-set-other (eight ns) (length ns) p v 0 (eqb-false p (length ns) f) ∙ getD-listOf 8 (at ns) p 0 q
+        ∙ sym (getD-set-other (eightValues ns) (length ns) p v 0 (eqb-false p (length ns) f) ∙ getD-listOf 8 (at ns) p 0 q
         ∙ at-beyond ns p l)
 
 -- ---- The loop
@@ -50,7 +50,7 @@ eight-more ns v =
 pub record Going (s : List ℕ) (ascending : Bool) (most start : ℕ) (values : List ℕ)
     (count least here : ℕ) : Type 0 where
   pub numbers : List ℕ
-  pub values-are : values ≡ eight numbers
+  pub values-are : values ≡ eightValues numbers
   pub count-is : count ≡ length numbers
   pub few : length numbers ≤ length s
   pub near : length numbers ≤ here

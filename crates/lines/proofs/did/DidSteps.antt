@@ -15,21 +15,21 @@ use Rattle.lines.specs.declared.DidLine.{DidLine}
 use Rattle.lines.specs.declared.DidLine.the-variants.{Did}
 use Rattle.line_pieces.specs.declared.Numbers.{Numbers}
 use Rattle.line_pieces.specs.Reading.{valueRead, thenBytes, headRead, thenLast}
-use Rattle.line_pieces.specs.NumberList.{thenList, thenClose, eight, numbersRead}
+use Rattle.line_pieces.specs.NumberList.{thenList, thenClose, eightValues, numbersRead}
 use Rattle.lines.specs.Words.{packedWord, placed}
 use Rattle.lines.proofs.words.WordSteps.{placed-same, length-placed}
 use Rattle.lines.specs.Lines.{countLimit, labelLimit, processLimit, didOf, didLine}
 
 -- Of each list the first eight numbers are enough.
 pub did-eight : (n : ℕ) (processes counts labels : List ℕ) (whole : Read) → n ≤ 8
-    → didOf n (eight processes) (eight counts) (eight labels) whole ≡ didOf n processes counts labels whole
+    → didOf n (eightValues processes) (eightValues counts) (eightValues labels) whole ≡ didOf n processes counts labels whole
 unfolding didOf
 did-eight n processes counts labels (At i v) h =
-    let same : (l : List ℕ) (j : ℕ) → j < n → at (eight l) j ≡ at l j = λ l j p. at-listOf 8 (at l) j (omega arith) in
+    let same : (l : List ℕ) (j : ℕ) → j < n → at (eightValues l) j ≡ at l j = λ l j p. at-listOf 8 (at l) j (omega arith) in
     rw (
-      listOf-at 8 (eight counts) (length-listOf 8 (at counts)),
-      placed-same n (at (eight processes)) (at processes) (λ j. 1) (λ j. 1) (same processes) (λ j p. refl),
-      placed-same n (at (eight processes)) (at processes) (at (eight labels)) (at labels) (same processes)
+      listOf-at 8 (eightValues counts) (length-listOf 8 (at counts)),
+      placed-same n (at (eightValues processes)) (at processes) (λ j. 1) (λ j. 1) (same processes) (λ j p. refl),
+      placed-same n (at (eightValues processes)) (at processes) (at (eightValues labels)) (at labels) (same processes)
           (same labels),
     )
 did-eight n processes counts labels (Refused m i) h = refl

@@ -8,7 +8,7 @@ use lib.ListN.{length, drop}
 use lib.Seq.{length-take-le}
 use denote.Ref.{now}
 use Rattle.reply_text.specs.Form.{programWindow}
-use Rattle.program.specs.Turn.{roomBytes, cut}
+use Rattle.program.specs.Turn.{roomBytes, lentPart}
 use Rattle.program.proofs.TurnSteps.{cut-stands, answer-told, responded}
 use borrow.Author.Needs.{needs}
 use Rattle.program.proofs.turn.respond.Statement.{statement}
@@ -122,7 +122,7 @@ returns c =
     let laid = f .before .before .before .lay in
     let e = all .take-all .ensures in (
       λ t h.
-          let g = z .answer .ensures .0 (cut t) (cut-stands t (a .session) rule state window h) in
+          let g = z .answer .ensures .0 (lentPart t) (cut-stands t (a .session) rule state window h) in
           let next = z .answer .result in
           let line = now (a .line) in
           let told = answer-told t (a .session) next line rule state window _ _ part h g (start z .pre .0) in
