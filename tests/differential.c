@@ -83,7 +83,7 @@ int main(int argc, char **argv) {
     for (uint64_t number = first; timed ? (uint64_t)(time(NULL) - start) < limit : number < first + limit; number++)
         try_case(seed, number);
     print_tally();
-    if (cases >= DEMANDING && !everything_came_up()) return 1;
+    if (!WATCHES && cases >= DEMANDING && !everything_came_up()) return 1;
     unsigned long long calls = one.calls + two.calls;
     printf("differential: %lu cases, %llu calls compared with the model, no difference\n", cases, calls);
     twin_free(&one);

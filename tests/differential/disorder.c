@@ -119,6 +119,7 @@ static void note_hold(const struct twin *t) {
 }
 
 void disorder_excursion(struct source *s, struct twin *t) {
+    if (WATCHES) return;
     static struct twin *other;
     if (other == NULL) {
         other = malloc(sizeof *other);

@@ -58,6 +58,13 @@ void fill_junk(struct source *s, uint8_t *bytes, size_t length);
 void compare_bytes(const char *name, const uint8_t *library, const uint8_t *expected, size_t length);
 void compare_replies(uint64_t library, uint64_t expected);
 
+/* With WATCHES_ALONE only watches that calls and moves wrote: for two libraries that differ on other bytes. */
+#ifdef WATCHES_ALONE
+enum { WATCHES = 1 };
+#else
+enum { WATCHES = 0 };
+#endif
+
 /* The kinds of cases. */
 void try_texts(struct source *s, struct twin *t);
 void try_walk(struct source *s, struct twin *t, unsigned events, size_t vectors);
