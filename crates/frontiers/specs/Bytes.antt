@@ -4,7 +4,7 @@ use mathlib.Core.List.{List, [], _∷_, _++_}
 use lib.ListN.{length, take, drop, replicate}
 use lib.Seq.{sets}
 use Rattle.codec.specs.Little.{bytesOf, number}
-use Rattle.clocks.specs.Counts.{at, listOf}
+use Rattle.clocks.specs.Counts.{listOf}
 use Rattle.frontiers.specs.declared.Frontier.{Frontier}
 
 -- The length of a frontier with counts of w bytes.

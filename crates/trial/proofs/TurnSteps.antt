@@ -1,11 +1,9 @@
 -- The order of the pending events one event at a time, as loops go through them.
 use Prim.Native.Nat.{ℕ, zero, suc, _+_, _-_, _≤_, _<_}
 use native.Mathlib.Omega.{arith}
-use native.Mathlib.Decide.{decLt}
-use mathlib.Core.Path.{_≡_, refl, sym, ap, _∙_}
+use mathlib.Core.Path.{_≡_, refl, ap, _∙_}
 use mathlib.Core.Bool.{true, false}
-use mathlib.Core.List.{List, [], _∷_, _++_}
-use lib.Dec.{leb}
+use mathlib.Core.List.{List, _∷_, _++_}
 use lib.ListN.{drop, getD}
 use borrow.Author.Tests.{le-leb, lt-leb}
 use Rattle.clocks.specs.Key.{lowest}

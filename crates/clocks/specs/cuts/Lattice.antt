@@ -10,8 +10,7 @@ use mathlib.Core.Logic.{_⊎_, inl, inr}
 use mathlib.Core.Option.{Option, none, some}
 use Rattle.clocks.specs.declared.Event.{Event}
 use Rattle.clocks.specs.Event.{Cut, involved, count, Ready, apply, less, lowered}
-use Rattle.clocks.specs.Bounds.{zeros}
-use Rattle.clocks.specs.Bounds.{upper, lower}
+use Rattle.clocks.specs.Bounds.{zeros, upper, lower}
 use Rattle.clocks.specs.cuts.EventLaws.{ready-i, ready-next, lowered-next, less-next, less-other, apply-less, lowered-count}
 use Rattle.clocks.specs.History.{taken, event, clockOf, Consistent}
 use Rattle.clocks.specs.Causal.{Follows, Causal}

@@ -7,7 +7,6 @@ use mathlib.Core.List.{List, [], _∷_}
 use mathlib.Core.Logic.{_⊎_, inl, inr, _↔_}
 use lib.Dec.{eqb, leb}
 use lib.ListN.{length}
-use borrow.Author.Tests.{eqb-false}
 use Rattle.codec.specs.Bit.{bit}
 use Rattle.frontiers.specs.declared.Frontier.{Frontier}
 use Rattle.frontiers.specs.Bytes.{frontiers}
@@ -23,9 +22,9 @@ use Rattle.trial.specs.Trial.{Decision, undecided, false-clock, chosen, trial}
 use Rattle.call_take.specs.Take.{Taken, decided, takeWithin, badLengths, allowedOf, takeCapped}
 use Rattle.call_find.specs.Find.{findFrom, findCall}
 use Rattle.call_close.specs.Close.{Closed, closeProcess, closeCall}
-use Rattle.demands.specs.Mislent.{Mislent, offer-lent, take-lent, find-lent, close-lent, answerTo, TurnedAway, Buffers, lentTo, leftBy, wrongLengths, wrongState}
-use Rattle.demands.specs.Run.{Watch, mislends, after, answeredBy}
-use Rattle.demands.specs.statements.Mislent.{MislentExact, MislentIsExact}
+use Rattle.demands.specs.Mislent.{offer-lent, take-lent, find-lent, close-lent, answerTo, Buffers, lentTo, leftBy, wrongLengths, wrongState}
+use Rattle.demands.specs.Run.{after}
+use Rattle.demands.specs.statements.Mislent.{MislentIsExact}
 
 -- ---- Neither 6 nor 34
 

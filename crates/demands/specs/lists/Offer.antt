@@ -5,8 +5,8 @@ use native.Mathlib.Omega.{arith}
 use native.Mathlib.Decide.{decLt}
 use native.Mathlib.Nat.{lt-of-not-le}
 use mathlib.Core.Path.{_≡_, refl, sym, ap, _∙_}
-use mathlib.Core.Bool.{Bool, true, false, cond, not, _&&_, _||_, true≢false}
-use mathlib.Core.List.{List, List·Memᴰ}
+use mathlib.Core.Bool.{Bool, true, false, not, _&&_, true≢false}
+use mathlib.Core.List.{List}
 use mathlib.Core.Logic.{_⊎_, inl, inr, ⊎-elim, _↔_, _≢_}
 use lib.Dec.{leb, eqb, T, leb→le, eqb→eq, T-not, not-T}
 use lib.ListN.{length}
@@ -26,7 +26,7 @@ use Rattle.rules.specs.Formula.{Formula}
 use Rattle.refusals.specs.Refusals.{namesClosed, alreadyTaken, conflicts, conflicting}
 use Rattle.repeats.specs.Repeats.{repeated}
 use Rattle.repeats.specs.RepeatLaws.{repeated-exactly}
-use Rattle.answers.specs.Answer.{Answer, turnedBack, held, again}
+use Rattle.answers.specs.Answer.{turnedBack, held, again}
 use Rattle.call_offer.specs.Offer.{offeredEvent}
 use Rattle.demands.specs.Ledger.{Ledger}
 use Rattle.demands.specs.Run.{Passed, offers, Watch}

@@ -1,6 +1,6 @@
 -- Up to event i none is lower than the one before it: the laws `up-next`, `up-down` and `up-end`.
 use Rattle.trial.proofs.turn.in_order.Tie as tie
-use Prim.Native.Nat.{ℕ, _+_, _-_, _≤_, _<_}
+use Prim.Native.Nat.{ℕ, _+_, _-_, _≤_}
 use native.Mathlib.Omega.{arith}
 use mathlib.Core.Path.{_≡_, refl, sym, ap, _∙_}
 use lib.ListN.{drop}
