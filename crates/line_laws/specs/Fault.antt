@@ -5,6 +5,7 @@ use mathlib.Core.Logic.{_⊎_}
 use mathlib.Core.Bool.{Bool, cond}
 use mathlib.Core.List.{List, [], _∷_, _++_}
 use lib.ListN.{length, drop}
+use Rattle.numbers.specs.Refusal.{grammarNumber, lineLimitNumber}
 use Rattle.rules.specs.Text.{byteAt}
 use Rattle.codec.specs.Decimal.{digits, value}
 use Rattle.line_pieces.specs.Reading.{lineLimit}
@@ -55,7 +56,7 @@ Fault10 ps s i = TenFrom ps s 0 i ⊎ ((lineLimit < length s) × (i ≡ lineLimi
 
 -- A line has fault n at place i.
 unfoldable pub LineFault : (n : ℕ) (ps : List Piece) (s : List ℕ) (i : ℕ) → Type 0
-LineFault n ps s i = ((n ≡ 1) × LineFault1 ps s i) ⊎ ((n ≡ 10) × Fault10 ps s i)
+LineFault n ps s i = ((n ≡ grammarNumber) × LineFault1 ps s i) ⊎ ((n ≡ lineLimitNumber) × Fault10 ps s i)
 
 -- The first fault, and of those at its place the one with the lowest number.
 pub record FirstLineFault (n : ℕ) (ps : List Piece) (s : List ℕ) (i : ℕ) : Type 0 where

@@ -4,6 +4,7 @@ use Prim.Native.Nat.{ℕ, zero, suc, _-_, _<_}
 use mathlib.Core.Path.{_≡_}
 use mathlib.Core.List.{List}
 use lib.ListN.{length, take}
+use Rattle.numbers.specs.Refusal.{grammarNumber, lineLimitNumber}
 use Rattle.codec.specs.Ascii.{ascii}
 use Rattle.rules.specs.Text.{byteAt}
 use Rattle.rules.specs.Fault.{StandsAt, FirstFault}
@@ -20,10 +21,10 @@ pub record Departs (bytes s : List ℕ) (i : ℕ) : Type 0 where
 -- own first fault, which is that of the bytes behind the head and before the last byte, its place counted from the
 -- rule's first byte; then the last byte.
 unfoldable pub RuleFault : (turn n : ℕ) (s : List ℕ) (k i : ℕ) → Type 0
-RuleFault zero n s k i = (n ≡ 1) × Departs (ascii "(rule ") s i
-RuleFault (suc zero) n s k i = (n ≡ 10) × ((i ≡ lineLimit) × (lineLimit < length s))
+RuleFault zero n s k i = (n ≡ grammarNumber) × Departs (ascii "(rule ") s i
+RuleFault (suc zero) n s k i = (n ≡ lineLimitNumber) × ((i ≡ lineLimit) × (lineLimit < length s))
 RuleFault (suc (suc zero)) n s k i = FirstFault n (ruleText s) k i
-RuleFault (suc (suc (suc zero))) n s k i = (n ≡ 1) × ((i ≡ length s - 1) × (byteAt s i ≡ 41 → ⊥))
+RuleFault (suc (suc (suc zero))) n s k i = (n ≡ grammarNumber) × ((i ≡ length s - 1) × (byteAt s i ≡ 41 → ⊥))
 RuleFault (suc (suc (suc (suc turn)))) n s k i = ⊥
 
 -- The fault that answers is the one whose turn comes first.

@@ -7,6 +7,7 @@ use mathlib.Core.Bool.{Bool, true, false, cond, _&&_}
 use mathlib.Core.List.{List, [], _∷_, _++_}
 use lib.Dec.{eqb}
 use lib.ListN.{length, getD, take, drop}
+use Rattle.numbers.specs.Refusal.{atomNumber, grammarNumber, manyLinesNumber, nestingNumber}
 use Rattle.rules.specs.declared.Constant.the-variants.{True, False}
 use Rattle.rules.specs.declared.Unary.the-variants.{Not, Ey, Ep, Ap, Ay, Eh, Ah}
 use Rattle.rules.specs.declared.Binary.the-variants.{And, Es, As, Or}
@@ -82,7 +83,10 @@ Fault4 s k i =
 
 -- The text, with k processes, has fault n at place i.
 unfoldable pub Fault : (n : ℕ) (s : List ℕ) (k i : ℕ) → Type 0
-Fault n s k i = ((n ≡ 1) × Fault1 s i) ⊎ (((n ≡ 2) × Fault2 s i) ⊎ (((n ≡ 3) × Fault3 s i) ⊎ ((n ≡ 4) × Fault4 s k i)))
+Fault n s k i =
+    ((n ≡ grammarNumber) × Fault1 s i)
+    ⊎ (((n ≡ nestingNumber) × Fault2 s i)
+    ⊎ (((n ≡ manyLinesNumber) × Fault3 s i) ⊎ ((n ≡ atomNumber) × Fault4 s k i)))
 
 -- The first fault, and of those at its place the one with the lowest number.
 pub record FirstFault (n : ℕ) (s : List ℕ) (k i : ℕ) : Type 0 where
