@@ -4,6 +4,7 @@
 pub mod Answer
 pub mod Result
 pub mod Told
+pub mod Kinds
 -- What is proved of refusals in their order, and of words
 pub mod Turns
 pub mod ToldLaws

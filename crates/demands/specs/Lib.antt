@@ -3,7 +3,6 @@
 -- What a reader has to believe: the lists, what a record is, what the bytes are said to mean
 pub mod Ledger
 pub mod Mislent
-pub mod Kinds
 pub mod Run
 pub mod Status
 pub mod World

@@ -16,7 +16,7 @@ use Rattle.call_close.specs.Close.{closing, closeCall}
 use Rattle.call_open.specs.Open.{Opened}
 use Rattle.answers.specs.Answer.{Answer}
 use Rattle.call_offer.specs.Offer.{placeAmong, offeredEvent, offerCall}
-use Rattle.demands.specs.Kinds.{isHeld, isState, isFalseClock, isClosed}
+use Rattle.answers.specs.Kinds.{isHeld, isState, isFalseClock, isClosed}
 use Rattle.demands.specs.Ledger.{Ledger}
 use Rattle.demands.specs.Mislent.{Mislent, TurnedAway, answerTo}
 use Rattle.demands.specs.Status.{insertAt, removeAt}

@@ -7,7 +7,7 @@ ghost use lib.ListN.{take, drop};
 ghost use Rattle.clocks.specs.Counts.{at};
 ghost use Rattle.lines.specs.Words.{packedWord, placed};
 
-// The numbers from `from` to before `to` in a packedWord, each below the base.
+// The numbers from `from` to before `to` in a word, each below the base.
 pub(crate) fn word_of(base: u64, values: [u64; 8], from: u64, to: u64) -> u64
     requires { ⌜ (0 < base) × ((from ≤ to) × ((to ≤ 8) × (base ^ (to - from) ≤ 18446744073709551616))) ⌝ }
     ensures { λ x. ⌜ x ≡ packedWord base (take (to - from) (drop from values)) ⌝ }

@@ -12,7 +12,8 @@ use Rattle.call_take.specs.Take.{takeCall}
 use Rattle.reply_text.specs.Form.{programWidth}
 use Rattle.reply_text.specs.Texts.{answerText}
 use Rattle.replies.specs.Replies.{Possible}
-use Rattle.replies.specs.Following.{isAccepted, takesAgain, eventStage, overStage}
+use Rattle.replies.specs.Following.{takesAgain, eventStage, overStage}
+use Rattle.answers.specs.Kinds.{isHeld}
 use Rattle.program.specs.declared.Session.{Session}
 use Rattle.program.specs.Stages.{Standing, lineRead, Stands}
 use Rattle.program.specs.Turn.{Took, takesWhile, mostTakes, roomBytes, lentPart, turned, Responded}
@@ -124,7 +125,7 @@ module _ (t : Standing) (session next : Session) (line rule s window rule′ s�
     abbrev o : Took
     o = takesWhile mostTakes follows (next .k) s′ (take n (part ++ drop n window)) (take n scratch)
 
-    pub responded : length part ≡ n → before ≡ answerText (next .k) (u .answer) → follows ≡ isAccepted (u .answer)
+    pub responded : length part ≡ n → before ≡ answerText (next .k) (u .answer) → follows ≡ isHeld (u .answer)
         → take end out ≡ before ++ o .text → s″ ≡ o .bytes → part″ ≡ o .window → lent″ ≡ o .scratch
         → Responded (turned t line scratch) (record { session = next; length = end; on = on }) rule′ s″
         (part″ ++ drop n (part ++ drop n window)) (lent″ ++ drop n scratch) out
@@ -132,7 +133,7 @@ module _ (t : Standing) (session next : Session) (line rule s window rule′ s�
     responded long text following laid bytes kept spent =
         let m = roomBytes (t .room) in
         let same = take-at part (drop n window) n long in
-        let w = takesWhile mostTakes (isAccepted (u .answer)) (u .k) (u .bytes) (u .window) (take m scratch) in
+        let w = takesWhile mostTakes (isHeld (u .answer)) (u .k) (u .bytes) (u .window) (take m scratch) in
         let q : o ≡ w = rw (same, following, g .processes, g .bytes, g .kept, h .frontiers) in
         let beyond : drop n window ≡ drop m (t .window) = rw (h .frontiers, h .kept) in
         let first : before ≡ answerText (u .k) (u .answer) =

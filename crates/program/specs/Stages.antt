@@ -23,7 +23,8 @@ use Rattle.call_open.specs.Open.{openCall}
 use Rattle.call_offer.specs.Offer.{offerCall}
 use Rattle.program.specs.declared.Session.{Session}
 use Rattle.replies.specs.Replies.{partsOf, Fits}
-use Rattle.replies.specs.Following.{isRefused, watchStage, ruleStage, startStage, nextStage}
+use Rattle.replies.specs.Following.{watchStage, ruleStage, startStage, nextStage}
+use Rattle.answers.specs.Kinds.{isTurnedBack}
 
 -- What the program knows between two lines, and its answer to the last: the next line's stage, the processes, the room
 -- in frontiers, the rule's text, the record and the window.
@@ -65,7 +66,7 @@ ruleRead s line (RuleRefused n place) = refuse s n place
 unfoldable pub startRead : (s : Standing) (r : StartLine) → Standing
 startRead s (Start labels) =
     let r = openCall programWidth (s .rule) (s .k) (unpackLabels labels) (s .bytes) (s .window) in
-    record { answer = r .answer; stage = nextStage (s .stage) (isRefused (r .answer)); k = s .k; room = s .room; rule = s .rule; bytes = r .bytes; window = r .window }
+    record { answer = r .answer; stage = nextStage (s .stage) (isTurnedBack (r .answer)); k = s .k; room = s .room; rule = s .rule; bytes = r .bytes; window = r .window }
 startRead s (StartRefused n place) = refuse s n place
 
 -- An event is offered.
@@ -73,7 +74,7 @@ unfoldable pub didRead : (s : Standing) (r : DidLine) → Standing
 didRead s (Did mask c01 c23 c45 c67 labels) =
     let clock = unpackCounts programWidth (c01 ∷ c23 ∷ c45 ∷ c67 ∷ []) in
     let r = offerCall programWidth mask clock (unpackLabels labels) (s .bytes) in
-    record { answer = r .answer; stage = nextStage (s .stage) (isRefused (r .answer)); k = s .k; room = s .room; rule = s .rule; bytes = r .bytes; window = s .window }
+    record { answer = r .answer; stage = nextStage (s .stage) (isTurnedBack (r .answer)); k = s .k; room = s .room; rule = s .rule; bytes = r .bytes; window = s .window }
 didRead s (DidRefused n place) = refuse s n place
 
 -- A line at its stage.
@@ -105,4 +106,4 @@ pub record Replied (s : Session) (word : ℕ) (r : Session) : Type 0 where
   pub processes : r .k ≡ s .k
   pub frontiers : r .room ≡ s .room
   pub text : r .text ≡ s .text
-  pub reply : (a : Answer) → Fits a → word ≡ replyWord a → (r .reply ≡ partsOf a) × (r .stage ≡ nextStage (s .stage) (isRefused a))
+  pub reply : (a : Answer) → Fits a → word ≡ replyWord a → (r .reply ≡ partsOf a) × (r .stage ≡ nextStage (s .stage) (isTurnedBack a))

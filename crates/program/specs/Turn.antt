@@ -10,7 +10,8 @@ use Rattle.call_take.specs.Take.{takeCall}
 use Rattle.program.specs.declared.Response.{Response}
 use Rattle.reply_text.specs.Form.{programWidth, programFrontier}
 use Rattle.reply_text.specs.Texts.{answerText}
-use Rattle.replies.specs.Following.{isAccepted, takesAgain, watchStage}
+use Rattle.replies.specs.Following.{takesAgain, watchStage}
+use Rattle.answers.specs.Kinds.{isHeld}
 use Rattle.program.specs.Stages.{Standing, lineRead, Stands}
 
 -- ---- Takes
@@ -93,7 +94,7 @@ unfoldable pub turned : (t : Standing) (line scratch : List ℕ) → Turned
 turned t line scratch =
     let n = roomBytes (t .room) in
     let u = lineRead (lentPart t) line in
-    let o = takesWhile mostTakes (isAccepted (u .answer)) (u .k) (u .bytes) (u .window) (take n scratch) in
+    let o = takesWhile mostTakes (isHeld (u .answer)) (u .k) (u .bytes) (u .window) (take n scratch) in
     record {
       text = answerText (u .k) (u .answer) ++ o .text;
       standing = record {

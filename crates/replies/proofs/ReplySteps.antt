@@ -8,11 +8,12 @@ use lib.Dec.{eqb}
 use borrow.Author.Tests.{ne-eqb}
 use Rattle.answers.specs.Answer.{Answer, turnedBack, state, nothingReady, held, again, found, absent, processClosed}
 use Rattle.replies.specs.declared.Reply.{Reply}
-use Rattle.replies.specs.Following.{isAccepted, takesAgain}
+use Rattle.replies.specs.Following.{takesAgain}
+use Rattle.answers.specs.Kinds.{isHeld}
 use Rattle.replies.specs.Replies.{partsOf, Possible}
 
-pub accepted-by : (a : Answer) (r : Reply) (offered : Bool) (counts : List ℕ) → Possible offered counts a → r ≡ partsOf a → (offered && not (eqb (r .value) 0)) ≡ isAccepted a
-unfolding partsOf isAccepted
+pub accepted-by : (a : Answer) (r : Reply) (offered : Bool) (counts : List ℕ) → Possible offered counts a → r ≡ partsOf a → (offered && not (eqb (r .value) 0)) ≡ isHeld a
+unfolding partsOf
 accepted-by (turnedBack n place) r offered counts h e = rw e (none offered)
   where
     none : (b : Bool) → (b && false) ≡ false

@@ -9,7 +9,7 @@ use borrow.Author.Tests.{eq-eqb, ne-eqb}
 use Rattle.answers.specs.Answer.{Answer, turnedBack, state, nothingReady, held, again, found, absent, processClosed, replyWord}
 use Rattle.replies.specs.declared.Reply.{Reply}
 use Rattle.replies.specs.Replies.{partsOf, Fits, Possible}
-use Rattle.replies.specs.Following.{isRefused}
+use Rattle.answers.specs.Kinds.{isTurnedBack}
 
 -- The parts of a reply word.
 unfoldable pub wordParts : ℕ → Reply
@@ -53,8 +53,8 @@ known-by-parts offered counts absent r h e = absurd h
 known-by-parts offered counts (processClosed n) r h e = absurd h
 
 -- A refusal is known by its number.
-pub refused-by : (a : Answer) (r : Reply) → Fits a → r ≡ partsOf a → not (eqb (r .number) 0) ≡ isRefused a
-unfolding partsOf isRefused
+pub refused-by : (a : Answer) (r : Reply) → Fits a → r ≡ partsOf a → not (eqb (r .number) 0) ≡ isTurnedBack a
+unfolding partsOf
 refused-by (turnedBack n place) r h e = rw (e, ne-eqb n 0 (omega arith))
 refused-by (state taken truth kept) r h e = rw e
 refused-by nothingReady r h e = rw e

@@ -2,7 +2,8 @@
 
 ghost use mathlib.Core.Path.{_≡_};
 ghost use mathlib.Core.Bool.{false};
-ghost use Rattle.replies.specs.Following.{isAccepted, takesAgain, nextStage};
+ghost use Rattle.replies.specs.Following.{takesAgain, nextStage};
+ghost use Rattle.answers.specs.Kinds.{isHeld};
 ghost use Rattle.replies.specs.Promises.{PartsPromised, FollowPromised};
 
 // An answer's parts: a refusal's number and place, both 0 where there is none; the rule's truth; the frontiers kept or
@@ -26,9 +27,9 @@ pub fn decode(word: u64) -> Reply
     }
 }
 
-// Whether takes follow a line: after an offer that was isAccepted, and so left an event pending.
+// Whether takes follow a line: after an offer that was accepted, and so left an event pending.
 pub fn takes(offered: bool, reply: Reply) -> bool
-    ensures { λ r. ⌜ FollowPromised isAccepted offered reply r ⌝ }
+    ensures { λ r. ⌜ FollowPromised isHeld offered reply r ⌝ }
 {
     offered & (reply.value != 0)
 }

@@ -28,7 +28,7 @@ use Rattle.demands.specs.Run.{Watch, Call, Passed, offers, takes, finds,
 use Rattle.demands.specs.Mislent.{Mislent, TurnedAway, answerTo}
 use Rattle.demands.specs.Watching.{Rule, Watching}
 use Rattle.demands.specs.statements.Balance.{howMany}
-use Rattle.demands.specs.Kinds.{isHeld, isState, isFalseClock}
+use Rattle.answers.specs.Kinds.{isHeld, isState, isFalseClock}
 use Rattle.call_offer.specs.OfferCases.{OfferCase, offer-case, turned, repeats, accepted}
 use Rattle.demands.specs.calls.TakeLedger.{ledgerAfter}
 use Rattle.demands.specs.calls.AfterCall.{WatchRight, lengthened, badLengths, decision, take-6, take-else}

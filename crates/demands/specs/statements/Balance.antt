@@ -10,7 +10,7 @@ use Rattle.clocks.specs.Event.{one}
 use Rattle.records.specs.Record.{pendingCount}
 use Rattle.answers.specs.Answer.{Answer}
 use Rattle.demands.specs.Ledger.{occurrences, Ledger, accounted}
-use Rattle.demands.specs.Kinds.{isHeld, isState, isFalseClock}
+use Rattle.answers.specs.Kinds.{isHeld, isState, isFalseClock}
 use Rattle.demands.specs.Run.{Watch}
 use Rattle.demands.specs.EveryList.{AfterEveryList}
 

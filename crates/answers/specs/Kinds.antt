@@ -1,8 +1,19 @@
--- Kinds of answers, as tests.
+-- Kinds of answers, as tests: what a list of calls and the program go by.
 use mathlib.Core.Bool.{Bool, true, false}
 use lib.Dec.{eqb}
 use Rattle.numbers.specs.Refusal.{falseClockNumber}
 use Rattle.answers.specs.Answer.{Answer, turnedBack, state, nothingReady, held, again, found, absent, processClosed}
+
+-- Turned back by a number.
+abbrev pub isTurnedBack : (a : Answer) → Bool
+isTurnedBack (turnedBack n i) = true
+isTurnedBack (state c t k) = false
+isTurnedBack nothingReady = false
+isTurnedBack (held n) = false
+isTurnedBack again = false
+isTurnedBack (found i) = false
+isTurnedBack absent = false
+isTurnedBack (processClosed n) = false
 
 -- An offer was accepted.
 abbrev pub isHeld : (a : Answer) → Bool
