@@ -65,7 +65,8 @@ replies-tell w line s window =
     let back : (n : ℕ) → Answer = λ n. turnedBack n 0 in
     let six = badRecordLength w (length s) || badWindowLength w (length window) in
     by-test FindTold six (back 6) _ (λ _. turned-told 6 (omega arith) (omega arith)) λ _.
-    by-test FindTold (badState w (roomOf w (length window)) s) (back 34) _ (λ _. turned-told 34 (omega arith) (omega arith))
+    by-test FindTold (badState w (roomOf w (length window)) s) (back 34) _
+    (λ _. turned-told 34 (omega arith) (omega arith))
     λ good.
     by-test FindTold (leb (lineTotal s) line) (back 11) _ (λ _. turned-told 11 (omega arith) (omega arith)) λ _.
     search-told line (frontiers w window (keptCount s)) (frontierAt w window 0) (few w s window good)

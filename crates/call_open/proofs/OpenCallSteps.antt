@@ -104,7 +104,8 @@ module _ (w : ℕ) (text : List ℕ) (k : ℕ) (labels s window : List ℕ) wher
   unfolding replyWord openRead
   open-refused h lent long n i e =
       let read : readRule text k ≡ faulty n i = read-refused text k lent long n i e in
-      let whole : openCall w text k labels s window ≡ openRead w k labels s window (faulty n i) = open-reads h ∙ ap (openRead w k labels s window) read in
+      let whole : openCall w text k labels s window ≡ openRead w k labels s window (faulty n i) = open-reads h
+      ∙ ap (openRead w k labels s window) read in
       (fault-place text k n i read, rw whole, rw whole, rw whole)
 
   pub open-accepted : fault ≡ 0 → (lent : List ℕ) → length lent ≡ 192 → (lines : ℕ) (table : List ℕ) → Accepted lines ≡ ruleAnswer text k lent → table ≡ ruleTable text k lent

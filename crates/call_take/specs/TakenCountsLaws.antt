@@ -48,7 +48,8 @@ length-removed w s i =
     ∙ length-sets s (pendingPlace w i) (movedUp w s i)
 
 -- The last clocks stand after the taken counts.
-pub clocks-leave : (w n : ℕ) (s : List ℕ) (e : Event) → take (clocksPlace w) (clocksSet w n s e) ≡ take (clocksPlace w) s
+pub clocks-leave : (w n : ℕ) (s : List ℕ) (e : Event) → take (clocksPlace w) (clocksSet w n s e)
+    ≡ take (clocksPlace w) s
 unfolding clocksSet
 clocks-leave w zero s e = refl
 clocks-leave w (suc p) s e = go (involved e p) ∙ clocks-leave w p s e

@@ -23,7 +23,8 @@ WatchAcceptsFaultless =
     (s : List ℕ) → ((k : ℕ) × (room : ℕ) × (watchLine s ≡ Watch k room)) ↔ ((n i : ℕ) → LineFault n watchPieces s i → ⊥)
 
 abbrev pub StartFindsFirstFault : Type 0
-StartFindsFirstFault = (s : List ℕ) (k n i : ℕ) → (startLine s k ≡ StartRefused n i) ↔ FirstLineFault n (startPieces k) s i
+StartFindsFirstFault = (s : List ℕ) (k n i : ℕ) → (startLine s k ≡ StartRefused n i)
+    ↔ FirstLineFault n (startPieces k) s i
 
 abbrev pub StartAcceptsFaultless : Type 0
 StartAcceptsFaultless =

@@ -71,7 +71,8 @@ didPieces k n =
 
 -- An event's line names n processes, if it names any.
 unfoldable pub Names : (s : List ℕ) (n : ℕ) → Type 0
-Names s n = (ns : List (List ℕ)) → Numerals ns → StandsAt s 0 (ascii "(did (" ++ (between ns ++ 41 ∷ [])) → length ns ≡ n
+Names s n = (ns : List (List ℕ)) → Numerals ns → StandsAt s 0 (ascii "(did (" ++ (between ns ++ 41 ∷ [])) → length ns
+    ≡ n
 
 -- 1: no text of the grammar begins with the bytes up to and with this one; or the line ends here and is no whole text.
 unfoldable pub LineFault1 : (ps : List Piece) (s : List ℕ) (i : ℕ) → Type 0

@@ -21,7 +21,8 @@ abbrev pub listRead : (ns : List ℕ) (r : Read) → ListRead
 listRead ns r = record { numbers = ns; read = r }
 
 -- Behind a number: behind a space a further one goes on, with what it may be at least; else the list is read.
-unfoldable pub afterNumber : (s : List ℕ) (ascending : Bool) (further : ℕ → List ℕ → ℕ → ListRead) (ns : List ℕ) → (r : Read) → ListRead
+unfoldable pub afterNumber : (s : List ℕ) (ascending : Bool) (further : ℕ → List ℕ → ℕ → ListRead) (ns : List ℕ)
+    → (r : Read) → ListRead
 afterNumber s ascending further ns (At i v) =
     cond (eqb (byteAt s i) 32) (further (cond ascending (v + 1) 0) (ns ++ v ∷ []) (i + 1))
     (listRead (ns ++ v ∷ []) (At i (length ns + 1)))

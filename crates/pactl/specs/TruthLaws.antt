@@ -81,7 +81,8 @@ module _ (M : Model) (valid : List Event → Event → Type 0) (m : Ruled M vali
       o (involved-below (M .processes) e w o b) (omega (arith, ap (λ (R : Cut). R o) (h .leads), apply-next e S′ o b))
 
   -- ---- a property given by what it is at the preceding cuts is so given
-  module _ (F : Property → Property) (looks : (x y : Property) (S : Cut) → ((S′ : Cut) → List·Memᴰ S′ (preceding M S) → x S′ ≡ y S′) → F x S ≡ F y S) where
+  module _ (F : Property → Property) (looks : (x y : Property) (S : Cut) → ((S′ : Cut) → List·Memᴰ S′ (preceding M S)
+      → x S′ ≡ y S′) → F x S ≡ F y S) where
     enough : (d d′ : ℕ) (S : Cut) → CutOf M S → size (M .processes) S ≤ d → size (M .processes) S ≤ d′ → unrolled F d S ≡ unrolled F d′ S
     unfolding unrolled
     enough zero zero S c h k = refl
@@ -97,21 +98,25 @@ module _ (M : Model) (valid : List Event → Event → Type 0) (m : Ruled M vali
         ∙ looks (unrolled F (size (M .processes) S)) (recursive M F) S
         (λ S′ n. let l = before-leads S c S′ .0 n in enough (size (M .processes) S) (size (M .processes) S′) S′ (l .before) (omega (arith, leads-smaller S S′ l)) (omega arith))
 
-  pub es-looks : (a b x y : Property) (S : Cut) → ((S′ : Cut) → List·Memᴰ S′ (preceding M S) → x S′ ≡ y S′) → esStep M a b x S ≡ esStep M a b y S
+  pub es-looks : (a b x y : Property) (S : Cut) → ((S′ : Cut) → List·Memᴰ S′ (preceding M S) → x S′ ≡ y S′)
+      → esStep M a b x S ≡ esStep M a b y S
   unfolding esStep
   es-looks a b x y S h = rw (any-of-same x y (preceding M S) h)
 
-  pub as-looks : (a b x y : Property) (S : Cut) → ((S′ : Cut) → List·Memᴰ S′ (preceding M S) → x S′ ≡ y S′) → asStep M a b x S ≡ asStep M a b y S
+  pub as-looks : (a b x y : Property) (S : Cut) → ((S′ : Cut) → List·Memᴰ S′ (preceding M S) → x S′ ≡ y S′)
+      → asStep M a b x S ≡ asStep M a b y S
   unfolding asStep
   as-looks a b x y S h = rw (all-of-same x y (preceding M S) h)
 
-  pub some-before : (x : Property) (S : Cut) → CutOf M S → T (anyOf x (preceding M S)) ↔ ((S′ : Cut) × Leads M S′ S × T (x S′))
+  pub some-before : (x : Property) (S : Cut) → CutOf M S → T (anyOf x (preceding M S)) ↔ ((S′ : Cut) × Leads M S′ S
+      × T (x S′))
   some-before x S c = (
     (λ t. let w = any-of-e x (preceding M S) t in (w .0, before-leads S c (w .0) .0 (w .1), w .2)),
     (λ w. any-of-i x (preceding M S) (w .0) (before-leads S c (w .0) .1 (w .1)) (w .2)),
   )
 
-  pub all-before : (x : Property) (S : Cut) → CutOf M S → T (allOf x (preceding M S)) ↔ ((S′ : Cut) → Leads M S′ S → T (x S′))
+  pub all-before : (x : Property) (S : Cut) → CutOf M S → T (allOf x (preceding M S)) ↔ ((S′ : Cut) → Leads M S′ S
+      → T (x S′))
   all-before x S c = (
     (λ t S′ l. all-of-e x (preceding M S) t S′ (before-leads S c S′ .1 l)),
     (λ h. all-of-i x (preceding M S) (λ S′ n. h S′ (before-leads S c S′ .0 n))),

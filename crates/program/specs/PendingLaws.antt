@@ -94,4 +94,5 @@ take-lowers w s window scratch =
     by-test (Lowers s) (badRecordLength w (length s) || wrong) (back 6) _ (λ _ e. absurd (subst T (sym e) tt)) λ right.
     by-test (Lowers s) (badState w room s) (back 34) _ (λ _ e. absurd (subst T (sym e) tt)) λ good.
     let r = or-false-e (badRecordLength w (length s)) wrong right in
-    within-lowers w (allowedOf w 1024 window) s window (right-length w (length s) (r .0)) (state-within w room s good .1)
+    within-lowers w (allowedOf w 1024 window) s window (right-length w (length s) (r .0))
+    (state-within w room s good .1)

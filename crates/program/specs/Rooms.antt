@@ -68,4 +68,5 @@ unfolding watchLine thenLast
 room-within s =
     let k = thenNumber s 0 kLimit (headRead s (ascii "(watch ")) in
     let room = thenNumber s 1 roomLimit (thenByte s 32 k) in
-    made (valueRead k) _ (limit-within s 1024 _ (end-within s 1024 _ (byte-within s 41 1024 room (number-within s 1 roomLimit (thenByte s 32 k)))))
+    made (valueRead k) _ (limit-within s 1024 _ (end-within s 1024 _
+    (byte-within s 41 1024 room (number-within s 1 roomLimit (thenByte s 32 k)))))

@@ -66,7 +66,15 @@ ruleRead s line (RuleRefused n place) = refuse s n place
 unfoldable pub startRead : (s : Standing) (r : StartLine) → Standing
 startRead s (Start labels) =
     let r = openCall programWidth (s .rule) (s .k) (unpackLabels labels) (s .bytes) (s .window) in
-    record { answer = r .answer; stage = nextStage (s .stage) (isTurnedBack (r .answer)); k = s .k; room = s .room; rule = s .rule; bytes = r .bytes; window = r .window }
+    record {
+      answer = r .answer;
+      stage = nextStage (s .stage) (isTurnedBack (r .answer));
+      k = s .k;
+      room = s .room;
+      rule = s .rule;
+      bytes = r .bytes;
+      window = r .window;
+    }
 startRead s (StartRefused n place) = refuse s n place
 
 -- An event is offered.
@@ -74,7 +82,15 @@ unfoldable pub didRead : (s : Standing) (r : DidLine) → Standing
 didRead s (Did mask c01 c23 c45 c67 labels) =
     let clock = unpackCounts programWidth (c01 ∷ c23 ∷ c45 ∷ c67 ∷ []) in
     let r = offerCall programWidth mask clock (unpackLabels labels) (s .bytes) in
-    record { answer = r .answer; stage = nextStage (s .stage) (isTurnedBack (r .answer)); k = s .k; room = s .room; rule = s .rule; bytes = r .bytes; window = s .window }
+    record {
+      answer = r .answer;
+      stage = nextStage (s .stage) (isTurnedBack (r .answer));
+      k = s .k;
+      room = s .room;
+      rule = s .rule;
+      bytes = r .bytes;
+      window = s .window;
+    }
 didRead s (DidRefused n place) = refuse s n place
 
 -- A line at its stage.
@@ -106,4 +122,5 @@ pub record Replied (s : Session) (word : ℕ) (r : Session) : Type 0 where
   pub processes : r .k ≡ s .k
   pub frontiers : r .room ≡ s .room
   pub text : r .text ≡ s .text
-  pub reply : (a : Answer) → Fits a → word ≡ replyWord a → (r .reply ≡ partsOf a) × (r .stage ≡ nextStage (s .stage) (isTurnedBack a))
+  pub reply : (a : Answer) → Fits a → word ≡ replyWord a → (r .reply ≡ partsOf a) × (r .stage
+      ≡ nextStage (s .stage) (isTurnedBack a))

@@ -13,4 +13,5 @@ watchFault w s n = cond (badRecordLength w (length s) || badWindowLength w n) 6 
 -- The record's numbers: k not 1 to 8, more than 32 pending, lines not 1 to 64, kept not 1 to 1,024 or above the room.
 unfoldable pub badNumbers : ℕ → ℕ → ℕ → ℕ → ℕ → Bool
 badNumbers k pending lines kept room =
-    badProcesses k || (ltb 32 pending || (eqb lines 0 || (ltb 64 lines || (eqb kept 0 || (ltb 1024 kept || ltb room kept)))))
+    badProcesses k || (ltb 32 pending || (eqb lines 0 || (ltb 64 lines ||
+    (eqb kept 0 || (ltb 1024 kept || ltb room kept)))))

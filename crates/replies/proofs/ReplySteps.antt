@@ -12,7 +12,8 @@ use Rattle.replies.specs.Following.{takesAgain}
 use Rattle.answers.specs.Kinds.{isHeld}
 use Rattle.replies.specs.Replies.{partsOf, Possible}
 
-pub accepted-by : (a : Answer) (r : Reply) (offered : Bool) (counts : List ℕ) → Possible offered counts a → r ≡ partsOf a → (offered && not (eqb (r .value) 0)) ≡ isHeld a
+pub accepted-by : (a : Answer) (r : Reply) (offered : Bool) (counts : List ℕ) → Possible offered counts a → r
+    ≡ partsOf a → (offered && not (eqb (r .value) 0)) ≡ isHeld a
 unfolding partsOf
 accepted-by (turnedBack n place) r offered counts h e = rw e (none offered)
   where

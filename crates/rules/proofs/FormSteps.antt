@@ -52,7 +52,8 @@ formAt-word (suc a) s k closed i word o =
 -- By what the forms inside gave
 
 module _ (reader : ℕ → ℕ → Reading) (s : List ℕ) where
-  pub unary-fault : (w : Unary) (closed i n j : ℕ) → innerWith reader s closed i ≡ faulty n j → unaryWith reader s w closed i ≡ faulty n j
+  pub unary-fault : (w : Unary) (closed i n j : ℕ) → innerWith reader s closed i ≡ faulty n j
+      → unaryWith reader s w closed i ≡ faulty n j
   unfolding unaryWith andThen
   unary-fault w closed i n j e = rw e
 
@@ -61,7 +62,8 @@ module _ (reader : ℕ → ℕ → Reading) (s : List ℕ) where
   unfolding unaryWith andThen
   unary-form w closed i j f e = rw e
 
-  pub binary-fault : (w : Binary) (closed i n j : ℕ) → innerWith reader s closed i ≡ faulty n j → binaryWith reader s w closed i ≡ faulty n j
+  pub binary-fault : (w : Binary) (closed i n j : ℕ) → innerWith reader s closed i ≡ faulty n j
+      → binaryWith reader s w closed i ≡ faulty n j
   unfolding binaryWith andThen
   binary-fault w closed i n j e = rw e
 

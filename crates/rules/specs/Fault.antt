@@ -79,7 +79,8 @@ StandsAt s i (b ∷ bs) = (byteAt s i ≡ b) × StandsAt s (i + 1) bs
 unfoldable pub Fault4 : (s : List ℕ) (k i : ℕ) → Type 0
 Fault4 s k i =
     ((q d : ℕ) × StandsAt s q (ascii "(at " ++ (48 + d) ∷ []) × (d ≤ 9) × (k ≤ d) × (i ≡ q + 4))
-    ⊎ ((q c d : ℕ) × StandsAt s q (ascii "(at " ++ (48 + c) ∷ 32 ∷ (48 + d) ∷ []) × (c ≤ 9) × (d ≤ 9) × (7 < d) × (i ≡ q + 6))
+    ⊎ ((q c d : ℕ) × StandsAt s q (ascii "(at " ++ (48 + c) ∷ 32 ∷ (48 + d) ∷ []) × (c ≤ 9) × (d ≤ 9) × (7 < d) × (i
+    ≡ q + 6))
 
 -- The text, with k processes, has fault n at place i.
 unfoldable pub Fault : (n : ℕ) (s : List ℕ) (k i : ℕ) → Type 0
@@ -103,7 +104,8 @@ ReaderFindsFirstFault = (s : List ℕ) (k n i : ℕ) → (readRule s k ≡ fault
 -- It accepts a text exactly if that is the text of a form of the grammar within the limits, and reads that form.
 abbrev pub ReaderAcceptsForms : Type 0
 ReaderAcceptsForms =
-    (s : List ℕ) (k i : ℕ) (f : Formula) → (readRule s k ≡ formed i f) ↔ ((textOf f ≡ s) × (i ≡ length s) × Grammatical f × WithinLimits k f)
+    (s : List ℕ) (k i : ℕ) (f : Formula) → (readRule s k ≡ formed i f) ↔ ((textOf f ≡ s) × (i ≡ length s)
+    × Grammatical f × WithinLimits k f)
 
 -- It accepts a text exactly if that has no fault.
 abbrev pub ReaderAcceptsFaultless : Type 0

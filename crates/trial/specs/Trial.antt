@@ -1,5 +1,5 @@
--- Take's trial of the pending events (01, The calls: take): it goes through the ready ones from the lowest process up and
--- stops at the first that has a false clock or whose window fits.
+-- Take's trial of the pending events (01, The calls: take): it goes through the ready ones from the lowest process up
+-- and stops at the first that has a false clock or whose window fits.
 use Prim.Native.Nat.{ℕ, zero, suc, _+_}
 use mathlib.Core.Bool.{Bool, true, false, cond}
 use mathlib.Core.List.{List, [], _∷_, _++_}

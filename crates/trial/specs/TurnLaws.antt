@@ -35,7 +35,8 @@ unfolding lowest
 lowest-le e = trailing-le 8 (e .mask)
 
 -- one event more
-pub places-here : (p i : ℕ) (e : Event) (es : List Event) → lowest e ≡ p → placesOf p i (e ∷ es) ≡ i ∷ placesOf p (i + 1) es
+pub places-here : (p i : ℕ) (e : Event) (es : List Event) → lowest e ≡ p → placesOf p i (e ∷ es)
+    ≡ i ∷ placesOf p (i + 1) es
 unfolding placesOf
 places-here p i e es h = rw (eq-eqb (lowest e) p h)
 
@@ -65,7 +66,8 @@ unfolding placesFrom
 comes-first n p i e es q = rw (places-here p i e es q, below-passed n (p + 1) i e es (omega arith))
 
 -- where none is of the lowest, the rest remain.
-none-there : (n p i : ℕ) (es : List Event) → placesOf p i es ≡ [] → placesFrom (suc n) p i es ≡ placesFrom n (p + 1) i es
+none-there : (n p i : ℕ) (es : List Event) → placesOf p i es ≡ [] → placesFrom (suc n) p i es
+    ≡ placesFrom n (p + 1) i es
 unfolding placesFrom
 none-there n p i es h = rw h
 

@@ -1,5 +1,5 @@
-// The order in which take tries the pending events (01, The calls: from the lowest process up). In every watch it is the
-// one in which they stand; on other bytes the turns are looked for.
+// The order in which take tries the pending events (01, The calls: from the lowest process up). In every watch it is
+// the one in which they stand; on other bytes the turns are looked for.
 
 use records::fields::pending_place;
 ghost use Prim.Native.Nat.{_≤_, _<_};

@@ -36,7 +36,11 @@ returns c =
     let a = c .before .before .before .before .before .before .before .before .before .before .before .before .before .before .args in
     let n = length (now (a .window)) in
     let j = c .before .before .before .before .before .before .before .before .before .before in (
-      rw (c .state-word .ensures, c .before .has-bit .ensures, j .judge .ensures) (opened-reply (a .w) (a .k) (a .labels) (now (a .table)) (a .lines) n),
+      rw (
+        c .state-word .ensures,
+        c .before .has-bit .ensures,
+        j .judge .ensures,
+      ) (opened-reply (a .w) (a .k) (a .labels) (now (a .table)) (a .lines) n),
       (
         cc (opened-bytes (a .w) (a .k) (a .labels) (now (a .table)) (a .lines) n),
         cc (opened-window (a .w) (a .k) (a .labels) (now (a .table)) (a .lines) n),

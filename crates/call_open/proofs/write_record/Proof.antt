@@ -48,8 +48,15 @@ same-length c = let a = c .before .before .before .before .before .before .befor
 returns : tie.Need-returns
 returns c =
     let a = c .before .before .before .before .before .before .before .before .before .before .before .before .before .before .before .args in
-    let stored = stored-record (a .w) (a .k) (a .lines) (now (a .«record»)) (now (a .table)) (search needs) (search needs) (search needs) in
-    rw (c .before .before .copy-in .ensures, c .before .before .before .before .before .before .write-u32 .ensures, c .before .before .before .before .before .before .before .before .before .before .clear .ensures, c .before .before .before .before .before .before .before .before .before .before .before .before .table-place .ensures .0) stored
+    let stored = stored-record (a .w) (a .k) (a .lines) (now (a .«record»)) (now (a .table)) (search needs)
+    (search needs) (search needs) in
+    rw (
+      c .before .before .copy-in .ensures,
+      c .before .before .before .before .before .before .write-u32 .ensures,
+      c .before .before .before .before .before .before .before .before .before .before .clear .ensures,
+      c .before .before .before .before .before .before .before .before .before .before .before .before .table-place
+          .ensures .0,
+    ) stored
 
 pub write-record-spec : {M : Type 1} → statement M
 write-record-spec =

@@ -19,7 +19,13 @@ within : (i kept size bytes : ℕ) → i < kept → kept * size ≤ bytes → i 
 within i kept size bytes h long = omega (arith, count-within i kept size h)
 
 values-at-requires : tie.Need-values-at-requires
-values-at-requires c κs = let a = c .before .args in (search needs, (omega arith, within _ (a .kept) (frontierLength (a .w)) _ (omega arith) (search needs)))
+values-at-requires c κs = let a = c .before .args in (
+  search needs,
+  (
+    omega arith,
+    within _ (a .kept) (frontierLength (a .w)) _ (omega arith) (search needs),
+  ),
+)
 
 sub-has-bit : tie.Need-sub-has-bit
 sub-has-bit c = search needs

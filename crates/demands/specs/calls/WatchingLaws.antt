@@ -94,7 +94,8 @@ module _ (w k : ℕ) (table : List Line) (start : Cut) (R : Rule w k table start
 
   pub says-clocks : (p q : ℕ) → p < 8 → q < 8 → clockRows (lastClocks w bytes) p q ≡ lastClock ts p q
   says-clocks p q l j =
-      ap (λ (cs : List (List ℕ)). clockRows cs p q) (ap (lastClocks w) (X .bytes-are) ∙ lastClocks-recordBytes w status z)
+      ap (λ (cs : List (List ℕ)). clockRows cs p q) (ap (lastClocks w) (X .bytes-are)
+      ∙ lastClocks-recordBytes w status z)
       ∙ ap (λ (c : List ℕ). at c q) (getD-listOf 8 (λ x. listOf 8 (lastClock ts x)) p [] l)
       ∙ at-listOf 8 (lastClock ts p) q j
 

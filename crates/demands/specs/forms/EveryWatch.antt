@@ -54,4 +54,5 @@ exact-after-a-move v w pos pos′ text k labels eight s window a cs p t target q
 
 pub order-independent-with-moves : OrderIndependentWithMoves
 order-independent-with-moves text k labels eight w Y Z y z =
-    alike-as-read w text k labels Y Z (written-sound text k labels eight w Y y) (written-sound text k labels eight w Z z)
+    alike-as-read w text k labels Y Z (written-sound text k labels eight w Y y)
+    (written-sound text k labels eight w Z z)

@@ -146,7 +146,8 @@ module _ (v w k : ℕ) (f : Formula) (start : Cut) (Y Z : Watch) (t : Twins v w 
       judged h i (inr (inl q)) =
           q
           ∙ sym (d .named i p .1
-          (subst (λ (L : Ledger). (p < k) × Open (L .closed) p × NamesProcess p L) (t .same-ledger) (c .named h p .0 q)))
+          (subst (λ (L : Ledger). (p < k) × Open (L .closed) p
+          × NamesProcess p L) (t .same-ledger) (c .named h p .0 q)))
       judged h i (inr (inr (n, q))) =
           q
           ∙ sym (d .closes-exactly i p n .1

@@ -175,8 +175,10 @@ module _ (w k : ℕ) (f : Formula) (start : Cut) (v : ℕ) (wide : 2 ≤ v) (n :
         → Valid (Z .ledger .history) e → length (e ∷ Z .ledger .history) ≤ n
     next-short e i ready valid =
         let day = day-is-listed v wide k n events m given in
-        let next : History k Valid (e ∷ Z .ledger .history) =
-        (record { formed = S .right .right .formed e i; ready = ready; true-clock = valid }, S .right .right .by-rule) in
+        let next : History k Valid (e ∷ Z .ledger .history) = (
+          record { formed = S .right .right .formed e i; ready = ready; true-clock = valid },
+          S .right .right .by-rule,
+        ) in
         let short = history-within k (e ∷ Z .ledger .history) (reverse es) next (day .history)
         (λ x j. day .alone x (in-reverse x es .1 j))
         (λ x j. in-reverse x es .0

@@ -1,5 +1,5 @@
--- A busiest day is taken whole: its events may be taken in the list's order, and the frontiers that they keep on the way
--- are never more than at its end.
+-- A busiest day is taken whole: its events may be taken in the list's order, and the frontiers that they keep on the
+-- way are never more than at its end.
 use Prim.Native.Nat.{ℕ, zero, suc, _*_, _≤_, _<_}
 use native.Mathlib.Omega.{arith}
 use native.Mathlib.Nat.{suc-mul}

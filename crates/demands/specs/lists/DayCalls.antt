@@ -69,7 +69,8 @@ pub record Sendable (w k : ℕ) (e : Event) : Type 0 where
 
 -- ---- An event that may be taken next is held, where none is pending
 
-module _ (w k : ℕ) (eight : k ≤ 8) (ts : List Event) (e : Event) (o : Sendable w k e) (next : Takeable k Valid ts e) where
+module _ (w k : ℕ) (eight : k ≤ 8) (ts : List Event) (e : Event) (o : Sendable w k e)
+    (next : Takeable k Valid ts e) where
   no-closed : namesClosed 0 e ≡ false
   unfolding namesClosed
   no-closed = any-false-i 8 (λ p. involved e p && bit 0 p) (λ p l. rw (bit-zero p) (neither (involved e p)))
@@ -80,7 +81,8 @@ module _ (w k : ℕ) (eight : k ≤ 8) (ts : List Event) (e : Event) (o : Sendab
 
   not-taken : alreadyTaken e (taken ts) ≡ false
   unfolding alreadyTaken
-  not-taken = any-false-i 8 (λ p. involved e p && leb (count e p) (taken ts p)) (λ p l. at-process p (involved e p) refl)
+  not-taken = any-false-i 8 (λ p. involved e p && leb (count e p) (taken ts p))
+      (λ p l. at-process p (involved e p) refl)
     where
       at-process : (p : ℕ) (b : Bool) → involved e p ≡ b → (involved e p && leb (count e p) (taken ts p)) ≡ false
       at-process p true h =
@@ -208,7 +210,8 @@ module _ (w k : ℕ) (f : Formula) (start : Cut) (some-process : 0 < k) (eight-p
       omega (
         arith,
         enough,
-        alone-most k some-process eight-processes (e ∷ ts) past only n (omega (arith, l, length-reverseAux es (e ∷ ts))),
+        alone-most k some-process eight-processes (e ∷ ts) past only n
+            (omega (arith, l, length-reverseAux es (e ∷ ts))),
       ) in
       all-took es (e ∷ ts) h alone l (λ x m. fine x (List·Memᴰ·tail m)) 0 _
       (one-took w k f start room some few rest scratch even ts e (fine e (List·Memᴰ·head refl)) past only most more Z T)

@@ -100,18 +100,30 @@ found-neither line i (f ∷ fs) =
     by-test (λ (a : Answer). neither a ≡ true) (bit (f .values) line) (found i) (findFrom line (i + 1) fs) (λ _. refl)
     (λ _. found-neither line (i + 1) fs)
 
+-- The buffers of an offer, of a find or a close, of a take.
+abbrev lone : List ℕ → Buffers
+lone s = record { bytes = s; window = []; scratch = [] }
+
+abbrev pair : List ℕ → List ℕ → Buffers
+pair s window = record { bytes = s; window = window; scratch = [] }
+
+abbrev triple : List ℕ → List ℕ → List ℕ → Buffers
+triple s window scratch = record { bytes = s; window = window; scratch = scratch }
+
+-- 6, where record and window are lent.
+abbrev wrongPair : ℕ → List ℕ → List ℕ → Bool
+wrongPair w s window = badRecordLength w (length s) || badWindowLength w (length window)
+
 offer-judged : (w mask : ℕ) (clock labels s : List ℕ)
-    → Judged (λ (o : Offered). o .answer) (λ o. record { bytes = o .bytes; window = []; scratch = [] })
-    (record { bytes = s; window = []; scratch = [] }) (badRecordLength w (length s)) (badState w 1024 s)
-    (offerCall w mask clock labels s)
+    → Judged (λ (o : Offered). o .answer) (λ o. lone (o .bytes)) (lone s) (badRecordLength w (length s))
+    (badState w 1024 s) (offerCall w mask clock labels s)
 unfolding offerCall neither
 offer-judged w mask clock labels s =
     let by = by-test (λ (o : Offered). neither (o .answer) ≡ true) in
     let back : ℕ → Offered = λ n. record { answer = turnedBack n 0; bytes = s } in
     let e = offeredEvent mask clock labels in
-    judged (λ (o : Offered). o .answer) (λ o. record { bytes = o .bytes; window = []; scratch = [] })
-    (record { bytes = s; window = []; scratch = [] }) (badRecordLength w (length s)) (badState w 1024 s) (back 6) (back 34)
-    _ refl refl refl refl
+    judged (λ (o : Offered). o .answer) (λ o. lone (o .bytes)) (lone s) (badRecordLength w (length s))
+    (badState w 1024 s) (back 6) (back 34) _ refl refl refl refl
     (by (badMask (processCount s) mask) (back 7) _ (λ _. refl) λ _.
     by (badClock (processCount s) mask clock) (back 8) _ (λ _. refl) λ _.
     by (badLabels mask labels) (back 9) _ (λ _. refl) λ _.
@@ -122,40 +134,35 @@ offer-judged w mask clock labels s =
     by (leb 32 (pendingCount s)) (back 33) _ (λ _. refl) λ _. refl)
 
 take-judged : (w cap : ℕ) (s window scratch : List ℕ)
-    → Judged (λ (o : Taken). o .answer) (λ o. record { bytes = o .bytes; window = o .window; scratch = o .scratch })
-    (record { bytes = s; window = window; scratch = scratch }) (badLengths w (length s) (length window) (length scratch))
-    (badState w (roomOf w (length window)) s) (takeCapped w cap s window scratch)
+    → Judged (λ (o : Taken). o .answer) (λ o. triple (o .bytes) (o .window) (o .scratch)) (triple s window scratch)
+    (badLengths w (length s) (length window) (length scratch)) (badState w (roomOf w (length window)) s)
+    (takeCapped w cap s window scratch)
 unfolding takeCapped takeWithin
 take-judged w cap s window scratch =
     let back : ℕ → Taken = λ n. record { answer = turnedBack n 0; bytes = s; window = window; scratch = scratch } in
     let fs = frontiers w window (keptCount s) in
-    judged (λ (o : Taken). o .answer) (λ o. record { bytes = o .bytes; window = o .window; scratch = o .scratch })
-    (record { bytes = s; window = window; scratch = scratch }) (badLengths w (length s) (length window) (length scratch))
-    (badState w (roomOf w (length window)) s) (back 6) (back 34) _ refl refl refl refl
-    (decided-neither w s window fs (trial w s (allowedOf w cap window) fs))
+    judged (λ (o : Taken). o .answer) (λ o. triple (o .bytes) (o .window) (o .scratch)) (triple s window scratch)
+    (badLengths w (length s) (length window) (length scratch)) (badState w (roomOf w (length window)) s) (back 6)
+    (back 34) _ refl refl refl refl (decided-neither w s window fs (trial w s (allowedOf w cap window) fs))
 
 find-judged : (w line : ℕ) (s window : List ℕ)
-    → Judged (λ (a : Answer). a) (λ _. record { bytes = s; window = window; scratch = [] })
-    (record { bytes = s; window = window; scratch = [] }) (badRecordLength w (length s) || badWindowLength w (length window))
+    → Judged (λ (a : Answer). a) (λ _. pair s window) (pair s window) (wrongPair w s window)
     (badState w (roomOf w (length window)) s) (findCall w line s window)
 unfolding findCall neither
 find-judged w line s window =
-    judged (λ (a : Answer). a) (λ _. record { bytes = s; window = window; scratch = [] })
-    (record { bytes = s; window = window; scratch = [] }) (badRecordLength w (length s) || badWindowLength w (length window))
+    judged (λ (a : Answer). a) (λ _. pair s window) (pair s window) (wrongPair w s window)
     (badState w (roomOf w (length window)) s) (turnedBack 6 0) (turnedBack 34 0) _ refl refl refl refl
     (by-test (λ (a : Answer). neither a ≡ true) (leb (lineTotal s) line) (turnedBack 11 0) _ (λ _. refl)
     (λ _. found-neither line 0 (frontiers w window (keptCount s))))
 
 close-judged : (w p : ℕ) (s window : List ℕ)
-    → Judged (λ (o : Closed). o .answer) (λ o. record { bytes = o .bytes; window = o .window; scratch = [] })
-    (record { bytes = s; window = window; scratch = [] }) (badRecordLength w (length s) || badWindowLength w (length window))
+    → Judged (λ (o : Closed). o .answer) (λ o. pair (o .bytes) (o .window)) (pair s window) (wrongPair w s window)
     (badState w (roomOf w (length window)) s) (closeCall w p s window)
 unfolding closeCall closeProcess neither
 close-judged w p s window =
     let by = by-test (λ (o : Closed). neither (o .answer) ≡ true) in
     let back : ℕ → Closed = λ n. record { answer = turnedBack n 0; bytes = s; window = window } in
-    judged (λ (o : Closed). o .answer) (λ o. record { bytes = o .bytes; window = o .window; scratch = [] })
-    (record { bytes = s; window = window; scratch = [] }) (badRecordLength w (length s) || badWindowLength w (length window))
+    judged (λ (o : Closed). o .answer) (λ o. pair (o .bytes) (o .window)) (pair s window) (wrongPair w s window)
     (badState w (roomOf w (length window)) s) (back 6) (back 34) _ refl refl refl refl
     (by (notOpen (processCount s) (closedMask s) p) (back 41) _ (λ _. refl) λ _.
     by (namedBy p (pendingEvents w s)) (back 42) _ (λ _. refl) λ _. refl)

@@ -43,8 +43,20 @@ record Says (b : Bool) (C : Type 0) : Type 0 where
   fails : (b ≡ false) ↔ (C → ⊥)
 
 says : (b : Bool) (C : Type 0) → (T b → C) → (C → T b) → Says b C
-says true C i e = record { holds = ((λ _. i tt), λ _. refl); fails = ((λ h. absurd (true≢false h)), λ n. absurd (n (i tt))) }
-says false C i e = record { holds = ((λ h. absurd (true≢false (sym h))), λ c. absurd (e c)); fails = ((λ _ c. e c), λ _. refl) }
+says true C i e = record {
+  holds = ((λ _. i tt), λ _. refl);
+  fails = (
+    (λ h. absurd (true≢false h)),
+    λ n. absurd (n (i tt)),
+  );
+}
+says false C i e = record {
+  holds = ((λ h. absurd (true≢false (sym h))), λ c. absurd (e c));
+  fails = (
+    (λ _ c. e c),
+    λ _. refl,
+  );
+}
 
 -- ---- 7, 8, 9
 
@@ -58,7 +70,11 @@ mask-says k mask l = says (badMask k mask) (BadMask k mask) there back
     of-bit : T (anyBelow 64 high) → BadMask k mask
     of-bit t =
         let x = any-e 64 high t in
-        inr (x .0, leb→le k (x .0) (and-l (leb k (x .0)) (bit mask (x .0)) (x .2)), T-true (bit mask (x .0)) (and-r (leb k (x .0)) (bit mask (x .0)) (x .2)))
+        inr (
+          x .0,
+          leb→le k (x .0) (and-l (leb k (x .0)) (bit mask (x .0)) (x .2)),
+          T-true (bit mask (x .0)) (and-r (leb k (x .0)) (bit mask (x .0)) (x .2)),
+        )
 
     there : T (badMask k mask) → BadMask k mask
     there t = ⊎-elim (λ z. inl (eqb→eq mask 0 z)) of-bit (or-e (eqb mask 0) (anyBelow 64 high) t)
@@ -84,7 +100,10 @@ clock-says k mask clock = says (badClock k mask clock) (BadClock k mask clock) t
           p,
           x .1,
           ⊎-elim
-              (λ a. inl (T-true (bit mask p) (and-l (bit mask p) (eqb (at clock p) 0) a), eqb→eq (at clock p) 0 (and-r (bit mask p) (eqb (at clock p) 0) a)))
+              (λ a. inl (
+                T-true (bit mask p) (and-l (bit mask p) (eqb (at clock p) 0) a),
+                eqb→eq (at clock p) 0 (and-r (bit mask p) (eqb (at clock p) 0) a),
+              ))
               (λ a. inr (
                 leb→le k p (and-l (leb k p) (not (eqb (at clock p) 0)) a),
                 λ z. T-not (eqb (at clock p) 0) (and-r (leb k p) (not (eqb (at clock p) 0)) a)
@@ -93,8 +112,10 @@ clock-says k mask clock = says (badClock k mask clock) (BadClock k mask clock) t
               (or-e (bit mask p && eqb (at clock p) 0) (leb k p && not (eqb (at clock p) 0)) (x .2)),
         )
 
-    here : (p : ℕ) → ((bit mask p ≡ true) × (at clock p ≡ 0)) ⊎ ((k ≤ p) × (at clock p ≢ 0)) → T (badCount k mask clock p)
-    here p (inl (b, z)) = or-l (bit mask p && eqb (at clock p) 0) (leb k p && not (eqb (at clock p) 0)) (and-i (bit mask p) (eqb (at clock p) 0) (true-T b) (true-T (eq-eqb (at clock p) 0 z)))
+    here : (p : ℕ) → ((bit mask p ≡ true) × (at clock p ≡ 0)) ⊎ ((k ≤ p) × (at clock p ≢ 0))
+        → T (badCount k mask clock p)
+    here p (inl (b, z)) = or-l (bit mask p && eqb (at clock p) 0) (leb k p && not (eqb (at clock p) 0))
+        (and-i (bit mask p) (eqb (at clock p) 0) (true-T b) (true-T (eq-eqb (at clock p) 0 z)))
     here p (inr (l, n)) =
         or-r (bit mask p && eqb (at clock p) 0) (leb k p && not (eqb (at clock p) 0))
         (and-i (leb k p) (not (eqb (at clock p) 0)) (true-T (le-leb k p l))
@@ -118,7 +139,8 @@ labels-say mask labels = says (badLabels mask labels) (BadLabels mask labels) th
           p,
           x .1,
           unset (bit mask p) (and-l (not (bit mask p)) (not (eqb (at labels p) 0)) (x .2)),
-          λ z. T-not (eqb (at labels p) 0) (and-r (not (bit mask p)) (not (eqb (at labels p) 0)) (x .2)) (true-T (eq-eqb (at labels p) 0 z)),
+          λ z. T-not (eqb (at labels p) 0) (and-r (not (bit mask p)) (not (eqb (at labels p) 0)) (x .2))
+              (true-T (eq-eqb (at labels p) 0 z)),
         )
 
     back : BadLabels mask labels → T (badLabels mask labels)
@@ -159,8 +181,10 @@ module _ (w k : ℕ) (f : Formula) (start : Cut) (Z : Watch) (S : Sound w k f st
   taken-says = says (alreadyTaken e (taken (L .history))) (IsTaken Z e)
       (λ t. let x = any-e 8 (λ p. involved e p && leb (count e p) (taken (L .history) p)) t in (
         x .0,
-        T-true (involved e (x .0)) (and-l (involved e (x .0)) (leb (count e (x .0)) (taken (L .history) (x .0))) (x .2)),
-        leb→le (count e (x .0)) (taken (L .history) (x .0)) (and-r (involved e (x .0)) (leb (count e (x .0)) (taken (L .history) (x .0))) (x .2)),
+        T-true (involved e (x .0)) (and-l (involved e (x .0)) (leb (count e (x .0)) (taken (L .history) (x .0)))
+            (x .2)),
+        leb→le (count e (x .0)) (taken (L .history) (x .0)) (and-r (involved e (x .0))
+            (leb (count e (x .0)) (taken (L .history) (x .0))) (x .2)),
       ))
       (λ x. any-i 8 (λ p. involved e p && leb (count e p) (taken (L .history) p)) (x .0)
       (among-eight (x .0) (x .1) (decLt (x .0) 8))
@@ -186,14 +210,16 @@ module _ (w k : ℕ) (f : Formula) (start : Cut) (Z : Watch) (S : Sound w k f st
           let g : Event = x .0 in
           let y = any-e 8 (common g) (x .2) in
           let p : ℕ = y .0 in
-          let both : T (involved e p && involved g p) = and-l (involved e p && involved g p) (eqb (count e p) (count g p)) (y .2) in (
+          let both : T (involved e p && involved g p) =
+          and-l (involved e p && involved g p) (eqb (count e p) (count g p)) (y .2) in (
             g,
             x .1,
             (
               p,
               T-true (involved e p) (and-l (involved e p) (involved g p) both),
               T-true (involved g p) (and-r (involved e p) (involved g p) both),
-              eqb→eq (count e p) (count g p) (and-r (involved e p && involved g p) (eqb (count e p) (count g p)) (y .2)),
+              eqb→eq (count e p) (count g p) (and-r (involved e p && involved g p) (eqb (count e p) (count g p))
+                  (y .2)),
             ),
           )
 

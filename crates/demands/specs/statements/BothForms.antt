@@ -19,8 +19,9 @@ use Rattle.demands.specs.statements.Moves.{nextMove}
 abbrev pub SameCall : (v w : ℕ) (c d : Call) → Type 0
 SameCall v w (offers mask clock labels) d = d ≡ offers mask clock labels
 SameCall v w (takes cap more scratch) d =
-    (frontiers long : ℕ) × (scratch′ : List ℕ) × (more ≡ frontiers * frontierLength v) × (length scratch ≡ long * frontierLength v)
-    × (length scratch′ ≡ long * frontierLength w) × (d ≡ takes cap (frontiers * frontierLength w) scratch′)
+    (added long : ℕ) × (scratch′ : List ℕ) × (more ≡ added * frontierLength v)
+    × (length scratch ≡ long * frontierLength v) × (length scratch′ ≡ long * frontierLength w)
+    × (d ≡ takes cap (added * frontierLength w) scratch′)
 SameCall v w (finds line) d = d ≡ finds line
 SameCall v w (closes p) d = d ≡ closes p
 SameCall v w (mislends m) d = (n : Mislent) × (d ≡ mislends n) × (answerTo v m ≡ answerTo w n)

@@ -55,9 +55,10 @@ pub record DayTaken (k : ℕ) (f : Formula) (start : Cut) (es : List Event) (m :
   -- all answers: no call was turned back, so no take with 36
   pub answered : Z .answers ≡ dayAnswers k f start (reverse es) ++ (opening ∷ [])
 
--- The call for k processes and n events gave m, with counts of v bytes. Then a window of m frontiers takes the day: open
--- accepts every rule of the grammar within its limits, with start labels that are 0 from process k up, in a record and a
--- window of these lengths, with counts of w bytes; and the calls take all events of the list and keep m frontiers.
+-- The call for k processes and n events gave m, with counts of v bytes. Then a window of m frontiers takes the day:
+-- open accepts every rule of the grammar within its limits, with start labels that are 0 from process k up, in a record
+-- and a window of these lengths, with counts of w bytes; and the calls take all events of the list and keep m
+-- frontiers.
 abbrev pub DayFitsItsWindow : Type 0
 DayFitsItsWindow =
     (v : ℕ) → 2 ≤ v → (k n : ℕ) (events : List ℕ) (m : ℕ) → Gives v k n events m
@@ -71,8 +72,8 @@ DayFitsItsWindow =
     × DayTaken k f (at labels) es m (openCall w (textOf f) k labels s window .answer)
     (atEnd w (textOf f) k labels s window cs)
 
--- So does every watch of k processes, however it was opened, on a window of m frontiers or more: as it was lent to open,
--- or with zeros appended at the first take.
+-- So does every watch of k processes, however it was opened, on a window of m frontiers or more: as it was lent to
+-- open, or with zeros appended at the first take.
 abbrev pub DayIsTaken : Type 0
 DayIsTaken =
     (v : ℕ) → 2 ≤ v → (k n : ℕ) (events : List ℕ) (m : ℕ) → Gives v k n events m

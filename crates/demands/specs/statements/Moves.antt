@@ -21,7 +21,8 @@ nextMove v w Z t target = moveCall v w (Z .bytes) (Z .window) t target
 
 -- The four lengths are right, and the windows are of as many frontiers.
 abbrev pub RightMove : (v w : ℕ) (Z : Watch) (t target : List ℕ) → Type 0
-RightMove v w Z t target = badMoveLengths v w (length (Z .bytes)) (length (Z .window)) (length t) (length target) ≡ false
+RightMove v w Z t target = badMoveLengths v w (length (Z .bytes)) (length (Z .window)) (length t) (length target)
+    ≡ false
 
 -- Every taken count, and every count of a pending event, has a place in w bytes. (Then so has every other count of such
 -- a watch: last clocks and kept cuts have none that is larger, and unused places are 0.)

@@ -1,6 +1,6 @@
 -- What a page after a list of calls answers and shows (02 [7]): a row for each kept cut, in the window's order, with
--- its counts and PaCTL's truth of the rule there; and that watches which end alike print alike. Proved in lists/Page and
--- forms/PagesAlike.
+-- its counts and PaCTL's truth of the rule there; and that watches which end alike print alike. Proved in lists/Page
+-- and forms/PagesAlike.
 use Prim.Native.Nat.{ℕ, _*_, _≤_, _<_}
 use mathlib.Core.Path.{_≡_}
 use mathlib.Core.Bool.{true, false}
@@ -53,8 +53,8 @@ pub record PageShows (w k : ℕ) (f : Formula) (start : Cut) (Z : Watch) : Type 
 abbrev pub PageShowsKept : Type 0
 PageShowsKept = AfterEveryList PageShows
 
--- Two watches of one form, whatever calls and moves wrote them, that accepted the same events, closed the same processes
--- and ended with "nothing ready" (demand 3): their pages, in a buffer of the same bytes, are the same.
+-- Two watches of one form, whatever calls and moves wrote them, that accepted the same events, closed the same
+-- processes and ended with "nothing ready" (demand 3): their pages, in a buffer of the same bytes, are the same.
 abbrev pub PagesAlike : Type 0
 PagesAlike =
     (text : List ℕ) (k : ℕ) (labels : List ℕ) → EightBytes labels

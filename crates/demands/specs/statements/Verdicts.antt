@@ -1,6 +1,6 @@
--- Verdicts (demands 2 and 3): after every list of calls, each verdict that open or a take reported on the way is PaCTL's
--- at the cut that it was reported for, over all consistent cuts of the events taken by the list's end. Proved in
--- lists/VerdictsTrue.
+-- Verdicts (demands 2 and 3): after every list of calls, each verdict that open or a take reported on the way is
+-- PaCTL's at the cut that it was reported for, over all consistent cuts of the events taken by the list's end. Proved
+-- in lists/VerdictsTrue.
 use Rattle.demands.specs.EveryList.{AfterEveryList}
 use Rattle.demands.specs.Verdict.{Truthful}
 

@@ -273,7 +273,8 @@ module _ (s : List ℕ) (ps : List Piece) (d : AllEnded ps) where
   pub refused-exactly : (n i : ℕ) → (limited s (lineRead s ps) ≡ Refused n i) ↔ FirstLineFault n ps s i
   refused-exactly n i = (first-fault s ps n i d, λ f. go f (limited s (lineRead s ps)) refl)
     where
-      go : FirstLineFault n ps s i → (r : Read) → limited s (lineRead s ps) ≡ r → limited s (lineRead s ps) ≡ Refused n i
+      go : FirstLineFault n ps s i → (r : Read) → limited s (lineRead s ps) ≡ r → limited s (lineRead s ps)
+          ≡ Refused n i
       go f (At j v) e = absurd (read-faultless s ps j v d e n i (f .here))
       go f (Refused m j) e = let same = first-unique s ps m n j i (first-fault s ps m j d e) f in
           e ∙ ap₂ Refused (same .0) (same .1)

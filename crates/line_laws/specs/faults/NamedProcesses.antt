@@ -36,7 +36,8 @@ unfoldable pub firstRead : List ℕ → Read
 firstRead s = thenClose s 1 8 (thenList s true processLimit (headRead s (ascii "(did (")) .read)
 
 abbrev pub rest : ℕ → ℕ → List Piece
-rest k n = aByte 32 ∷ aByte 40 ∷ list false countLimit k k ∷ aByte 32 ∷ aByte 40 ∷ list false labelLimit n n ∷ aByte 41 ∷ []
+rest k n = aByte 32 ∷ aByte 40 ∷ list false countLimit k k ∷ aByte 32 ∷ aByte 40 ∷ list false labelLimit n n ∷ aByte 41
+    ∷ []
 
 pub line-after : (s : List ℕ) (k n : ℕ) → lineRead s (didPieces k n) ≡ thenEnd s (readPieces s (rest k n) (firstRead s))
 unfolding didPieces lineRead readPieces readPiece thenBytes firstRead

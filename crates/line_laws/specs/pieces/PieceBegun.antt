@@ -247,7 +247,8 @@ piece-stood s bs (aByte b) i v d g =
     here : Begun s bs i → Stood (λ (x : List ℕ). x ≡ []) s bs (At i v)
     here q = ([], (refl, rw (append-nil bs) q))
 piece-stood s bs (aNumber least most b) i v d g =
-    stood-byte Numeral (PieceText (aNumber least most b)) s bs b (numberAt s i least most) (d .1) (λ x n. (x, (n, refl)))
+    stood-byte Numeral (PieceText (aNumber least most b)) s bs b (numberAt s i least most) (d .1)
+    (λ x n. (x, (n, refl)))
     (numeral-stood s bs _ (number-stood s bs i least most g))
 piece-stood s bs (list ascending most fewest fullest) i v d g =
     stood-close Inner (PieceText (list ascending most fewest fullest)) s bs fewest fullest

@@ -152,7 +152,8 @@ did-parts s k n j₁ e₁ m₁ j₂ e₂ m₂ j₃ e₃ m₃ i ps cs ls head p b
 -- From behind the line's end to its first byte.
 did-read-said : (s : List ℕ) (k n i v : ℕ) (first second : Read)
     → first ≡ thenClose s 1 8 (thenList s true processLimit (headRead s (ascii "(did (")) .read)
-    → n ≡ valueRead first → second ≡ thenClose s k k (thenList s false countLimit (thenBytes s (ascii " (") first) .read)
+    → n ≡ valueRead first → second ≡ thenClose s k k (thenList s false countLimit
+    (thenBytes s (ascii " (") first) .read)
     → thenLast s (thenClose s n n (thenList s false labelLimit (thenBytes s (ascii " (") second) .read)) ≡ At i v
     → DidSays s k (thenList s true processLimit (headRead s (ascii "(did (")) .numbers)
     (thenList s false countLimit (thenBytes s (ascii " (") first) .numbers)

@@ -126,8 +126,10 @@ eight-small ls h p = go (decLt p 8)
     go (yes l) = let q = at-most false 0 labelLimit ls h p in rw (at-listOf 8 (at ls) p l) (omega (arith, q))
     go (no l) = rw (at-beyond (eightValues ls) p (omega (arith, length-listOf 8 (at ls)))) (lit< tt)
 
-eight-unpacked : (ls : List ℕ) → InLimits false 0 labelLimit ls → unpackLabels (packedWord 256 (eightValues ls)) ≡ eightValues ls
-eight-unpacked ls h = labels-unpacked (eightValues ls) (eight-small ls h) ∙ listOf-at 8 (eightValues ls) (length-listOf 8 (at ls))
+eight-unpacked : (ls : List ℕ) → InLimits false 0 labelLimit ls → unpackLabels (packedWord 256 (eightValues ls))
+    ≡ eightValues ls
+eight-unpacked ls h = labels-unpacked (eightValues ls) (eight-small ls h)
+    ∙ listOf-at 8 (eightValues ls) (length-listOf 8 (at ls))
 
 -- ---- The theorem
 
@@ -154,7 +156,13 @@ event-is-as-said s k mask c01 c23 c45 c67 labels h =
     )
 
 pub start-said-is-read : StartSaidIsRead
-start-said-is-read s k ls x = (packedWord 256 (eightValues ls), (start-said-read s k ls x, eight-unpacked ls (x .limits)))
+start-said-is-read s k ls x = (
+  packedWord 256 (eightValues ls),
+  (
+    start-said-read s k ls x,
+    eight-unpacked ls (x .limits),
+  ),
+)
 
 pub event-said-is-read : EventSaidIsRead
 unfolding didOf

@@ -71,7 +71,8 @@ numbers-said (suc left) s ascending most least before j =
         let a = number-after s j least most e v q in
         let low : least ≤ value (digits (drop j s)) = rw w at (a .low) in
         let high : value (digits (drop j s)) ≤ most = rw w at (a .high) in
-        if-known (λ (x : ListRead). Said s ascending most least before j (x .numbers) (x .read)) (eqb (byteAt s e) 32) _ _
+        if-known (λ (x : ListRead). Said s ascending most least before j (x .numbers) (x .read)) (eqb (byteAt s e) 32) _
+        _
         (λ t. let x = numbersAt left s ascending most (cond ascending (v + 1) 0) (before ++ v ∷ []) (e + 1) in
         let more = further (cond ascending (v + 1) 0) (before ++ v ∷ []) (e + 1) in
         said-more s ascending most least before j (e + 1) (digits (drop j s)) (x .numbers) (x .read) m

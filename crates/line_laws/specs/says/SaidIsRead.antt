@@ -108,7 +108,8 @@ unfolding thenClose
 close-within s fewest fullest i n b low high = rw (b, le-leb fewest n low, le-leb n fullest high)
 
 -- Bytes that stand are passed.
-pub bytes-within : (s bs xs : List ℕ) (j v : ℕ) → StandsAt s j (bs ++ xs) → thenBytes s bs (At j v) ≡ At (j + length bs) v
+pub bytes-within : (s bs xs : List ℕ) (j v : ℕ) → StandsAt s j (bs ++ xs) → thenBytes s bs (At j v)
+    ≡ At (j + length bs) v
 unfolding thenBytes thenByte StandsAt
 bytes-within s [] xs j v h = rw (add-zero j)
 bytes-within s (b ∷ bs) xs j v h =

@@ -25,7 +25,11 @@ word-part base h (v ∷ vs) (suc i) =
     let low : (v % base + base * packedWord base vs) / base ≡ packedWord base vs =
     add-mul-div-left (v % base) (packedWord base vs) h ∙ rw (div-eq-of-lt (mod-lt v h)) (zero-add (packedWord base vs))
     in
-    rw (pow-succ', ← div-div-eq-div-mul (v % base + base * packedWord base vs) base (base ^ i), low) (word-part base h vs i)
+    rw (
+      pow-succ',
+      ← div-div-eq-div-mul (v % base + base * packedWord base vs) base (base ^ i),
+      low,
+    ) (word-part base h vs i)
 
 -- ---- Bits
 
@@ -53,7 +57,8 @@ labels-unpacked vs h = listOf-same 8 (part 8 (packedWord 256 vs)) (at vs) (λ p 
 
 -- Two counts in a word.
 two-parts : (a b : ℕ) → a < countLimit + 1 → b < countLimit + 1
-    → (part 32 (packedWord (countLimit + 1) (a ∷ b ∷ [])) 0 ≡ a) × (part 32 (packedWord (countLimit + 1) (a ∷ b ∷ [])) 1 ≡ b)
+    → (part 32 (packedWord (countLimit + 1) (a ∷ b ∷ [])) 0 ≡ a) × (part 32 (packedWord (countLimit + 1) (a ∷ b ∷ [])) 1
+    ≡ b)
 two-parts a b h l = (
   part-is 32 (countLimit + 1) refl (a ∷ b ∷ []) 0 h,
   part-is 32 (countLimit + 1) refl (a ∷ b ∷ []) 1 l,

@@ -23,7 +23,8 @@ use Rattle.line_pieces.specs.NumberList.{afterNumber, numbersAt, allNumb
 pub eight-more : (ns : List ℕ) (v : ℕ) → eightValues (ns ++ v ∷ []) ≡ set (eightValues ns) (length ns) v
 eight-more ns v =
     ext-getD 0 (eightValues (ns ++ v ∷ [])) (set (eightValues ns) (length ns) v)
-    (length-listOf 8 (at (ns ++ v ∷ [])) ∙ sym (length-listOf 8 (at ns)) ∙ sym (length-set (eightValues ns) (length ns) v))
+    (length-listOf 8 (at (ns ++ v ∷ [])) ∙ sym (length-listOf 8 (at ns))
+    ∙ sym (length-set (eightValues ns) (length ns) v))
     (λ p h. let q : p < 8 = omega (arith, length-listOf 8 (at (ns ++ v ∷ []))) in
     getD-listOf 8 (at (ns ++ v ∷ [])) p 0 q ∙ go p q (ltb p (length ns)) (eqb p (length ns)) refl refl)
   where
@@ -36,12 +37,14 @@ eight-more ns v =
     go p q true false e f =
         let r : p < length ns = ltb-true p (length ns) e in
         List·getD-append ns (v ∷ []) 0 p r
-        ∙ sym (getD-set-other (eightValues ns) (length ns) p v 0 (eqb-false p (length ns) f) ∙ getD-listOf 8 (at ns) p 0 q)
+        ∙ sym (getD-set-other (eightValues ns) (length ns) p v 0 (eqb-false p (length ns) f)
+        ∙ getD-listOf 8 (at ns) p 0 q)
     go p q false false e f =
         let l : length ns ≤ p = ltb-false p (length ns) e in
         let r : length (ns ++ v ∷ []) ≤ p = omega (arith, length-append ns (v ∷ []), eqb-false p (length ns) f) in
         at-beyond (ns ++ v ∷ []) p r
-        ∙ sym (getD-set-other (eightValues ns) (length ns) p v 0 (eqb-false p (length ns) f) ∙ getD-listOf 8 (at ns) p 0 q
+        ∙ sym (getD-set-other (eightValues ns) (length ns) p v 0 (eqb-false p (length ns) f)
+        ∙ getD-listOf 8 (at ns) p 0 q
         ∙ at-beyond ns p l)
 
 -- ---- The loop
@@ -86,7 +89,11 @@ module _ {s : List ℕ} {ascending : Bool} {most start : ℕ} {values : List ℕ
   going-refused n i h = rw (going-step, h, g .values-are)
 
   pub going-last : (i v : ℕ) → numberAt s here least most ≡ At i v → (byteAt s i ≡ 32 → ⊥)
-      → numbersRead (allNumbersAt s ascending most start) ≡ record { values = set values count v; read = At i (count + 1) }
+      → numbersRead (allNumbersAt s ascending most start) ≡ record {
+        values = set values count v;
+        read =
+            At i (count + 1);
+      }
   unfolding numbersRead afterNumber
   going-last i v h q = rw (going-step, h, ne-eqb (byteAt s i) 32 q, g .values-are, g .count-is, eight-more)
 

@@ -22,10 +22,12 @@ use Rattle.lines.specs.Lines.{countLimit, labelLimit, processLimit, didO
 
 -- Of each list the first eight numbers are enough.
 pub did-eight : (n : ℕ) (processes counts labels : List ℕ) (whole : Read) → n ≤ 8
-    → didOf n (eightValues processes) (eightValues counts) (eightValues labels) whole ≡ didOf n processes counts labels whole
+    → didOf n (eightValues processes) (eightValues counts) (eightValues labels) whole
+    ≡ didOf n processes counts labels whole
 unfolding didOf
 did-eight n processes counts labels (At i v) h =
-    let same : (l : List ℕ) (j : ℕ) → j < n → at (eightValues l) j ≡ at l j = λ l j p. at-listOf 8 (at l) j (omega arith) in
+    let same : (l : List ℕ) (j : ℕ) → j < n → at (eightValues l) j ≡ at l j =
+    λ l j p. at-listOf 8 (at l) j (omega arith) in
     rw (
       listOf-at 8 (eightValues counts) (length-listOf 8 (at counts)),
       placed-same n (at (eightValues processes)) (at processes) (λ j. 1) (λ j. 1) (same processes) (λ j p. refl),

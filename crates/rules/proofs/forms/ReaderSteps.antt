@@ -46,7 +46,8 @@ digit-met s i bound value = go (leb 48 c) (leb c 57) (ltb (c - 48) bound) refl r
     go true false z p q l h = let z : _≡_ {A = ℕ} 0 1 = cc in absurd (omega arith)
     go false y z p q l h = let z : _≡_ {A = ℕ} 0 1 = cc in absurd (omega arith)
 
-pub digit-other : (s : List ℕ) (i bound number : ℕ) → digitAt s i bound ≡ NoDigit number → (r : Reading) → expectDigit s i bound r ≡ faulty number i
+pub digit-other : (s : List ℕ) (i bound number : ℕ) → digitAt s i bound ≡ NoDigit number → (r : Reading)
+    → expectDigit s i bound r ≡ faulty number i
 unfolding digitAt expectDigit
 digit-other s i bound number h r = go (leb 48 c && leb c 57) (ltb (c - 48) bound) h
   where

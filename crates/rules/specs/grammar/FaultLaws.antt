@@ -51,7 +51,8 @@ clean-next s k i h q j l over = go (ltb j i) refl
     go true e = h j (ltb-true j i e) over
     go false e = q (subst (Over s k) (omega (arith, ltb-false j i e)) over)
 
-clean-stands : (s : List ℕ) (k i : ℕ) (bs : List ℕ) → Clean s k i → StandsAt s i bs → T (every plain bs) → Clean s k (i + length bs)
+clean-stands : (s : List ℕ) (k i : ℕ) (bs : List ℕ) → Clean s k i → StandsAt s i bs → T (every plain bs)
+    → Clean s k (i + length bs)
 unfolding StandsAt every
 clean-stands s k i [] h x p = subst (Clean s k) (omega arith) h
 clean-stands s k i (b ∷ bs) h x p =

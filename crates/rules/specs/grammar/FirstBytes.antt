@@ -40,7 +40,8 @@ begun-next {s} {bs} {i} {b} p e h = record {
   ends = omega (arith, length-append bs (b ∷ []), p .ends);
 }
 
-begun-stands : {s bs : List ℕ} {i : ℕ} (xs : List ℕ) → Begun s bs i → StandsAt s i xs → T (every small xs) → Begun s (bs ++ xs) (i + length xs)
+begun-stands : {s bs : List ℕ} {i : ℕ} (xs : List ℕ) → Begun s bs i → StandsAt s i xs → T (every small xs)
+    → Begun s (bs ++ xs) (i + length xs)
 unfolding StandsAt every
 begun-stands {s} {bs} {i} [] p q h = rw (append-nil, add-zero) p
 begun-stands {s} {bs} {i} (x ∷ xs) p q h =

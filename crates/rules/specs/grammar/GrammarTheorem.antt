@@ -105,7 +105,8 @@ module _ (s : List ℕ) (k : ℕ) where
       go (faulty m j) e (inl x) h = subst₂ (λ (m l : ℕ). FirstFault m s k l) (cc) (cc) x
       go (faulty m j) e (inr x) h =
           let one : m ≡ 1 = x .0 in
-          subst₂ (λ (m l : ℕ). FirstFault m s k l) (cc) (cc) (inside-first j (e ∙ ap (λ (z : ℕ). faulty z j) one) (x .1))
+          subst₂ (λ (m l : ℕ). FirstFault m s k l) (cc) (cc)
+          (inside-first j (e ∙ ap (λ (z : ℕ). faulty z j) one) (x .1))
 
   -- An accepted text has no fault.
   accepted-faultless : (i : ℕ) (f : Formula) → readRule s k ≡ formed i f → (n j : ℕ) → Fault n s k j → ⊥

@@ -64,7 +64,8 @@ module _ (s : List ℕ) (k : ℕ) where
       (inr (inr (inr (refl, fault)))) (omega arith) (λ _ z. omega (arith, z .0)) (λ _ z. omega (arith, z .0)))
 
   -- A byte that the grammar has at a place.
-  pub expect-out : (i b : ℕ) (r : Reading) → Outcome s k (faulty 1 i) → (byteAt s i ≡ b → Outcome s k r) → Outcome s k (expect s i b r)
+  pub expect-out : (i b : ℕ) (r : Reading) → Outcome s k (faulty 1 i) → (byteAt s i ≡ b → Outcome s k r)
+      → Outcome s k (expect s i b r)
   unfolding expect
   expect-out i b r p q = if-byte (Outcome s k) (byteAt s i) b r (faulty 1 i) q (λ _. p)
 
@@ -95,7 +96,8 @@ module _ (s : List ℕ) (k : ℕ) where
 
   -- Behind a closing bracket that stands there.
   closed-out : (cs : List Frame) (closed l : ℕ) (f : Formula) → FramesGrammatical cs → Grammatical f → closed ≡ closedLines cs → byteAt s l ≡ 41
-      → Begun s (before cs ++ textOf f) (l + 1) → Clean s k l → Outcome s k (cond (leb (closed + lineCount f) 64) (formed (l + 1) f) (faulty 3 l))
+      → Begun s (before cs ++ textOf f) (l + 1) → Clean s k l
+      → Outcome s k (cond (leb (closed + lineCount f) 64) (formed (l + 1) f) (faulty 3 l))
   unfolding Outcome Fault Fault2 Fault3
   closed-out cs closed l f frames digits lines b begun clean = go (leb (closed + lineCount f) 64) refl
     where
@@ -126,7 +128,8 @@ module _ (s : List ℕ) (k : ℕ) where
       closed-out cs closed l f (x .digits) digits lines b (begun-span (x .begun) whole (text-small f digits)) clean)
 
   -- The opening bracket, with no more allowed.
-  pub too-deep : (cs : List Frame) (i : ℕ) → Reached s k cs i → 32 ≤ length cs → byteAt s i ≡ 40 → Outcome s k (faulty 2 i)
+  pub too-deep : (cs : List Frame) (i : ℕ) → Reached s k cs i → 32 ≤ length cs → byteAt s i ≡ 40
+      → Outcome s k (faulty 2 i)
   unfolding Outcome Fault Fault2
   too-deep cs i x h b =
       inl (first-over 2 k (begun-next (x .begun) b (omega arith)) (viable-inside cs (x .digits) (40 ∷ []) (viable-part (40 ∷ []) (ascii "at") viable-at)) (x .clean)

@@ -53,7 +53,8 @@ balanced-digit : (d : ℕ) (bs : List ℕ) → Balanced bs → Balanced ((48 + d
 balanced-digit d bs h = count-other 40 (48 + d) bs (omega arith) ∙ h ∙ sym (count-other 41 (48 + d) bs (omega arith))
 
 -- A closing bracket more than opening ones, at the end; with an opening one before it that is made even.
-closed-once : (xs ys : List ℕ) → Balanced xs → occurring 40 ys + 1 ≡ occurring 41 ys → occurring 40 (xs ++ ys) + 1 ≡ occurring 41 (xs ++ ys)
+closed-once : (xs ys : List ℕ) → Balanced xs → occurring 40 ys + 1 ≡ occurring 41 ys → occurring 40 (xs ++ ys) + 1
+    ≡ occurring 41 (xs ++ ys)
 closed-once xs ys p q = omega (arith, count-append 40 xs ys, count-append 41 xs ys)
 
 pub text-balanced : (f : Formula) → Balanced (textOf f)

@@ -37,7 +37,8 @@ module _ (m : ℕ) (s : List ℕ) (E : Reading → Type 0) where
   expect-met i b r h q =
       if-byte (Met m E) (byteAt s i) b r (faulty 1 i) (λ _. q) (λ ne. inl (known m i h (λ l. l) (λ e. absurd (ne e))))
 
-  expectDigit-met : (i bound d : ℕ) (r : Reading) → d ≤ 9 → (i < m → byteAt s i ≡ 48 + d) → (bound ≤ d → E (faulty 4 i)) → Met m E r
+  expectDigit-met : (i bound d : ℕ) (r : Reading) → d ≤ 9 → (i < m → byteAt s i ≡ 48 + d) → (bound ≤ d → E (faulty 4 i))
+      → Met m E r
       → Met m E (expectDigit s i bound r)
   unfolding expectDigit place
   expectDigit-met i bound d r ten h over q = go (leb 48 c) (leb c 57) (ltb (c - 48) bound) refl refl refl
@@ -45,7 +46,8 @@ module _ (m : ℕ) (s : List ℕ) (E : Reading → Type 0) where
       c : ℕ
       c = byteAt s i
 
-      go : (x y z : Bool) → leb 48 c ≡ x → leb c 57 ≡ y → ltb (c - 48) bound ≡ z → Met m E (cond (x && y) (cond z r (faulty 4 i)) (faulty 1 i))
+      go : (x y z : Bool) → leb 48 c ≡ x → leb c 57 ≡ y → ltb (c - 48) bound ≡ z
+          → Met m E (cond (x && y) (cond z r (faulty 4 i)) (faulty 1 i))
       go true true true e₁ e₂ e₃ = q
       go true true false e₁ e₂ e₃ = known m i h (λ l. inl l) (λ e. inr (over (omega (arith, ltb-false (c - 48) bound e₃))))
       go true false z e₁ e₂ e₃ = inl (known m i h (λ l. l) (λ e. absurd (omega (arith, leb-false c 57 e₂))))
@@ -68,7 +70,8 @@ module _ (m : ℕ) (s : List ℕ) (k : ℕ) where
   closeAt-met a closed i l f g h e q =
       expect-met m s (Exact a k closed i g) l 41 _ h (go (leb (closed + lineCount f) 64) refl)
     where
-      go : (t : Bool) → leb (closed + lineCount f) 64 ≡ t → Met m (Exact a k closed i g) (cond t (formed (l + 1) f) (faulty 3 l))
+      go : (t : Bool) → leb (closed + lineCount f) 64 ≡ t
+          → Met m (Exact a k closed i g) (cond t (formed (l + 1) f) (faulty 3 l))
       go true p = inr (e, q)
       go false p =
           let over : 64 < closed + lineCount g = subst (λ (x : Formula). 64 < closed + lineCount x) q (leb-false _ _ p) in
@@ -82,7 +85,8 @@ module _ (m : ℕ) (s : List ℕ) (k : ℕ) where
   -- No brackets left: a form is too deep.
   zero-met : (closed i : ℕ) (g : Formula) → 1 ≤ depth g → (i < m → byteAt s i ≡ 40) → Met m (Exact 0 k closed i g) (formAt 0 s k closed i)
   unfolding formAt Exact
-  zero-met closed i g d h = expect-met m s (Exact 0 k closed i g) i 40 (faulty 2 i) h (inr ((λ z. omega arith), (λ shallow _ _. omega arith)))
+  zero-met closed i g d h = expect-met m s (Exact 0 k closed i g) i 40 (faulty 2 i) h
+      (inr ((λ z. omega arith), (λ shallow _ _. omega arith)))
 
   -- A byte known before m, at a place written otherwise.
   at-place : {x y b : ℕ} → x ≡ y → (x < m → byteAt s x ≡ b) → y < m → byteAt s y ≡ b

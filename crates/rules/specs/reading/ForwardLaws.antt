@@ -85,12 +85,14 @@ cond-from m false x y p q = q
 expectDigit-from : (m : ℕ) (s : List ℕ) (i bound : ℕ) (r : Reading) → m ≤ i → m ≤ place r → m ≤ place (expectDigit s i bound r)
 unfolding expectDigit place
 expectDigit-from m s i bound r h q =
-    cond-from m (leb 48 (byteAt s i) && leb (byteAt s i) 57) _ _ (cond-from m (ltb (byteAt s i - 48) bound) r (faulty 4 i) q h) h
+    cond-from m (leb 48 (byteAt s i) && leb (byteAt s i) 57) _ _
+    (cond-from m (ltb (byteAt s i - 48) bound) r (faulty 4 i) q h) h
 
 pub closeAt-from : (m : ℕ) (s : List ℕ) (closed i : ℕ) (f : Formula) → m ≤ i → m ≤ place (closeAt s closed i f)
 unfolding closeAt place
 closeAt-from m s closed i f h =
-    expect-from m s i 41 _ h (cond-from m (leb (closed + lineCount f) 64) (formed (i + 1) f) (faulty 3 i) (omega arith) h)
+    expect-from m s i 41 _ h (cond-from m (leb (closed + lineCount f) 64) (formed (i + 1) f) (faulty 3 i) (omega arith)
+    h)
 
 andThen-from : (m : ℕ) (r : Reading) (next : ℕ → Formula → Reading) → m ≤ place r
     → ((j : ℕ) (f : Formula) → m ≤ j → m ≤ place (next j f)) → m ≤ place (andThen r next)

@@ -77,7 +77,8 @@ cond-by limit false x y p q = q
 expectDigit-by : (limit : ℕ) (s : List ℕ) (i bound : ℕ) (r : Reading) → i ≤ limit → FaultBy limit r → FaultBy limit (expectDigit s i bound r)
 unfolding expectDigit FaultBy
 expectDigit-by limit s i bound r h q =
-    cond-by limit (leb 48 (byteAt s i) && leb (byteAt s i) 57) _ _ (cond-by limit (ltb (byteAt s i - 48) bound) r (faulty 4 i) q h) h
+    cond-by limit (leb 48 (byteAt s i) && leb (byteAt s i) 57) _ _
+    (cond-by limit (ltb (byteAt s i - 48) bound) r (faulty 4 i) q h) h
 
 closeAt-by : (limit : ℕ) (s : List ℕ) (closed i : ℕ) (f : Formula) → i ≤ limit → FaultBy limit (closeAt s closed i f)
 unfolding closeAt FaultBy
@@ -153,7 +154,8 @@ readRule-by s k =
     andThen-by 832 (formAt 32 s k 0 0) _ (formAt-by s k 32 0 0)
     (λ j f e.
     let x = formAt-formed s k 32 0 0 j f e in
-    cond-by 832 (ltb j (length s)) (faulty 1 j) (formed j f) (omega (arith, x .span .ends, x .short, length-textOf f)) tt)
+    cond-by 832 (ltb j (length s)) (faulty 1 j) (formed j f) (omega (arith, x .span .ends, x .short, length-textOf f))
+    tt)
 
 -- A first fault stands below 1,024, however long the text is.
 pub fault-place : FaultPlaceBelow1024

@@ -55,7 +55,8 @@ accepted s k i f h =
         record { start = cc; whole = rw same (sym (b .taken) ∙ rw l (take-length s)); ends = place ∙ l }
 
 -- The text of a form within the limits.
-pub accepts : (s : List ℕ) (k : ℕ) (f : Formula) → textOf f ≡ s → Grammatical f → WithinLimits k f → readRule s k ≡ formed (length s) f
+pub accepts : (s : List ℕ) (k : ℕ) (f : Formula) → textOf f ≡ s → Grammatical f → WithinLimits k f → readRule s k
+    ≡ formed (length s) f
 unfolding readRule andThen Exact FaultBy place
 accepts s k f e digits within = go (formAt 32 s k 0 0) refl (start-met m s k f digits (λ l p q. rw e)) (formAt-by s k 32 0 0)
   where

@@ -29,7 +29,8 @@ span-next s i b j e h = record { stands = (e, tt); ends = h }
 pub span-byte : (s : List ℕ) (i b : ℕ) → byteAt s i ≡ b → Span s i (b ∷ []) (i + 1)
 span-byte s i b e = span-next s i b (i + 1) e refl
 
-stands-append : (s : List ℕ) (i : ℕ) (xs ys : List ℕ) → StandsAt s i xs → StandsAt s (i + length xs) ys → StandsAt s i (xs ++ ys)
+stands-append : (s : List ℕ) (i : ℕ) (xs ys : List ℕ) → StandsAt s i xs → StandsAt s (i + length xs) ys
+    → StandsAt s i (xs ++ ys)
 unfolding StandsAt
 stands-append s i [] ys p q = rw (add-zero i) at q
 stands-append s i (x ∷ xs) ys p q =
@@ -71,7 +72,8 @@ rest-case P s i (b ∷ bs) word p q =
 two : (s : List ℕ) (i : ℕ) {a b : ℕ} → byteAt s i ≡ a → byteAt s (i + 1) ≡ b → Span s i (a ∷ b ∷ []) (i + 1 + 1)
 two s i e h = span-append (span-byte s i _ e) (span-byte s (i + 1) _ h)
 
-more : (s : List ℕ) (i : ℕ) {a j : ℕ} {bs : List ℕ} → byteAt s i ≡ a → StandsAt s (i + 1) bs → j ≡ i + suc (length bs) → Span s i (a ∷ bs) j
+more : (s : List ℕ) (i : ℕ) {a j : ℕ} {bs : List ℕ} → byteAt s i ≡ a → StandsAt s (i + 1) bs → j ≡ i + suc (length bs)
+    → Span s i (a ∷ bs) j
 unfolding StandsAt
 more s i e h q = record { stands = (e, h); ends = q }
 
@@ -85,7 +87,8 @@ aWord-span s i e =
     (λ _. if-byte P c 112 _ _ (λ h. two s i e h)
     (λ _. if-byte P c 121 _ _ (λ h. two s i e h)
     (λ _. if-byte P c 104 _ _ (λ h. two s i e h)
-    (λ _. if-byte P c 110 _ _ (λ h. rest-case P s (i + 1 + 1) (100 ∷ []) (BinaryWord And (i + 1 + 2)) (λ q. unfold StandsAt in (more s i e (h, q) (omega arith))) (λ j l h. omega arith))
+    (λ _. if-byte P c 110 _ _ (λ h. rest-case P s (i + 1 + 1) (100 ∷ []) (BinaryWord And (i + 1 + 2))
+    (λ q. unfold StandsAt in (more s i e (h, q) (omega arith))) (λ j l h. omega arith))
     (λ _. omega arith))))))
 
 eWord-span : (s : List ℕ) (i : ℕ) → byteAt s i ≡ 101 → WordSpan s i (eWordAt s (i + 1))

@@ -1,5 +1,6 @@
--- No event tried before decided, and `seen` says whether one of them was ready: the laws `tried-pass`, `-full`, `-false`,
--- `-fits` and `-end`. No frontier before j is what the event knows of: the laws `search-next`, `-here` and `-none`.
+-- No event tried before decided, and `seen` says whether one of them was ready: the laws `tried-pass`, `-full`,
+-- `-false`, `-fits` and `-end`. No frontier before j is what the event knows of: the laws `search-next`, `-here` and
+-- `-none`.
 use Rattle.trial.proofs.decide.Tie as tie
 use Prim.Native.Nat.{ℕ, _-_, _+_, _≤_}
 use native.Mathlib.Omega.{arith}
@@ -39,7 +40,8 @@ from w s allowed window n turn seen =
 
 abbrev Inv-loop : tie.InvT-loop
 Inv-loop s w window marks n allowed taken pending ordered turn i e known j₀ j =
-    (n ≤ 1024) × (j ≤ n) × (anyOf (stands known) (frontiers w window n) ≡ passesFrom n (frontierAt w window) (stands known) j)
+    (n ≤ 1024) × (j ≤ n) × (anyOf (stands known) (frontiers w window n)
+    ≡ passesFrom n (frontierAt w window) (stands known) j)
 
 abbrev μ-loop : tie.MeasureT-loop
 μ-loop s w window marks n allowed taken pending ordered turn i e known j₀ j = n - j
@@ -54,8 +56,8 @@ Inv-events s w window marks₀ n allowed taken pending ordered choice₀ turn₀
 abbrev μ-events : tie.MeasureT-events
 μ-events s w window marks₀ n allowed taken pending ordered choice₀ turn₀ marks choice turn = pending - turn
 
--- ---- Places in the walk: an event whose turn it is, the head of the loop over events, the start, where the event turned
--- out to be ready, and the scan for what it knows of
+-- ---- Places in the walk: an event whose turn it is, the head of the loop over events, the start, where the event
+-- turned out to be ready, and the scan for what it knows of
 
 abbrev placed : tie.After-ready Inv-loop μ-loop Inv-events μ-events
     → tie.After-place-in-turn Inv-loop μ-loop Inv-events μ-events

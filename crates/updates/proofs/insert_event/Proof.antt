@@ -51,7 +51,15 @@ returns : tie.Need-returns
 returns c =
     let a = c .before .before .before .before .before .before .before .before .before .before .before .before .before .before .args in
     let long : length (eventBytes (a .w) (a .e)) ≡ eventLength (a .w) = length-eventBytes (a .w) (a .e) (search needs) (search needs) in
-    rw (c .before .before .write-event .ensures, c .before .before .before .before .before .before .move-up .ensures, c .before .before .before .before .before .before .before .event-length .ensures .0, c .before .before .before .before .before .before .before .before .before .pending-place2 .ensures .0, c .before .before .before .before .before .before .before .before .before .before .pending-place .ensures .0, c .before .before .before .before .before .before .before .before .before .before .before .pending-count .ensures .0) (stored-inserted (a .w) (a .i) (now (a .«record»)) (a .e) long)
+    rw (
+      c .before .before .write-event .ensures,
+      c .before .before .before .before .before .before .move-up .ensures,
+      c .before .before .before .before .before .before .before .event-length .ensures .0,
+      c .before .before .before .before .before .before .before .before .before .pending-place2 .ensures .0,
+      c .before .before .before .before .before .before .before .before .before .before .pending-place .ensures .0,
+      c .before .before .before .before .before .before .before .before .before .before .before .pending-count
+          .ensures .0,
+    ) (stored-inserted (a .w) (a .i) (now (a .«record»)) (a .e) long)
 
 pub insert-event-spec : {M : Type 1} → statement M
 insert-event-spec =

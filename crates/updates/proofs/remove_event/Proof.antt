@@ -56,7 +56,16 @@ returns : tie.Need-returns
 returns c =
     let a = c .before .before .before .before .before .before .before .before .before .before .before .before .before .before .args in
     let n = c .before .before .before .before .before .before .before .before .before .before .before .pending-count .result in
-    rw (c .before .before .clear .ensures, c .before .before .before .before .before .before .move-down .ensures, c .before .before .before .before .before .before .before .before .event-length .ensures .0, c .before .before .before .before .before .before .before .before .before .pending-place2 .ensures .0, c .before .before .before .before .before .before .before .before .before .before .pending-place .ensures .0) (stored-removed (a .w) (a .i) n (now (a .«record»)) (sym (c .before .before .before .before .before .before .before .before .before .before .before .pending-count .ensures .0)) (search needs) (search needs) (search needs))
+    rw (
+      c .before .before .clear .ensures,
+      c .before .before .before .before .before .before .move-down .ensures,
+      c .before .before .before .before .before .before .before .before .event-length .ensures .0,
+      c .before .before .before .before .before .before .before .before .before .pending-place2 .ensures .0,
+      c .before .before .before .before .before .before .before .before .before .before .pending-place .ensures .0,
+    )
+    (stored-removed (a .w) (a .i) n (now (a .«record»)) (sym
+    (c .before .before .before .before .before .before .before .before .before .before .before .pending-count
+    .ensures .0)) (search needs) (search needs) (search needs))
 
 pub remove-event-spec : {M : Type 1} → statement M
 remove-event-spec =

@@ -24,13 +24,15 @@ goes-on true b e = refl
 goes-on false b e = sym e
 
 abbrev Inv-loop : tie.InvT-loop
-Inv-loop chunk₀ line₀ rule₀ state₀ window₀ scratch₀ out₀ session₀ input₀ left₀ chunk line rule state window scratch out session input left =
+Inv-loop chunk₀ line₀ rule₀ state₀ window₀ scratch₀ out₀ session₀ input₀ left₀ chunk line rule state window scratch out
+    session input left =
     (input .end ≤ 4096) × (session .stage < overStage) × Within 4112 session × (length chunk ≡ 4096)
     × (length line ≡ 4112) × (length rule ≡ 4112) × (length state ≡ recordLength programWidth)
     × (length window ≡ programWindow) × (length scratch ≡ programWindow) × (length out ≡ 34 * 256)
 
 abbrev μ-loop : tie.MeasureT-loop
-μ-loop chunk₀ line₀ rule₀ state₀ window₀ scratch₀ out₀ session₀ input₀ left₀ chunk line rule state window scratch out session input left = left
+μ-loop chunk₀ line₀ rule₀ state₀ window₀ scratch₀ out₀ session₀ input₀ left₀ chunk line rule state window scratch out
+    session input left = left
 
 abbrev read : tie.After-out Inv-loop μ-loop → tie.After-next-line Inv-loop μ-loop
 read c = c .before .before .before .before .before .before .before .before .before .before .before

@@ -31,7 +31,15 @@ watch-of-requires c κs = search needs
 -- By rewriting and not by `cc`: of a wrong limit `cc` only says that it met a bound of its own.
 returns : tie.Need-returns
 unfolding watchLine
-returns c = rw (c .watch-of .ensures, c .before .then-last .ensures, c .before .before .value-of .ensures, c .before .before .before .then-number2 .ensures, c .before .before .before .before .then-byte .ensures, c .before .before .before .before .before .then-number .ensures, c .before .before .before .before .before .before .head .ensures)
+returns c = rw (
+  c .watch-of .ensures,
+  c .before .then-last .ensures,
+  c .before .before .value-of .ensures,
+  c .before .before .before .then-number2 .ensures,
+  c .before .before .before .before .then-byte .ensures,
+  c .before .before .before .before .before .then-number .ensures,
+  c .before .before .before .before .before .before .head .ensures,
+)
 
 pub read-watch-spec : {M : Type 1} → statement M
 read-watch-spec =

@@ -88,7 +88,15 @@ take-all-requires c κs =
     let w = lent f in
     let p = start (answered w) .pre .1 .1 .1 in (
       answered w .answer .ensures .1 .processes,
-      (w .before .before .«record» .given ∙ p .0, omega (arith, laid .lay .ensures .0, f .before .before .out .given, p .3)),
+      (
+        w .before .before .«record» .given ∙ p .0,
+        omega (
+          arith,
+          laid .lay .ensures .0,
+          f .before .before .out .given,
+          p .3,
+        ),
+      ),
     )
 
 same-length : tie.Need-same-length

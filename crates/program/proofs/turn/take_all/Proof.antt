@@ -1,5 +1,5 @@
--- With what is laid, the takes that are left come to the whole (`Ahead`); each turn is one take less (`ahead-step`), and
--- each has room for its text.
+-- With what is laid, the takes that are left come to the whole (`Ahead`); each turn is one take less (`ahead-step`),
+-- and each has room for its text.
 use native.Mathlib.Omega.{arith}
 use mathlib.Core.Path.{_≡_, refl, _∙_}
 use Prim.Native.Nat.{_≤_, _-_, _+_, _*_}

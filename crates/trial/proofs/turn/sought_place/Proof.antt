@@ -22,7 +22,11 @@ abbrev μ-loop : tie.MeasureT-loop
 μ-loop s w pending turn left₀ p₀ i₀ left p i = (9 - p) * 33 - i
 
 loop-holds : tie.Need-loop-holds Inv-loop μ-loop
-loop-holds c = let a = c .before .args in (search needs, search needs, sought-first (a .w) (now (a .«record»)) (a .turn))
+loop-holds c = let a = c .before .args in (
+  search needs,
+  search needs,
+  sought-first (a .w) (now (a .«record»)) (a .turn),
+)
 
 add-p : tie.Need-add-p Inv-loop μ-loop
 add-p c = search needs
