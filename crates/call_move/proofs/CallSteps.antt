@@ -12,7 +12,8 @@ use Rattle.clocks.specs.stored.BoundedLaws.{or-false-e}
 use Rattle.frontiers.specs.Bytes.{frontierLength}
 use Rattle.refusals.specs.Refusals.{roomOf, badState}
 use Rattle.answers.specs.Turns.{chosen-by, passed, end, turn}
-use Rattle.call_move.specs.Parts.{lengthOf, recordParts, windowParts}
+use Rattle.call_move.specs.Parts.{recordParts, windowParts}
+use Rattle.call_move.specs.PartLengths.{lengthOf}
 use Rattle.call_move.specs.Move.{Moved, moved, someTooLarge, badMoveLengths, overflows, moveCall}
 use Rattle.call_move.specs.MoveCode.{moveFault}
 use Rattle.call_move.specs.PartLaws.{length-windowParts}

@@ -9,7 +9,8 @@ use lib.Seq.{sets, take-add, drop-drop, length-take-le}
 use Rattle.codec.specs.SetsLaws.{sets-append, sets-whole}
 use Rattle.frontiers.specs.Bytes.{countBytes}
 use Rattle.frontiers.specs.BytesLaws.{length-countBytes}
-use Rattle.call_move.specs.Parts.{Part, lengthOf}
+use Rattle.call_move.specs.Parts.{Part}
+use Rattle.call_move.specs.PartLengths.{lengthOf}
 use Rattle.call_move.specs.Move.{countsFrom, moved, someTooLarge}
 use Rattle.call_move.specs.PartLaws.{moved-append, someTooLarge-append, length-countsFrom, length-moved}
 

@@ -10,7 +10,8 @@ use Rattle.codec.specs.SetsLaws.{sets-sets}
 use Rattle.clocks.specs.stored.BoundedLaws.{or-false-e}
 use Rattle.frontiers.specs.Bytes.{countBytes}
 use Rattle.records.specs.Record.{eventLength, tablePlace, pendingPlace}
-use Rattle.call_move.specs.Parts.{Part, partLength, lengthOf, manyOf, eventParts, recordParts}
+use Rattle.call_move.specs.Parts.{Part, manyOf, eventParts, recordParts}
+use Rattle.call_move.specs.PartLengths.{partLength, lengthOf}
 use Rattle.call_move.specs.Move.{countsFrom, moved, someTooLarge}
 use Rattle.call_move.specs.MoveCode.{anyTooLarge, frontParts, partsTo}
 use Rattle.call_move.specs.PartLaws.{lengthOf-append, lengthOf-repeated, length-eventParts, repeated-more, someTooLarge-append}

@@ -11,7 +11,8 @@ use Rattle.codec.specs.LittleLaws.{Bytes-drop, pow-256-pos}
 use Rattle.codec.specs.PutLaws.{number-lt}
 use Rattle.frontiers.specs.Bytes.{countBytes}
 use Rattle.frontiers.specs.BytesLaws.{number-countBytes, length-countBytes}
-use Rattle.call_move.specs.Parts.{Part, plain, counts, partLength, lengthOf}
+use Rattle.call_move.specs.Parts.{Part, plain, counts}
+use Rattle.call_move.specs.PartLengths.{partLength, lengthOf}
 use Rattle.call_move.specs.PartLaws.{length-countsFrom}
 use Rattle.call_move.specs.CountLaws.{Fit, counts-fit, fit-counts, counts-read, counts-written, counts-below, at-countsFrom}
 use Rattle.call_move.specs.Move.{countsFrom, moved, someTooLarge}

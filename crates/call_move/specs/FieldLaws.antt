@@ -17,7 +17,8 @@ use Rattle.clocks.specs.stored.CountsLaws.{listOf-same}
 use Rattle.frontiers.specs.Bytes.{frontierLength, frontierFrom, frontierAt}
 use Rattle.records.specs.Record.{clocksPlace, tablePlace, pendingPlace, recordLength, lineTotal, keptCount, takenCounts, lastClocks, tableLines, pendingAt}
 use Rattle.records.specs.RecordLaws.{event-parts}
-use Rattle.call_move.specs.Parts.{lengthOf, recordParts, windowParts}
+use Rattle.call_move.specs.Parts.{recordParts, windowParts}
+use Rattle.call_move.specs.PartLengths.{lengthOf}
 use Rattle.call_move.specs.PartLaws.{length-recordParts, length-windowParts}
 use Rattle.call_move.specs.PlaceLaws.{part-at, byte-at, number-at}
 use Rattle.call_move.specs.StandLaws.{head-stands, taken-stands, clocks-stand, table-stands, mask-stands, clock-stands, labels-stand, counts-stand, rest-stands}

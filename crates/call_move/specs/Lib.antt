@@ -5,6 +5,7 @@ pub mod Parts
 pub mod Move
 pub mod MoveExact
 -- What is proved
+pub mod PartLengths
 pub mod PartLaws
 pub mod CountLaws
 pub mod LengthLaws

@@ -20,7 +20,7 @@ unfoldable pub countsFrom : (v n : ℕ) (s : List ℕ) → List ℕ
 countsFrom v n s = listOf n (λ i. number s (i * v) v)
 
 -- Parts moved: bytes as they are, counts of v bytes written with w bytes.
-unfoldable pub moved : (v w : ℕ) → (parts : List Part) → (s : List ℕ) → List ℕ
+unfoldable pub moved : (v w : ℕ) (parts : List Part) (s : List ℕ) → List ℕ
 moved v w [] s = []
 moved v w (plain n ∷ ps) s = take n s ++ moved v w ps (drop n s)
 moved v w (counts n ∷ ps) s = countBytes w (countsFrom v n s) ++ moved v w ps (drop (n * v) s)
@@ -30,7 +30,7 @@ unfoldable pub tooLarge : (w c : ℕ) → Bool
 tooLarge w c = leb (256 ^ w) c
 
 -- Some count of the parts has none.
-unfoldable pub someTooLarge : (v w : ℕ) → (parts : List Part) → (s : List ℕ) → Bool
+unfoldable pub someTooLarge : (v w : ℕ) (parts : List Part) (s : List ℕ) → Bool
 someTooLarge v w [] s = false
 someTooLarge v w (plain n ∷ ps) s = someTooLarge v w ps (drop n s)
 someTooLarge v w (counts n ∷ ps) s =

@@ -12,7 +12,8 @@ use Rattle.frontiers.specs.Bytes.{frontierLength}
 use Rattle.records.specs.Record.{recordLength}
 use Rattle.refusals.specs.Refusals.{roomOf, badState}
 use Rattle.refusals.specs.RefusalLaws.{state-within}
-use Rattle.call_move.specs.Parts.{lengthOf, recordParts, windowParts}
+use Rattle.call_move.specs.Parts.{recordParts, windowParts}
+use Rattle.call_move.specs.PartLengths.{lengthOf}
 use Rattle.call_move.specs.PartLaws.{length-recordParts, length-windowParts, length-moved}
 use Rattle.call_move.specs.CountLaws.{none-too-large}
 use Rattle.call_move.specs.BackLaws.{fit-again, moved-back}

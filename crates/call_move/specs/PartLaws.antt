@@ -11,7 +11,8 @@ use Rattle.clocks.specs.stored.CountsLaws.{length-listOf}
 use Rattle.frontiers.specs.Bytes.{frontierLength}
 use Rattle.frontiers.specs.BytesLaws.{length-countBytes}
 use Rattle.records.specs.Record.{recordLength, eventLength}
-use Rattle.call_move.specs.Parts.{Part, plain, counts, partLength, lengthOf, manyOf, eventParts, recordParts, frontierParts, windowParts}
+use Rattle.call_move.specs.Parts.{Part, plain, counts, manyOf, eventParts, recordParts, frontierParts, windowParts}
+use Rattle.call_move.specs.PartLengths.{partLength, lengthOf}
 use Rattle.call_move.specs.Move.{countsFrom, moved, someTooLarge}
 
 -- ---- Lengths

@@ -1,6 +1,6 @@
 -- The parts of a record and of a window (01, The window; 02 [6]): bytes, which both forms have alike, and counts, which
 -- have w bytes each in the form of w. The order is the same in both forms.
-use Prim.Native.Nat.{ℕ, zero, suc, _+_, _*_}
+use Prim.Native.Nat.{ℕ, zero, suc}
 use mathlib.Core.List.{List, [], _∷_, _++_}
 
 pub data Part : Type 0 where
@@ -9,16 +9,7 @@ pub data Part : Type 0 where
   -- so many counts
   counts : (n : ℕ) → Part
 
--- The length of a part, and of parts one behind the other.
-unfoldable pub partLength : (w : ℕ) → (part : Part) → ℕ
-partLength w (plain n) = n
-partLength w (counts n) = n * w
-
-unfoldable pub lengthOf : (w : ℕ) → (parts : List Part) → ℕ
-lengthOf w [] = 0
-lengthOf w (p ∷ ps) = partLength w p + lengthOf w ps
-
--- The parts of so many things of one kind, one behind the other.
+-- The parts of so many things of one kind, one after the other.
 unfoldable pub manyOf : (n : ℕ) (ps : List Part) → List Part
 manyOf zero ps = []
 manyOf (suc n) ps = ps ++ manyOf n ps

@@ -11,7 +11,8 @@ use Rattle.codec.specs.Little.{number}
 use Rattle.codec.specs.PutLaws.{number-drop}
 use Rattle.frontiers.specs.ListLaws.{part-alike}
 use Rattle.clocks.specs.stored.BoundedLaws.{or-false-e}
-use Rattle.call_move.specs.Parts.{Part, plain, counts, partLength, lengthOf, manyOf}
+use Rattle.call_move.specs.Parts.{Part, plain, counts, manyOf}
+use Rattle.call_move.specs.PartLengths.{partLength, lengthOf}
 use Rattle.call_move.specs.PartLaws.{lengthOf-append, moved-append, someTooLarge-append, length-moved}
 use Rattle.call_move.specs.CountLaws.{counts-fit}
 use Rattle.call_move.specs.BackLaws.{number-again}

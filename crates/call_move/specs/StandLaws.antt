@@ -5,7 +5,8 @@ use mathlib.Core.Path.{_≡_, refl, ap, _∙_}
 use mathlib.Core.List.{List, [], _∷_, _++_, append-assoc}
 use Rattle.frontiers.specs.Bytes.{frontierLength}
 use Rattle.records.specs.Record.{clocksPlace, tablePlace, pendingPlace}
-use Rattle.call_move.specs.Parts.{Part, plain, counts, partLength, lengthOf, manyOf, eventParts, recordParts, frontierParts, windowParts}
+use Rattle.call_move.specs.Parts.{Part, plain, counts, manyOf, eventParts, recordParts, frontierParts, windowParts}
+use Rattle.call_move.specs.PartLengths.{partLength, lengthOf}
 use Rattle.call_move.specs.PartLaws.{lengthOf-append, lengthOf-repeated, length-eventParts, length-frontierParts}
 use Rattle.call_move.specs.PlaceLaws.{repeated-apart, Stands, stands-at}
 

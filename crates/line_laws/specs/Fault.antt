@@ -33,7 +33,7 @@ Miscounted ns fewest fullest = (length ns < fewest) ⊎ (fullest < length ns)
 
 -- 10 in a piece that begins at place j: at a number's first digit, or at the closing bracket of a list of a wrong
 -- length.
-unfoldable pub TenIn : (piece : Piece) → (s : List ℕ) (j i : ℕ) → Type 0
+unfoldable pub TenIn : (piece : Piece) (s : List ℕ) (j i : ℕ) → Type 0
 TenIn (aByte b) s j i = ⊥
 TenIn (aNumber least most b) s j i = (i ≡ j) × NumberOut s i least most
 TenIn (list ascending most fewest fullest) s j i =
@@ -46,7 +46,7 @@ TenIn (spacedList most fewest fullest) s j i =
     × (Numerals ns × (Span s j (spaced ns) i × ((byteAt s i ≡ 41) × Miscounted ns fewest fullest))))
 
 -- 10 in pieces that begin at place j: in one of them, where texts of those before it stand.
-unfoldable pub TenFrom : (pieces : List Piece) → (s : List ℕ) (j i : ℕ) → Type 0
+unfoldable pub TenFrom : (pieces : List Piece) (s : List ℕ) (j i : ℕ) → Type 0
 TenFrom [] s j i = ⊥
 TenFrom (p ∷ ps) s j i = TenIn p s j i ⊎ ((x : List ℕ) × (e : ℕ) × (PieceText p x × (Span s j x e × TenFrom ps s e i)))
 

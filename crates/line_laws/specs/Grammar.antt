@@ -45,13 +45,13 @@ pub data Piece : Type 0 where
   spacedList : (most fewest fullest : ℕ) → Piece
 
 -- The texts of a piece, and of pieces one after the other.
-unfoldable pub PieceText : (piece : Piece) → (x : List ℕ) → Type 0
+unfoldable pub PieceText : (piece : Piece) (x : List ℕ) → Type 0
 PieceText (aByte b) x = x ≡ b ∷ []
 PieceText (aNumber least most b) x = (ds : List ℕ) × (Numeral ds × (x ≡ ds ++ b ∷ []))
 PieceText (list ascending most fewest fullest) x = (ns : List (List ℕ)) × (Numerals ns × (x ≡ between ns ++ 41 ∷ []))
 PieceText (spacedList most fewest fullest) x = (ns : List (List ℕ)) × (Numerals ns × (x ≡ spaced ns ++ 41 ∷ []))
 
-unfoldable pub TextOf : (pieces : List Piece) → (t : List ℕ) → Type 0
+unfoldable pub TextOf : (pieces : List Piece) (t : List ℕ) → Type 0
 TextOf [] t = t ≡ []
 TextOf (p ∷ ps) t = (x y : List ℕ) × (PieceText p x × (TextOf ps y × (t ≡ x ++ y)))
 

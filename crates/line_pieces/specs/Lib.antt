@@ -6,5 +6,6 @@ pub mod Reading
 pub mod NumberList
 -- What the code's promises say besides
 pub mod Digits
+pub mod NumberListCode
 -- What is proved of them
 pub mod NumberLaws

@@ -9,7 +9,6 @@ use Rattle.clocks.specs.Counts.{at, listOf}
 use Rattle.rules.specs.Text.{byteAt}
 use Rattle.line_pieces.specs.declared.Read.{Read}
 use Rattle.line_pieces.specs.declared.Read.the-variants.{At, Refused}
-use Rattle.line_pieces.specs.declared.Numbers.{Numbers}
 use Rattle.line_pieces.specs.Number.{numberAt}
 
 -- A list read: its numbers, and a reading that stands behind the last of them and keeps how many there are.
@@ -40,17 +39,17 @@ abbrev pub allNumbersAt : (s : List ℕ) (ascending : Bool) (most i : ℕ) → L
 allNumbersAt s ascending most i = numbersAt (length s + 1) s ascending most 0 [] i
 
 -- A list behind its opening bracket: it may be empty.
-unfoldable pub thenList : (s : List ℕ) (ascending : Bool) (most : ℕ) → (r : Read) → ListRead
+unfoldable pub thenList : (s : List ℕ) (ascending : Bool) (most : ℕ) (r : Read) → ListRead
 thenList s ascending most (At i v) = cond (eqb (byteAt s i) 41) (listRead [] (At i 0)) (allNumbersAt s ascending most i)
 thenList s ascending most (Refused n i) = listRead [] (Refused n i)
 
 -- A list behind a line's word, with a space before its first number.
-unfoldable pub thenSpacedList : (s : List ℕ) (most : ℕ) → (r : Read) → ListRead
+unfoldable pub thenSpacedList : (s : List ℕ) (most : ℕ) (r : Read) → ListRead
 thenSpacedList s most (At i v) = cond (eqb (byteAt s i) 32) (allNumbersAt s false most (i + 1)) (listRead [] (At i 0))
 thenSpacedList s most (Refused n i) = listRead [] (Refused n i)
 
 -- The closing bracket of a list: 10 if its numbers are not `least` to `most` many.
-unfoldable pub thenClose : (s : List ℕ) (least most : ℕ) → (r : Read) → Read
+unfoldable pub thenClose : (s : List ℕ) (least most : ℕ) (r : Read) → Read
 thenClose s least most (At i n) =
     cond (eqb (byteAt s i) 41) (cond (leb least n && leb n most) (At (i + 1) n) (Refused 10 i)) (Refused 1 i)
 thenClose s least most (Refused n i) = Refused n i
@@ -58,7 +57,3 @@ thenClose s least most (Refused n i) = Refused n i
 -- A list's first eight numbers, 0 where it has fewer: the others are counted only.
 abbrev pub eightValues : (ns : List ℕ) → List ℕ
 eightValues ns = listOf 8 (at ns)
-
--- A list read, as the code keeps it.
-unfoldable pub numbersRead : (l : ListRead) → Numbers
-numbersRead l = record { values = eightValues (l .numbers); read = l .read }

@@ -17,7 +17,7 @@ valueRead (At i v) = v
 valueRead (Refused n i) = 0
 
 -- One byte that the grammar has there, else 1.
-unfoldable pub thenByte : (s : List ℕ) (b : ℕ) → (r : Read) → Read
+unfoldable pub thenByte : (s : List ℕ) (b : ℕ) (r : Read) → Read
 thenByte s b (At i v) = cond (eqb (byteAt s i) b) (At (i + 1) v) (Refused 1 i)
 thenByte s b (Refused n i) = Refused n i
 
@@ -31,12 +31,12 @@ abbrev pub headRead : (s bs : List ℕ) → Read
 headRead s bs = thenBytes s bs (At 0 0)
 
 -- A number from `least` to `most`.
-unfoldable pub thenNumber : (s : List ℕ) (least most : ℕ) → (r : Read) → Read
+unfoldable pub thenNumber : (s : List ℕ) (least most : ℕ) (r : Read) → Read
 thenNumber s least most (At i v) = numberAt s i least most
 thenNumber s least most (Refused n i) = Refused n i
 
 -- The line's end: a byte there is 1.
-unfoldable pub thenEnd : (s : List ℕ) → (r : Read) → Read
+unfoldable pub thenEnd : (s : List ℕ) (r : Read) → Read
 thenEnd s (At i v) = cond (ltb i (length s)) (Refused 1 i) (At i v)
 thenEnd s (Refused n i) = Refused n i
 
@@ -45,7 +45,7 @@ abbrev pub lineLimit : ℕ
 lineLimit = 4096
 
 -- A line over the limit is 10 at the place of the limit, behind the faults that stand up to there.
-unfoldable pub limited : (s : List ℕ) → (r : Read) → Read
+unfoldable pub limited : (s : List ℕ) (r : Read) → Read
 limited s (At i v) = cond (ltb lineLimit (length s)) (Refused 10 lineLimit) (At i v)
 limited s (Refused n i) = cond (ltb lineLimit (length s) && ltb lineLimit i) (Refused 10 lineLimit) (Refused n i)
 

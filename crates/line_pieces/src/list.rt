@@ -10,7 +10,8 @@ ghost use mathlib.Core.Bool.{cond};
 ghost use mathlib.Core.List.{[]};
 ghost use lib.ListN.{set};
 ghost use Rattle.line_pieces.specs.Reading.{valueRead};
-ghost use Rattle.line_pieces.specs.NumberList.{listRead, allNumbersAt, thenList, thenSpacedList, thenClose, numbersRead};
+ghost use Rattle.line_pieces.specs.NumberList.{listRead, allNumbersAt, thenList, thenSpacedList, thenClose};
+ghost use Rattle.line_pieces.specs.NumberListCode.{numbersRead};
 
 // Eight numbers with number n among them replaced; those from the eighth up are not kept.
 pub fn keep(values: [u64; 8], n: u64, v: u64) -> [u64; 8]

@@ -40,7 +40,7 @@ abbrev pub roomLimit : ℕ
 roomLimit = 1024
 
 -- (watch k room)
-unfoldable pub watchOf : (k : ℕ) → (r : Read) → WatchLine
+unfoldable pub watchOf : (k : ℕ) (r : Read) → WatchLine
 watchOf k (At i room) = Watch k room
 watchOf k (Refused n i) = WatchRefused n i
 
@@ -51,7 +51,7 @@ watchLine s =
     watchOf (valueRead k) (thenLast s room)
 
 -- (start l ..), with a label byte for each of k processes.
-unfoldable pub startOf : (labels : List ℕ) → (r : Read) → StartLine
+unfoldable pub startOf : (labels : List ℕ) (r : Read) → StartLine
 startOf labels (At i n) = Start (packedWord 256 labels)
 startOf labels (Refused n i) = StartRefused n i
 
@@ -66,7 +66,7 @@ clockWord counts i = packedWord (countLimit + 1) (take 2 (drop (2 * i) (eightVal
 
 -- (did (p ..) (c ..) (l ..)): some processes, ascending; a count for each of k processes; a label byte for each of
 -- those that take part.
-unfoldable pub didOf : (n : ℕ) (processes counts labels : List ℕ) → (r : Read) → DidLine
+unfoldable pub didOf : (n : ℕ) (processes counts labels : List ℕ) (r : Read) → DidLine
 didOf n processes counts labels (At i v) =
     Did (packedWord 2 (placed n (at processes) (λ j. 1)))
     (clockWord counts 0) (clockWord counts 1) (clockWord counts 2) (clockWord counts 3)
@@ -93,7 +93,7 @@ ruleClosed s (formed i f) =
     cond (eqb (byteAt s (length s - 1)) 41) (Rule 6 (length s - 1)) (RuleRefused 1 (length s - 1))
 ruleClosed s (faulty n i) = RuleRefused n i
 
-unfoldable pub ruleOf : (s : List ℕ) (k : ℕ) → (r : Read) → RuleLine
+unfoldable pub ruleOf : (s : List ℕ) (k : ℕ) (r : Read) → RuleLine
 ruleOf s k (At i v) = ruleClosed s (readRule (ruleText s) k)
 ruleOf s k (Refused n i) = RuleRefused n i
 
@@ -101,6 +101,6 @@ unfoldable pub ruleLine : (s : List ℕ) (k : ℕ) → RuleLine
 ruleLine s k = ruleOf s k (limited s (headRead s (ascii "(rule ")))
 
 -- The rule stands within a line of so many bytes.
-abbrev pub RuleWithin : (n : ℕ) → (r : RuleLine) → Type 0
+abbrev pub RuleWithin : (n : ℕ) (r : RuleLine) → Type 0
 RuleWithin n (Rule start end) = (start ≤ end) × (end ≤ n)
 RuleWithin n (RuleRefused m i) = Unit {0}

@@ -106,7 +106,7 @@ binaryWith reader s w closed i =
     (λ j f. andThen (innerWith reader s (closed + lineCount f) j) (λ l g. closeAt s closed l (binary w f g)))
 
 -- What stands behind a form's opening bracket and its word.
-unfoldable pub bodyWith : (reader : ℕ → ℕ → Reading) (s : List ℕ) (k closed : ℕ) → (r : WordRead) → Reading
+unfoldable pub bodyWith : (reader : ℕ → ℕ → Reading) (s : List ℕ) (k closed : ℕ) (r : WordRead) → Reading
 bodyWith reader s k closed (AtWord i) = atomAt s k closed i
 bodyWith reader s k closed (ConstantWord w i) = closeAt s closed i (constant w)
 bodyWith reader s k closed (UnaryWord w i) = unaryWith reader s w closed i

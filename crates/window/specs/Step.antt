@@ -125,7 +125,7 @@ unfoldable pub judgedBy : (s : Setting) (g : Frontier) (w : Gathered) → Fronti
 judgedBy s g w = record { counts = g .counts; labels = g .labels; masks = g .masks; values = judge (g .labels) (w .ors) (w .ands) true (s .table) }
 
 -- ---- Laying down
-unfoldable pub lay : (s : Setting) (laid : List Frontier) (hints : List ℕ) → (rest : List Slot) → List Frontier
+unfoldable pub lay : (s : Setting) (laid : List Frontier) (hints : List ℕ) (rest : List Slot) → List Frontier
 lay s laid hints [] = laid
 lay s laid hints (staying f ∷ rest) = lay s (laid ++ (f ∷ [])) hints rest
 lay s laid hints (fresh g ∷ rest) =

@@ -16,7 +16,8 @@ use Rattle.frontiers.specs.Shaped.{Shaped, AllShaped}
 use Rattle.codec.specs.Little.{bytesOf, Bytes}
 use Rattle.frontiers.specs.BytesLaws.{length-countBytes, countBytes-append, countBytes-zeros}
 use Rattle.records.specs.Record.{eventLength, eventBytes, eventsBytes}
-use Rattle.call_move.specs.Parts.{Part, plain, counts, lengthOf, partLength, manyOf, eventParts, recordParts, frontierParts, windowParts}
+use Rattle.call_move.specs.Parts.{Part, plain, counts, manyOf, eventParts, recordParts, frontierParts, windowParts}
+use Rattle.call_move.specs.PartLengths.{lengthOf, partLength}
 use Rattle.call_move.specs.PartLaws.{lengthOf-repeated, length-eventParts, length-windowParts}
 use Rattle.call_move.specs.CountLaws.{counts-read}
 use Rattle.call_move.specs.Move.{moved}

@@ -28,7 +28,8 @@ use Rattle.records.specs.Record.{pendingPlace, pendingAt}
 use Rattle.records.specs.RecordLaws.{taken-at}
 use Rattle.refusals.specs.Refusals.{roomOf, badWindowLength}
 use Rattle.refusals.specs.RefusalLaws.{state-within}
-use Rattle.call_move.specs.Parts.{recordParts, windowParts, lengthOf}
+use Rattle.call_move.specs.Parts.{recordParts, windowParts}
+use Rattle.call_move.specs.PartLengths.{lengthOf}
 use Rattle.call_move.specs.PartLaws.{length-recordParts, length-windowParts, length-moved}
 use Rattle.call_move.specs.CountLaws.{none-too-large}
 use Rattle.call_move.specs.BackLaws.{fit-again}

@@ -15,7 +15,8 @@ use Rattle.line_pieces.specs.declared.Read.{Read}
 use Rattle.line_pieces.specs.declared.Read.the-variants.{At, Refused}
 use Rattle.line_pieces.specs.Number.{numberAt}
 use Rattle.line_pieces.specs.NumberLaws.{inside, number-after}
-use Rattle.line_pieces.specs.NumberList.{afterNumber, numbersAt, allNumbersAt, eightValues, numbersRead}
+use Rattle.line_pieces.specs.NumberList.{afterNumber, numbersAt, allNumbersAt, eightValues}
+use Rattle.line_pieces.specs.NumberListCode.{numbersRead}
 
 -- ---- The numbers kept
 

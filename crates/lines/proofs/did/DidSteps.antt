@@ -15,7 +15,8 @@ use Rattle.lines.specs.declared.DidLine.{DidLine}
 use Rattle.lines.specs.declared.DidLine.the-variants.{Did}
 use Rattle.line_pieces.specs.declared.Numbers.{Numbers}
 use Rattle.line_pieces.specs.Reading.{valueRead, thenBytes, headRead, thenLast}
-use Rattle.line_pieces.specs.NumberList.{thenList, thenClose, eightValues, numbersRead}
+use Rattle.line_pieces.specs.NumberList.{thenList, thenClose, eightValues}
+use Rattle.line_pieces.specs.NumberListCode.{numbersRead}
 use Rattle.lines.specs.Words.{packedWord, placed}
 use Rattle.lines.proofs.words.WordSteps.{placed-same, length-placed}
 use Rattle.lines.specs.Lines.{countLimit, labelLimit, processLimit, didOf, didLine}

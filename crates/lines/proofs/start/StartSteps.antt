@@ -7,7 +7,8 @@ use Rattle.line_pieces.specs.declared.Read.{Read}
 use Rattle.line_pieces.specs.declared.Numbers.{Numbers}
 use Rattle.lines.specs.declared.StartLine.{StartLine}
 use Rattle.line_pieces.specs.Reading.{headRead, thenEnd, limited}
-use Rattle.line_pieces.specs.NumberList.{thenSpacedList, thenClose, numbersRead}
+use Rattle.line_pieces.specs.NumberList.{thenSpacedList, thenClose}
+use Rattle.line_pieces.specs.NumberListCode.{numbersRead}
 use Rattle.lines.specs.Lines.{labelLimit, startOf, startLine}
 
 pub start-made : (s : List ℕ) (k : ℕ) {head closed ended whole : Read} {labels : Numbers} {answer : StartLine}

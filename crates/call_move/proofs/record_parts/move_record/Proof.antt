@@ -10,7 +10,8 @@ use borrow.Author.Needs.{needs}
 use denote.Ref.{now}
 use Rattle.records.specs.Record.{recordLength}
 use Rattle.records.specs.RecordLaws.{event-within}
-use Rattle.call_move.specs.Parts.{Part, lengthOf, eventParts, recordParts}
+use Rattle.call_move.specs.Parts.{Part, eventParts, recordParts}
+use Rattle.call_move.specs.PartLengths.{lengthOf}
 use Rattle.call_move.specs.Move.{moved}
 use Rattle.call_move.specs.MoveCode.{partsTo}
 use Rattle.call_move.specs.PartLaws.{length-recordParts}
