@@ -196,7 +196,7 @@ uint64_t watch_narrow(const uint8_t *record32, size_t record32_len, const uint8_
  * "0", and no other count begins with a 0; none has more than ten digits, so each column begins with a blank. A closed
  * process keeps its column. A watch of 16 bits is widened first.
  * Accepted: value is the number of rows, which is watch_kept. Writes the rows at the page's start, 93 bytes for each,
- * and no other byte: what stands behind them stays, and no 0 ends the text.
+ * and no other byte: what stands after them stays, and no 0 ends the text.
  * Refused, in this order: 6 record or window, 34, 44 a page shorter than WATCH32_PAGE_BYTES(watch_kept(record)). Writes
  * nothing then. A longer page is fine. */
 uint64_t watch32_page(const uint8_t *record, size_t record_len, const uint8_t *window, size_t window_len,

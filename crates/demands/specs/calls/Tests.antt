@@ -5,6 +5,7 @@ use mathlib.Core.Bool.{Bool, true, false, cond, _&&_, true≢false}
 use mathlib.Core.Logic.{_↔_}
 use lib.Dec.{eqb}
 use borrow.Author.Tests.{eqb-false}
+use Rattle.clocks.specs.stored.BoundedLaws.{and-true}
 use Rattle.answers.specs.Answer.{Answer, turnedBack, state, nothingReady, held, again, found, absent, processClosed}
 
 -- The last answer comes where no test holds.
@@ -64,11 +65,6 @@ distinct (test b a others) = lacks (mark a) others && distinct others
 
 -- ---- Laws
 
-first-of : (a b : Bool) → (a && b) ≡ true → (a ≡ true) × (b ≡ true)
-first-of true true h = (refl, refl)
-first-of true false h = absurd (true≢false (sym h))
-first-of false b h = absurd (true≢false (sym h))
-
 cond-false : (b c : Bool) → cond b false c ≡ true → (b ≡ false) × (c ≡ true)
 cond-false true c h = absurd (true≢false (sym h))
 cond-false false c h = (refl, h)
@@ -93,11 +89,11 @@ decided-by (else a) d zero i q = (tt, refl)
 decided-by (else a) d (suc n) i q = absurd (true≢false (sym i))
 decided-by (test true a others) d zero i q = (tt, refl)
 decided-by (test true a others) d (suc n) i q =
-    absurd (lacks-answer (mark a) others (first-of (lacks (mark a) others) (distinct others) d .0) n q)
+    absurd (lacks-answer (mark a) others (and-true (lacks (mark a) others) (distinct others) d .0) n q)
 decided-by (test false a others) d zero i q =
-    absurd (lacks-result (mark a) others (first-of (lacks (mark a) others) (distinct others) d .0) (sym q))
+    absurd (lacks-result (mark a) others (and-true (lacks (mark a) others) (distinct others) d .0) (sym q))
 decided-by (test false a others) d (suc n) i q =
-    let x = decided-by others (first-of (lacks (mark a) others) (distinct others) d .1) n i q in
+    let x = decided-by others (and-true (lacks (mark a) others) (distinct others) d .1) n i q in
     ((refl, x .0), x .1)
 
 gives-answer : (ts : Tests) (n : ℕ) → Failed ts n → testOf ts n ≡ true → result ts ≡ answerOf ts n
