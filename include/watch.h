@@ -1,6 +1,6 @@
 /* The vault watcher's calls: open a watch, offer it events, take them, find a frontier, close a process; write a watch
- * of one form as one of the other; print what it keeps, a row for each frontier; and generate the busiest day of n
- * events, to choose a window's length by.
+ * of one form as one of the other; print what it keeps, a row for each frontier; generate the busiest day of n events,
+ * to choose a window's length by; and let up to eight watches share 1,024 frontiers.
  *
  * A watch is two buffers of the caller's, a record and a window. Take borrows a third, the scratch, as long as the
  * window. The library has no heap, no global state and no files: what it knows of a watch stands in these bytes, so a
@@ -8,7 +8,7 @@
  *
  * There are two forms of a watch, which differ in the width of a count and so in lengths (since 0.7.0). Each has its
  * own calls, and a call of one form cannot tell a watch of the other but by a length. All that is said of a call below
- * is true of both forms, each with its own lengths. Page and busiest day are of the wide form alone.
+ * is true of both forms, each with its own lengths. Page, busiest day and shares are of the wide form alone.
  *
  *                      watch_open, _offer, ..          watch32_open, _offer, ..
  *   a count            16 bits, to 65,535              32 bits, to 4,294,967,295
@@ -25,9 +25,9 @@
  *   - each pointer is valid for the length given with it; where the length is 0 it may be anything, also NULL;
  *   - no two lent buffers of one call overlap;
  *   - nobody else reads or writes them until the call returns. The library keeps no pointer after that.
- * No alignment is asked. Nothing else is required: any number and any bytes are fine, and what cannot be used is
- * refused by a number. Every call ends, writes nothing outside the buffers it was lent, and needs little stack
- * (WATCH_STACK_BYTES). x86-64 only.
+ * No alignment is asked, but of the list of shares. Nothing else is required: any number and any bytes are fine, and
+ * what cannot be used is refused by a number. Every call ends, writes nothing outside the buffers it was lent, and
+ * needs little stack (WATCH_STACK_BYTES). x86-64 only.
  *
  * Processes are numbered from 0, at most eight. A word of labels has process p's byte at bits 8p to 8p + 7, of which
  * bit b says whether proposition b holds there. In a clock's words the counts stand in the order of the processes, the
@@ -49,8 +49,8 @@
 extern "C" {
 #endif
 
-#define WATCH_VERSION "0.9.1"    /* of this header and of the library that it was installed with */
-#define WATCH_VERSION_NUMBER 901 /* the same as a number: 10000 major + 100 minor + patch */
+#define WATCH_VERSION "0.10.0"   /* of this header and of the library that it was installed with */
+#define WATCH_VERSION_NUMBER 1000 /* the same as a number: 10000 major + 100 minor + patch */
 
 #define WATCH_PROCESSES 8        /* at most so many processes */
 #define WATCH_LINES 64           /* a rule has at most so many lines */
@@ -67,6 +67,8 @@ extern "C" {
 #define WATCH32_EVENT_BYTES 48   /* an event of a list: mask, seven zeros, eight counts, eight label bytes */
 #define WATCH32_EVENTS_BYTES(n) ((size_t)(n) * WATCH32_EVENT_BYTES)
 #define WATCH32_DAY_EVENTS 65535 /* a busiest day has at most so many events */
+#define WATCH32_SHARES 8         /* at most so many watches share a pool */
+#define WATCH32_POOL_BYTES 32    /* eight shares, then eight kept numbers, two bytes each, low byte first */
 #define WATCH_STACK_BYTES 16384  /* no call uses more stack */
 
 /* Why a call was refused. But for WATCH_CLOCK_FALSE nothing in record or window has changed then, not a byte. */
@@ -84,7 +86,8 @@ enum {
     WATCH_TAKEN = 31,       /* offer: at an involved process an event of that count was taken already */
     WATCH_CONFLICT = 32,    /* offer: another event is pending that has the same count at a common process */
     WATCH_FULL = 33,        /* offer: 32 events are pending: take, or wait for what is missing */
-    WATCH_DAMAGED = 34,     /* the record is none, or it says more frontiers than the lent window has */
+    WATCH_DAMAGED = 34,     /* the record is none, or it says more frontiers than the lent window has; of a shared
+                             * call also: the number has no share in the pool */
     WATCH_CLOCK_FALSE = 35, /* take: what an event says it knew cannot be; that event, and nothing else, is gone */
     WATCH_NO_ROOM = 36,     /* take: events are ready but none fits; lend a longer window */
     WATCH_NOT_OPEN = 41,    /* close: the watch has no such process, or it is closed already */
@@ -92,7 +95,8 @@ enum {
     WATCH_TOO_LARGE = 43,   /* narrow: some count, in an unused place too, is above 65,535 */
     WATCH_SHORT = 44,       /* page: it is too short for all rows */
     WATCH_DAY = 45,         /* busiest: the number of processes is not 1 to 8, or there are over 65,535 events */
-    WATCH_BUSY = 46         /* busiest: such a day keeps over 1,024 frontiers */
+    WATCH_BUSY = 46,        /* busiest: such a day keeps over 1,024 frontiers */
+    WATCH_BAD_SHARES = 49   /* set shares: none, over eight, one of 0, or their sum is above 1,024 */
 };
 
 /* A reply is one word: number, flag, value and place. A number above 0 is the refusal; a refusal has flag 0, value 0
@@ -216,6 +220,38 @@ uint64_t watch32_page(const uint8_t *record, size_t record_len, const uint8_t *w
  * Linear in n. Nothing is said of events of several processes, of messages or of closed processes. */
 uint64_t watch32_busiest(uint64_t k, uint64_t n, uint8_t *events, size_t events_len);
 
+/* Up to eight watches share 1,024 frontiers (since 0.10.0). Each has a number, from 0, and a promised share; what no
+ * share promises, 1,024 less their sum, is lent to whoever needs it. The pool, 32 bytes of the caller's, says so: the
+ * eight shares, then how many frontiers each watch keeps, 0 where a place is unused.
+ * A shared call is the plain call of the same name and is lent the pool and the watch's number besides. A take's window
+ * fits exactly if the lent bytes hold it, as ever, and it passes the watch's share by no more than the unpromised
+ * frontiers that by the pool no other watch is using: 1,024 less all shares, less what each other watch keeps above its
+ * own share, or none where that is below 0. So a window within its share always fits, whatever the others keep, if the
+ * lent bytes hold it; and a share that its watch does not use is not lent to another.
+ * Offer, find and page of a watch that shares are the plain calls. Open, take and close are the shared ones, each with
+ * this watch's own number: a plain one would leave the pool's number stale, and then the sum of what is kept may pass
+ * 1,024. (A shared call that is not refused puts it right again.) One pool is lent to one call at a time.
+ *
+ * watch32_set_shares writes the pool: n shares for the watches 0 to n - 1, and none kept. The watches are opened after.
+ * `shares` is aligned for uint16_t, as C asks of such a pointer.
+ * Accepted: the whole reply is 0. Writes every byte of the pool.
+ * Refused, in this order: 6 the pool, 49. Writes nothing then. */
+uint64_t watch32_set_shares(const uint16_t *shares, size_t n, uint8_t *pool, size_t pool_len);
+
+/* Open, take and close of a watch that shares, with its number. Replies as those of the plain calls.
+ * Refused, in this order: 6 any buffer, the pool too; 34, also of a number that is not below 8 or has share 0 in the
+ * pool (the whole word is judged); then as the plain call: open 5, 9, 1 to 4; take 35, 36; close 41, 42. (A plain open
+ * has no 34. Here it stands before 5.)
+ * No refusal writes the pool, 35 and 36 neither. Else, "nothing ready" too, the watch's kept number in the pool becomes
+ * the record's, and no other byte of it is written. Record, window and scratch as after the plain call. */
+uint64_t watch32_shared_open(const uint8_t *rule, size_t rule_len, uint64_t k, uint64_t start_labels,
+                             uint8_t *record, size_t record_len, uint8_t *window, size_t window_len,
+                             uint8_t *pool, size_t pool_len, uint64_t number);
+uint64_t watch32_shared_take(uint8_t *record, size_t record_len, uint8_t *window, size_t window_len,
+                             uint8_t *scratch, size_t scratch_len, uint8_t *pool, size_t pool_len, uint64_t number);
+uint64_t watch32_shared_close(uint64_t process, uint8_t *record, size_t record_len, uint8_t *window, size_t window_len,
+                              uint8_t *pool, size_t pool_len, uint64_t number);
+
 static inline unsigned watch_bytes2(const uint8_t *at) { return at[0] | (unsigned)at[1] << 8; }
 static inline uint32_t watch_bytes4(const uint8_t *at) {
     return watch_bytes2(at) | (uint32_t)watch_bytes2(at + 2) << 16;
@@ -247,6 +283,10 @@ static inline unsigned watch32_event_mask(const uint8_t *events, size_t place) {
 static inline uint32_t watch32_event_count(const uint8_t *events, size_t place, unsigned p) {
     return watch_bytes4(events + WATCH32_EVENT_BYTES * place + 8 + 4 * p);
 }
+
+/* Of a pool that set shares wrote: the share of watch i (0 to 7), and how many frontiers it keeps. */
+static inline unsigned watch32_share(const uint8_t *pool, unsigned i) { return watch_bytes2(pool + 2 * i); }
+static inline unsigned watch32_share_kept(const uint8_t *pool, unsigned i) { return watch_bytes2(pool + 16 + 2 * i); }
 
 /* Four counts as one word of a clock, or two of 32 bits. */
 static inline uint64_t watch_counts(uint16_t a, uint16_t b, uint16_t c, uint16_t d) {
