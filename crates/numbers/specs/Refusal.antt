@@ -1,5 +1,5 @@
--- The refusals' numbers (01, Turned back; 02 [5]: 41, 42; [6]: 43; [7]: 44; [8]: 45, 46). Each one's condition is a
--- definition, named beside it.
+-- The refusals' numbers (01, Turned back; 02 [5]: 41, 42; [6]: 43; [7]: 44; [8]: 45, 46; [10]: 49). Each one's
+-- condition is a definition, named beside it.
 use Prim.Native.Nat.{ℕ}
 
 -- ---- From the input
@@ -97,3 +97,7 @@ dayNumber = 45
 -- call_busiest Busiest: tooBusy.
 abbrev pub busyNumber : ℕ
 busyNumber = 46
+
+-- call_shares Shares: badShares.
+abbrev pub sharesNumber : ℕ
+sharesNumber = 49

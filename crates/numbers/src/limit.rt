@@ -1,4 +1,4 @@
-// Limits (01, Clocks and cuts; The rule; The window; 02 [8]). Lengths in bytes go by the width of a count: see
+// Limits (01, Clocks and cuts; The rule; The window; 02 [8], [10]). Lengths in bytes go by the width of a count: see
 // frontiers Bytes, records Record.
 
 // Processes of a watch.
@@ -11,3 +11,5 @@ pub const LINES: u32 = 64;
 pub const PENDING: usize = 32;
 // Events of a busiest day.
 pub const DAY_EVENTS: u64 = 65535;
+// Watches that share a pool.
+pub const MEMBERS: usize = 8;

@@ -1,5 +1,5 @@
-// The refusals' numbers (01, Turned back; 02 [5]: 41, 42; [6]: 43; [7]: 44; [8]: 45, 46). Each one's condition is a
-// definition, named beside it.
+// The refusals' numbers (01, Turned back; 02 [5]: 41, 42; [6]: 43; [7]: 44; [8]: 45, 46; [10]: 49). Each one's
+// condition is a definition, named beside it.
 
 // From the input.
 
@@ -52,3 +52,5 @@ pub const SHORT_PAGE: u64 = 44;
 pub const DAY: u64 = 45;
 // call_busiest Busiest: tooBusy.
 pub const BUSY: u64 = 46;
+// call_shares Shares: badShares.
+pub const SHARES: u64 = 49;

@@ -1,0 +1,4 @@
+-- Open, take and close of a watch that shares a pool.
+
+-- What a reader has to believe
+pub mod Shared

@@ -1,0 +1,1 @@
+// Open, take and close of a watch that shares a pool (02 [10]).

@@ -1,0 +1,5 @@
+-- Setting the shares of a pool.
+
+-- What a reader has to believe
+pub mod Shares
+pub mod SharesExact

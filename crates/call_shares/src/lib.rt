@@ -1,0 +1,1 @@
+// Setting the shares of a pool (02 [10]).

@@ -1,0 +1,4 @@
+-- The pool of watches that share 1,024 frontiers.
+
+-- What a reader has to believe
+pub mod Pool

@@ -1,0 +1,1 @@
+-- Runs of calls on watches that share a pool.
