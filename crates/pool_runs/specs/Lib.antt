@@ -1,1 +1,8 @@
--- Runs of calls on watches that share a pool.
+-- Runs of calls on watches that share a pool, and what is proved of every one of them.
+
+-- What a reader has to believe
+pub mod Runs
+-- What is stated of every run, with no proofs
+pub mod statements
+-- What is proved
+pub mod KeptLaws

@@ -1,0 +1,3 @@
+-- What is stated of every run.
+pub mod Within
+pub mod Members
