@@ -130,7 +130,7 @@ kept-number w k f start Z X = (
   X .cuts,
   X .cuts-are,
   sym (length-map (X .cuts) (frontierAfter k f start (Z .ledger .history))) ∙ ap length (sym (X .frontiers-are))
-  ∙ ap length (sym (X .read-back)) ∙ length-frontiers w (Z .window) (keptCount (Z .bytes)),
+      ∙ ap length (sym (X .read-back)) ∙ length-frontiers w (Z .window) (keptCount (Z .bytes)),
 )
 
 module _ (text : List ℕ) (k : ℕ) (labels : List ℕ) (eight : EightBytes labels) (w : ℕ) where
@@ -165,7 +165,7 @@ module _ (text : List ℕ) (k : ℕ) (labels : List ℕ) (eight : EightBytes lab
   unfolding after
   offer-keeps W x mask clock marks p =
       let s = offered-same w (W .bytes) (offeredEvent mask clock marks) (W .ledger)
-          (offerCall w mask clock marks (W .bytes) .answer) in
+      (offerCall w mask clock marks (W .bytes) .answer) in
       same-kept W (after w (offers mask clock marks) W) x (calls w W x (offers mask clock marks) p) (s .0) (s .1)
 
   module _ (W : Watch) (x : Written text k labels w W) (cap more : ℕ) (scratch : List ℕ) where

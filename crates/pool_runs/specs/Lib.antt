@@ -5,4 +5,7 @@ pub mod Runs
 -- What is stated of every run, with no proofs
 pub mod statements
 -- What is proved
+pub mod Running
 pub mod KeptLaws
+pub mod RunningLaws
+pub mod SharedLaws

@@ -144,7 +144,7 @@ outcomeOfTake w i more scratch pool m =
     let r = sharedTake w (m .watch .bytes) lent scratch pool i in
     record {
       place =
-      withWatch m (afterTake w (r .call) (trialOf w (allowance pool i) (m .watch .bytes) lent) (m .watch));
+          withWatch m (afterTake w (r .call) (trialOf w (allowance pool i) (m .watch .bytes) lent) (m .watch));
       pool = r .pool;
       scratch = r .call .scratch;
       answers = r .call .answer ∷ [];
