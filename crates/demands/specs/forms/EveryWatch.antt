@@ -9,6 +9,7 @@ use Rattle.demands.specs.Written.{movedTo, opens, moves}
 use Rattle.demands.specs.lists.WindowExact.{window-exact-of}
 use Rattle.demands.specs.lists.Offer.{offer-exact-of}
 use Rattle.demands.specs.lists.TakeAnswers.{take-exact-of}
+use Rattle.demands.specs.lists.Caps.{sound-caps-alike}
 use Rattle.demands.specs.lists.Find.{find-exact-of}
 use Rattle.demands.specs.lists.Page.{page-shows-of}
 use Rattle.demands.specs.lists.Busiest.{busiest-kept-of}
@@ -28,6 +29,7 @@ exact-of w k f start Z S = record {
   window = window-exact-of w k f start Z S;
   offers = offer-exact-of w k f start Z S;
   takes = take-exact-of w k f start Z S;
+  caps = sound-caps-alike w k f start Z S;
   finds = find-exact-of w k f start Z S;
   pages = page-shows-of w k f start Z S;
   busiest = busiest-kept-of w k f start Z S;
