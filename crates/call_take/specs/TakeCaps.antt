@@ -21,13 +21,13 @@ NoneAbove w n s window =
     → keptAfter (settingIn w s (pendingAt w s i)) fs ≤ n
 
 -- Lengths and state are right: neither 6 nor 34 comes.
-abbrev pub RightBuffers : (w : ℕ) (s window scratch : List ℕ) → Type 0
-RightBuffers w s window scratch =
+abbrev pub RightlyLent : (w : ℕ) (s window scratch : List ℕ) → Type 0
+RightlyLent w s window scratch =
     (badLengths w (length s) (length window) (length scratch) ≡ false)
     × (badState w (roomOf w (length window)) s ≡ false)
 
 -- Then all caps from n on make the same take, in answer and bytes. (Where 6 or 34 comes, all caps do.)
 abbrev pub CapsMakeNoDifference : Type 0
 CapsMakeNoDifference =
-    (w n cap cap′ : ℕ) (s window scratch : List ℕ) → (RightBuffers w s window scratch → NoneAbove w n s window)
+    (w n cap cap′ : ℕ) (s window scratch : List ℕ) → (RightlyLent w s window scratch → NoneAbove w n s window)
     → n ≤ cap → n ≤ cap′ → takeCapped w cap s window scratch ≡ takeCapped w cap′ s window scratch

@@ -9,3 +9,4 @@ pub mod Running
 pub mod KeptLaws
 pub mod RunningLaws
 pub mod SharedLaws
+pub mod OutcomeLaws

@@ -34,10 +34,9 @@ use Rattle.demands.specs.calls.WatchingLaws.{says-many, says-event, says
 use Rattle.demands.specs.calls.KeptCutsLaws.{represented-number}
 use Rattle.demands.specs.calls.TakeLaws.{stepped-right}
 use Rattle.demands.specs.calls.AfterCall.{noEvent, lengthened, badLengths, ledgerThen, take-6, is-ready, is-valid}
-use Rattle.demands.specs.statements.Caps.{WouldPass, CapsAlike, CapsAreAlike}
+use Rattle.demands.specs.statements.Caps.{WouldPass, CapsAlike}
 use Rattle.demands.specs.lists.SoundRun.{Sound}
 use Rattle.demands.specs.lists.TakeAnswers.{lengths-known}
-use Rattle.demands.specs.forms.Moves.{every-watch}
 
 -- The trial that the ledger goes by is the same, on all bytes.
 pub same-trial-of : (w n cap cap′ : ℕ) (s window : List ℕ) → NoneAbove w n s window → n ≤ cap → n ≤ cap′
@@ -140,13 +139,9 @@ module _ (w k : ℕ) (f : Formula) (start : Cut) (Z : Watch) (S : Sound w k f st
   unfolding after
   same-after = ap₂ left same-take same-ledger
 
-pub sound-caps-alike : (w k : ℕ) (f : Formula) (start : Cut) (Z : Watch) → Sound w k f start Z
+pub caps-alike-of : (w k : ℕ) (f : Formula) (start : Cut) (Z : Watch) → Sound w k f start Z
     → CapsAlike w k f start Z
-sound-caps-alike w k f start Z S n cap cap′ more scratch large large′ none = (
+caps-alike-of w k f start Z S n cap cap′ more scratch large large′ none = (
   same-take w k f start Z S n cap cap′ more scratch large large′ none,
   same-after w k f start Z S n cap cap′ more scratch large large′ none,
 )
-
--- ---- Theorem
-pub caps-alike : CapsAreAlike
-caps-alike = every-watch _ sound-caps-alike

@@ -1,5 +1,5 @@
 -- The cap of the next take makes no difference where with no pending event more cuts are kept (01, The calls: take).
--- Proved in lists/Caps.
+-- Proved in lists/Caps and forms/EveryWatch.
 use Prim.Native.Nat.{ℕ, _≤_, _<_}
 use mathlib.Core.Path.{_≡_}
 use mathlib.Core.List.{List, _∷_, List·Memᴰ}
