@@ -95,7 +95,7 @@ module _ (w : ℕ) (shares : List ℕ) (G : Pooled) (R : Running w shares G) (c 
   H = afterPoolCall w c G
 
   -- its own place, and every other
-  own-place : H .places i ≡ o .place
+  pub own-place : H .places i ≡ o .place
   own-place = rw (eq-eqb i i refl)
 
   pub other-place : (j : ℕ) → j ≢ i → H .places j ≡ G .places j
@@ -116,7 +116,7 @@ module _ (w : ℕ) (shares : List ℕ) (G : Pooled) (R : Running w shares G) (c 
         go (inl x) = rw (x .0) (R .shares-are j l)
         go (inr x) = rw (x .1) (share-stays (G .pool) i (keptBy (o .place)) j l ∙ R .shares-are j l)
 
-    own-number : i < mostMembers → keptAt (o .pool) i ≡ keptBy (o .place)
+    pub own-number : i < mostMembers → keptAt (o .pool) i ≡ keptBy (o .place)
     own-number l = go (L .pool-left)
       where
         go : PoolLeft G i o → keptAt (o .pool) i ≡ keptBy (o .place)
