@@ -3,3 +3,5 @@
 -- What a reader has to believe
 pub mod Shares
 pub mod SharesExact
+-- What is proved
+pub mod SharesLaws

@@ -7,13 +7,20 @@ use numbers::limit::MEMBERS;
 use numbers::refusal::LENGTH;
 use numbers::refusal::SHARES;
 use pool::bad_pool_length;
-ghost use Prim.Native.Nat.{_≤_};
+ghost use Prim.Native.Nat.{_≤_, _<_};
 ghost use mathlib.Core.Path.{_≡_};
 ghost use lib.ListN.{length};
 ghost use Rattle.numbers.specs.Limit.{mostMembers};
 ghost use Rattle.answers.specs.Result.{resultWord};
 ghost use Rattle.pool.specs.Pool.{poolLength};
 ghost use Rattle.call_shares.specs.Shares.{badShares, poolOf, setShares};
+
+// A share, wider, with no loss.
+fn wide(share: u16) -> usize
+    ensures { λ r. ⌜ (r ≡ share) × (r < 65536) ⌝ }
+{
+    share as usize
+}
 
 // 49: no share, over eight, a share of 0, or shares that add up to more than 1,024. Eight are few enough for the sum to
 // fit.
@@ -30,7 +37,7 @@ fn bad_shares(shares: &[u16]) -> bool
     let mut sum = 0;
     let mut i = 0;
     while i < n {
-        let share = shares[i] as usize;
+        let share = wide(shares[i]);
         if share == 0 {
             return true;
         }

@@ -2,6 +2,7 @@
 use Prim.Native.Nat.{ℕ, zero, suc, _+_, _*_, _≤_, _<_}
 use native.Mathlib.Decide.{decLt, ℕ-discrete}
 use native.Mathlib.Omega.{arith}
+use native.Mathlib.Numerals.{add-one}
 use mathlib.Core.Path.{_≡_, refl}
 use mathlib.Core.Bool.{cond}
 use mathlib.Core.List.{List}
@@ -15,6 +16,11 @@ use Rattle.pool.specs.Pool.{poolLength, sumBelow, shareAt, keptPlace, ke
 use Rattle.numbers.specs.Limit.{mostMembers}
 
 -- ---- Sums
+
+-- The next value is added, as a loop does it.
+pub sum-next : (f : ℕ → ℕ) (j sum value : ℕ) → sum ≡ sumBelow j f → value ≡ f j → sum + value ≡ sumBelow (j + 1) f
+unfolding sumBelow
+sum-next f j sum value so-far next = rw (add-one j, so-far, next)
 
 pub sum-same : (n : ℕ) (f g : ℕ → ℕ) → ((j : ℕ) → j < n → f j ≡ g j) → sumBelow n f ≡ sumBelow n g
 unfolding sumBelow
