@@ -5,3 +5,5 @@ pub mod Shares
 pub mod SharesExact
 -- What is proved
 pub mod SharesLaws
+pub mod SharesCases
+pub mod SharesTheorem

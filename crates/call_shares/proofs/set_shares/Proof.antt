@@ -1,45 +1,66 @@
-use native.Mathlib.Omega.{arith}
-use mathlib.Core.Path.{_≡_, refl, sym, ap, _∙_}
-use Prim.Native.Nat.{ℕ, _≤_, _<_, _-_, _+_, _*_}
-use mathlib.Core.List.{List, _++_}
-use lib.ListN.{length, getD, take, drop, set, length-set}
-use mathlib.Core.Logic.{⊎-elim}
+-- Each way out is an equation of the call with what it comes to there: the laws of SharesCases.
+use mathlib.Core.Path.{_≡_, refl, sym, _∙_}
+use mathlib.Core.Bool.{false}
+use lib.ListN.{length}
 use borrow.Author.Needs.{needs}
+use denote.Ref.{now}
+use Rattle.answers.specs.Result.{resultWord}
+use Rattle.pool.specs.Pool.{badPoolLength}
+use Rattle.pool.specs.PoolLaws.{length-right}
+use Rattle.call_shares.specs.Shares.{badShares}
+use Rattle.call_shares.specs.SharesCases.{length-turned, shares-turned, shares-set, shares-good}
 use Rattle.call_shares.proofs.set_shares.Statement.{statement}
 use Rattle.call_shares.proofs.set_shares.Tie as tie
-use Rattle.call_shares.proofs.set_shares.Reads as reads
-use Rattle.call_shares.proofs.set_shares.Lts as lts
-use Rattle.call_shares.proofs.bad_shares.Reads as bad-shares-reads
-use Rattle.call_shares.proofs.put_shares.Reads as put-shares-reads
-use Rattle.pool.proofs.bad_pool_length.Reads as bad-pool-length-reads
 
--- src/lib.rt:69:8
+-- ---- How the tests went
+
+right-length : (c : tie.Else1) → badPoolLength (length (now (c .before .before .before .before .args .pool))) ≡ false
+right-length c = sym (c .before .bad-pool-length .ensures) ∙ c .if1 .left
+
+good-shares : (c : tie.Else2)
+    → badShares (now (c .before .before .before .before .before .before .args .shares)) ≡ false
+good-shares c = sym (c .before .bad-shares .ensures) ∙ c .if2 .left
+
+-- ---- Needs
+
 bad-pool-length-requires : tie.Need-bad-pool-length-requires
 bad-pool-length-requires c κs = search needs
 
--- src/lib.rt:70:9
 returns : tie.Need-returns
-returns c = search needs
+unfolding resultWord
+returns c =
+    let a = c .before .before .before .before .args in
+    let bad = sym (c .before .bad-pool-length .ensures) ∙ c .if1 .taken in
+    rw (length-turned (now (a .shares)) (now (a .pool)) bad) (refl, refl)
 
--- src/lib.rt:72:8
 bad-shares-requires : tie.Need-bad-shares-requires
 bad-shares-requires c κs = search needs
 
--- src/lib.rt:73:9
 returns-2 : tie.Need-returns-2
-returns-2 c = search needs
+unfolding resultWord
+returns-2 c =
+    let d = c .before .before in
+    let a = d .before .before .before .before .args in
+    let bad = sym (c .before .bad-shares .ensures) ∙ c .if2 .taken in
+    rw (shares-turned (now (a .shares)) (now (a .pool)) (right-length d) bad) (refl, refl)
 
--- src/lib.rt:75:5
 put-shares-requires : tie.Need-put-shares-requires
-put-shares-requires c κs = search needs
+put-shares-requires c κs =
+    let d = c .before .before .before in
+    let a = d .before .before .before .before .args in
+    (shares-good (now (a .shares)) (good-shares (c .before)) .few, length-right (length (now (a .pool))) (right-length d))
 
--- src/lib.rt:65:1
 same-length : tie.Need-same-length
 same-length c = search needs
 
--- src/lib.rt:65:1
 returns-3 : tie.Need-returns-3
-returns-3 c = search needs
+unfolding resultWord
+returns-3 c =
+    let e = c .before .before .before .before in
+    let d = e .before .before in
+    let a = d .before .before .before .before .args in
+    rw (shares-set (now (a .shares)) (now (a .pool)) (right-length d) (good-shares e))
+    (refl, c .before .before .put-shares .ensures)
 
 pub set-shares-spec : {M : Type 1} → statement M
 set-shares-spec =
