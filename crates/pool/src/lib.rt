@@ -1,5 +1,5 @@
-// The pool of up to eight watches that share 1,024 frontiers (02 [10]): eight shares, then how many frontiers each watch
-// keeps, two bytes each.
+// The pool of up to eight watches that share 1,024 frontiers (02 [10]): eight shares, then how many frontiers each
+// watch keeps, two bytes each.
 
 use numbers::limit::FRONTIERS;
 use numbers::limit::MEMBERS;

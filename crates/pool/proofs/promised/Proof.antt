@@ -4,7 +4,7 @@ use native.Mathlib.Omega.{arith}
 use mathlib.Core.Path.{_≡_, refl}
 use borrow.Author.Needs.{needs}
 use Rattle.pool.specs.Pool.{sumBelow, shareAt}
-use Rattle.pool.proofs.SumSteps.{sum-next}
+use Rattle.pool.specs.PoolLaws.{sum-next}
 use Rattle.pool.proofs.promised.Statement.{statement}
 use Rattle.pool.proofs.promised.Tie as tie
 

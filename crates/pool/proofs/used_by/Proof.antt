@@ -23,7 +23,12 @@ returns-2 c =
     let s = c .before in
     let d = s .before .before in
     let a = d .before .before .args in (
-      rw (ne-eqb (a .j) (a .i) (d .if1 .left), c .less .ensures .0, s .before .kept-at .ensures .0, s .share-at .ensures .0),
+      rw (
+        ne-eqb (a .j) (a .i) (d .if1 .left),
+        c .less .ensures .0,
+        s .before .kept-at .ensures .0,
+        s .share-at .ensures .0,
+      ),
       search needs,
     )
 

@@ -6,7 +6,7 @@ use mathlib.Core.Bool.{cond}
 use lib.Dec.{eqb}
 use borrow.Author.Needs.{needs}
 use Rattle.pool.specs.Pool.{sumBelow, aboveShare, usedByOthers}
-use Rattle.pool.proofs.SumSteps.{sum-next}
+use Rattle.pool.specs.PoolLaws.{sum-next}
 use Rattle.pool.proofs.used_by_others.Statement.{statement}
 use Rattle.pool.proofs.used_by_others.Tie as tie
 
