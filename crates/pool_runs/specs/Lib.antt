@@ -10,3 +10,6 @@ pub mod KeptLaws
 pub mod RunningLaws
 pub mod SharedLaws
 pub mod OutcomeLaws
+pub mod WithinTheorem
+pub mod MembersTheorem
+pub mod OthersTheorem

@@ -7,14 +7,15 @@ use Rattle.rules.specs.Formula.{Formula}
 use Rattle.pool.specs.Pool.{allowance}
 use Rattle.call_take.specs.Take.{Taken}
 use Rattle.call_close.specs.Close.{Closed}
-use Rattle.call_shared.specs.Shared.{Shared}
+use Rattle.call_shared.specs.Shared.{Shared, poolAfter}
 use Rattle.demands.specs.Run.{Watch}
-use Rattle.demands.specs.EveryList.{lentWindow}
+use Rattle.demands.specs.EveryList.{lentWindow, nextTake}
 use Rattle.demands.specs.Written.{Written}
+use Rattle.demands.specs.statements.Close.{nextClose}
 use Rattle.demands.specs.statements.EveryWatch.{WatchExact}
 use Rattle.demands.specs.forms.EveryWatch.{every-watch-exact, order-independent-with-moves}
 use Rattle.pool_runs.specs.Runs.{Member, has, Pooled, Outcome, outcomeOfTake, outcomeOfClose}
-use Rattle.pool_runs.specs.statements.Members.{MemberExact, MemberIsExact, EveryMemberIsExact, MembersOrderIndependent, MemberAndPlainAlike}
+use Rattle.pool_runs.specs.statements.Members.{nextShared, nextSharedClose, MemberExact, MemberIsExact, EveryMemberIsExact, MembersOrderIndependent, MemberAndPlainAlike}
 use Rattle.pool_runs.specs.Running.{IsWritten, Running}
 use Rattle.pool_runs.specs.SharedLaws.{take-as, close-as}
 use Rattle.pool_runs.specs.OutcomeLaws.{shared, take-outcome, close-outcome}
@@ -26,12 +27,16 @@ module _ (w : ℕ) (pos : 0 < w) (shares : List ℕ) (G : Pooled) (R : Running w
   Z = m .watch
 
   -- its shared take and close
-  took : (more : ℕ) (scratch : List ℕ) → _
+  took : (more : ℕ) (scratch : List ℕ)
+      → let t = nextTake w Z (allowance (G .pool) i) more scratch in
+      nextShared w i m G more scratch ≡ record { call = t; pool = poolAfter (G .pool) i (t .answer) (t .bytes) }
   took more scratch =
       take-as w (G .pool) i (R .size) (shared w pos shares G R i (R .members i m here .0)) (Z .bytes) (lentWindow Z more)
       scratch
 
-  closed : (p : ℕ) → _
+  closed : (p : ℕ)
+      → let c = nextClose w Z p in
+      nextSharedClose w i m G p ≡ record { call = c; pool = poolAfter (G .pool) i (c .answer) (c .bytes) }
   closed p =
       close-as w (G .pool) i (R .size) (shared w pos shares G R i (R .members i m here .0)) p (Z .bytes) (Z .window)
 

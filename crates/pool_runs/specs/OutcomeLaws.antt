@@ -192,8 +192,8 @@ module _ (w : ℕ) (pos : 0 < w) (shares : List ℕ) (G : Pooled) (R : Running w
         rw (take-outcome more scratch)
         (record {
           pool-left =
-          left-by (G .pool) i (keptBy (G .places i)) (t .answer) (Z .bytes) (share .0)
-          (λ h. keeps (turned-no-state (t .answer) h) ∙ sym kept-before) few;
+              left-by (G .pool) i (keptBy (G .places i)) (t .answer) (Z .bytes) (share .0)
+              (λ h. keeps (turned-no-state (t .answer) h) ∙ sym kept-before) few;
           grows = grown (isState (t .answer)) refl keeps within;
           member = still Z z;
         })
@@ -232,8 +232,8 @@ module _ (w : ℕ) (pos : 0 < w) (shares : List ℕ) (G : Pooled) (R : Running w
         rw (close-outcome p)
         (record {
           pool-left =
-          left-by (G .pool) i (keptBy (G .places i)) (c .answer) (Z .bytes) (share .0)
-          (λ h. ap keptCount (refused-close w p (W .bytes) (W .window) h) ∙ sym kept-before) few;
+              left-by (G .pool) i (keptBy (G .places i)) (c .answer) (Z .bytes) (share .0)
+              (λ h. ap keptCount (refused-close w p (W .bytes) (W .window) h) ∙ sym kept-before) few;
           grows = inl (omega (arith, fewer, kept-before));
           member = still Z z;
         })

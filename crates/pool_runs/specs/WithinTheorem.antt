@@ -31,9 +31,9 @@ begun-running w shares pool set =
       shares-are = E .shares-are set;
       numbers = E .none-kept set;
       promises =
-      let all = sum-same mostMembers (keptOrPromised shares (begun shares pool)) (at shares) (λ i l. omega arith) in
-      let past = sum-past mostMembers (length shares) (at shares) (good .2 .few) (at-beyond shares) in
-      omega (arith, all, past, good .2 .within);
+          let all = sum-same mostMembers (keptOrPromised shares (begun shares pool)) (at shares) (λ i l. omega arith) in
+          let past = sum-past mostMembers (length shares) (at shares) (good .2 .few) (at-beyond shares) in
+          omega (arith, all, past, good .2 .within);
       members = λ i m h. absurd (vacant-has m h);
     }
 
@@ -58,7 +58,7 @@ within-of w shares G R = record {
   only-shares = λ i m h. R .members i m h .0;
   promises = R .promises;
   together =
-  omega (arith, R .promises, sum-le mostMembers (λ i. keptBy (G .places i)) (keptOrPromised shares G) (λ i l. omega arith));
+      omega (arith, R .promises, sum-le mostMembers (λ i. keptBy (G .places i)) (keptOrPromised shares G) (λ i l. omega arith));
   share-allowed = λ i l. omega (arith, share-allowed (G .pool) i, R .shares-are i l);
   allowed-exactly = allowed-exactly w shares G R;
 }
