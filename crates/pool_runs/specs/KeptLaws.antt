@@ -1,6 +1,6 @@
 -- How many frontiers a written watch keeps is decided by its taken events and its closed processes; so an offer leaves
 -- the number as it is, a take that takes nothing too, one that takes keeps within its cap, and a close keeps no more.
-use Prim.Native.Nat.{ℕ, _+_, _≤_, _<_, _^_}
+use Prim.Native.Nat.{ℕ, _≤_}
 use native.Mathlib.Omega.{arith}
 use native.Mathlib.Nat.{min-le-left}
 use mathlib.Core.Path.{_≡_, refl, sym, ap, _∙_}
@@ -35,7 +35,6 @@ use Rattle.demands.specs.World.{KeptNumber, frontierAfter}
 use Rattle.demands.specs.EveryList.{Accepts, EightBytes, RightLengths, lentWindow, nextTake}
 use Rattle.demands.specs.Written.{Written, calls}
 use Rattle.demands.specs.statements.WindowExact.{WindowExact}
-use Rattle.demands.specs.statements.TakeAnswers.{Takes}
 use Rattle.demands.specs.statements.EveryWatch.{WatchExact}
 use Rattle.demands.specs.calls.KeptCutsLaws.{number-unique}
 use Rattle.demands.specs.calls.OpenLaws.{OpenCase, open-case, turned-back, opens}

@@ -2,6 +2,7 @@
 
 -- What a reader has to believe
 pub mod Runs
+pub mod Turns
 -- What is stated of every run, with no proofs
 pub mod statements
 -- What is proved
@@ -12,4 +13,5 @@ pub mod SharedLaws
 pub mod OutcomeLaws
 pub mod WithinTheorem
 pub mod MembersTheorem
+pub mod TurnLaws
 pub mod OthersTheorem

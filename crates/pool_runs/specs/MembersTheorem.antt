@@ -1,6 +1,6 @@
 -- Each watch of a run was written by calls alone: all that is stated of every written watch is true of it.
 use Prim.Native.Nat.{ℕ, _<_}
-use mathlib.Core.Path.{_≡_, refl, sym, ap}
+use mathlib.Core.Path.{_≡_, ap}
 use mathlib.Core.List.{List}
 use Rattle.clocks.specs.Counts.{at}
 use Rattle.rules.specs.Formula.{Formula}
@@ -14,7 +14,7 @@ use Rattle.demands.specs.Written.{Written}
 use Rattle.demands.specs.statements.Close.{nextClose}
 use Rattle.demands.specs.statements.EveryWatch.{WatchExact}
 use Rattle.demands.specs.forms.EveryWatch.{every-watch-exact, order-independent-with-moves}
-use Rattle.pool_runs.specs.Runs.{Member, has, Pooled, Outcome, outcomeOfTake, outcomeOfClose}
+use Rattle.pool_runs.specs.Runs.{Member, has, Pooled, Outcome}
 use Rattle.pool_runs.specs.statements.Members.{nextShared, nextSharedClose, MemberExact, MemberIsExact, EveryMemberIsExact, MembersOrderIndependent, MemberAndPlainAlike}
 use Rattle.pool_runs.specs.Running.{IsWritten, Running}
 use Rattle.pool_runs.specs.SharedLaws.{take-as, close-as}

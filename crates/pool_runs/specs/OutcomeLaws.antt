@@ -5,8 +5,6 @@ use mathlib.Core.Path.{_≡_, refl, sym, ap, _∙_}
 use mathlib.Core.Bool.{Bool, true, false, true≢false, cond}
 use mathlib.Core.List.{List, [], _∷_}
 use mathlib.Core.Logic.{_⊎_, inl, inr}
-use lib.Dec.{leb, eqb}
-use lib.ListN.{length}
 use borrow.Author.Tests.{lt-leb, ne-eqb}
 use Rattle.clocks.specs.Counts.{at}
 use Rattle.numbers.specs.Limit.{mostFrontiers, mostMembers}
@@ -14,18 +12,17 @@ use Rattle.records.specs.Record.{keptCount}
 use Rattle.answers.specs.Answer.{Answer, turnedBack, state, nothingReady, held, again, found, absent, processClosed}
 use Rattle.answers.specs.Kinds.{isTurnedBack, isState}
 use Rattle.pool.specs.Pool.{shareAt, noShare, allowance, broughtUp}
-use Rattle.call_open.specs.Open.{Opened, openCall}
-use Rattle.call_take.specs.Take.{Taken, takeCapped}
+use Rattle.call_open.specs.Open.{Opened}
 use Rattle.call_close.specs.Close.{Closed, closeProcess, closeCall}
 use Rattle.call_close.specs.CloseCases.{Case, turned, accepted, close-case}
-use Rattle.call_shared.specs.Shared.{Shared, poolAfter, sharedOpen, sharedTake, sharedClose}
-use Rattle.demands.specs.Run.{Watch, offers, takes, finds, closes, trialOf, afterTake, afterClose, after, opened}
-use Rattle.demands.specs.EveryList.{Accepts, EightBytes, lentWindow, nextTake}
+use Rattle.call_shared.specs.Shared.{Shared, poolAfter, sharedOpen}
+use Rattle.demands.specs.Run.{Watch, offers, takes, finds, closes, after, opened}
+use Rattle.demands.specs.EveryList.{EightBytes, lentWindow, nextTake}
 use Rattle.demands.specs.Written.{Written, opens, calls}
-use Rattle.pool_runs.specs.Runs.{Member, Place, vacant, has, Pooled, PoolCall, open-call, offer-call, take-call, find-call, close-call, mislent-call, PoolPassed, Numbered, Outcome, withWatch, opensWith, unchanged, outcomeOfOpen, outcomeOfOffer, outcomeOfFind, outcomeOfTake, outcomeOfClose, outcome, outcomeIn, afterPoolCall}
+use Rattle.pool_runs.specs.Runs.{Member, Place, vacant, has, Pooled, PoolCall, open-call, offer-call, take-call, find-call, close-call, mislent-call, PoolPassed, Numbered, withWatch, unchanged, outcomeOfOpen, outcomeOfOffer, outcomeOfFind, outcomeOfTake, outcomeOfClose, outcome, outcomeIn}
 use Rattle.pool_runs.specs.statements.Within.{keptBy, keptOrPromised}
 use Rattle.pool_runs.specs.Running.{HasShare, IsWritten, Running}
-use Rattle.pool_runs.specs.RunningLaws.{PoolLeft, Lawful}
+use Rattle.pool_runs.specs.RunningLaws.{Lawful}
 use Rattle.pool_runs.specs.KeptLaws.{written-few, offer-keeps, take-keeps, take-within, close-keeps, open-keeps}
 use Rattle.pool_runs.specs.SharedLaws.{with-share, take-as, close-as, SharedOpenCase, refused-open, accepted-open, shared-open-case}
 

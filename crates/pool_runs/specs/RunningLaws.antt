@@ -14,7 +14,7 @@ use Rattle.clocks.specs.Counts.{at}
 use Rattle.numbers.specs.Limit.{mostFrontiers, mostMembers}
 use Rattle.pool.specs.Pool.{sumBelow, poolLength, shareAt, keptAt, unpromised, aboveShare, usedByOthers, allowance, broughtUp}
 use Rattle.pool.specs.PoolLaws.{sum-same, sum-plus, sum-split, brought-length, kept-own, kept-other, share-stays, share-allowed}
-use Rattle.pool_runs.specs.Runs.{Member, Place, has, Pooled, Numbered, Outcome, placedAt, outcomeIn, afterPoolCall}
+use Rattle.pool_runs.specs.Runs.{Member, Place, has, Pooled, Numbered, Outcome, outcomeIn, afterPoolCall}
 use Rattle.pool_runs.specs.statements.Within.{keptBy, keptOrPromised}
 use Rattle.pool_runs.specs.Running.{HasShare, IsWritten, Running}
 

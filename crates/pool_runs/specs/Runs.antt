@@ -10,14 +10,13 @@ use Rattle.answers.specs.Answer.{Answer, turnedBack}
 use Rattle.answers.specs.Result.{gives}
 use Rattle.answers.specs.Kinds.{isTurnedBack}
 use Rattle.numbers.specs.Refusal.{lengthNumber, stateNumber}
-use Rattle.pool.specs.Pool.{keptAt, allowance}
+use Rattle.pool.specs.Pool.{allowance}
 use Rattle.call_open.specs.Open.{Opened}
 use Rattle.call_offer.specs.Offer.{offerCall}
 use Rattle.call_find.specs.Find.{findCall}
 use Rattle.call_shares.specs.Shares.{setShares}
 use Rattle.call_shared.specs.Shared.{sharedOpen, sharedTake, sharedClose}
-use Rattle.demands.specs.Mislent.{Mislent}
-use Rattle.demands.specs.Mislent as plain
+use Rattle.demands.specs.Mislent.{Mislent, answerTo}
 use Rattle.demands.specs.Run.{offers, finds, Passed, Watch, trialOf, afterTake, afterClose, after, opened}
 use Rattle.demands.specs.EveryList.{EightBytes, lentWindow}
 
@@ -52,17 +51,17 @@ begun shares pool = record { pool = setShares shares pool .pool; places = λ i. 
 -- A call that was lent other buffers than its watch's, another pool or another number, all of them any bytes: a shared
 -- open, take or close, or a plain call.
 pub data PoolMislent : Type 0 where
-  open-lent : (text : List ℕ) (k : ℕ) (labels s window pool : List ℕ) (number : ℕ) → PoolMislent
-  take-lent : (s window scratch pool : List ℕ) (number : ℕ) → PoolMislent
-  close-lent : (p : ℕ) (s window pool : List ℕ) (number : ℕ) → PoolMislent
+  shared-open-lent : (text : List ℕ) (k : ℕ) (labels s window pool : List ℕ) (number : ℕ) → PoolMislent
+  shared-take-lent : (s window scratch pool : List ℕ) (number : ℕ) → PoolMislent
+  shared-close-lent : (p : ℕ) (s window pool : List ℕ) (number : ℕ) → PoolMislent
   plain-lent : (m : Mislent) → PoolMislent
 
-unfoldable pub answerTo : (w : ℕ) (m : PoolMislent) → Answer
-answerTo w (open-lent text k labels s window pool number) =
+unfoldable pub poolAnswerTo : (w : ℕ) (m : PoolMislent) → Answer
+poolAnswerTo w (shared-open-lent text k labels s window pool number) =
     sharedOpen w text k labels s window pool number .call .answer
-answerTo w (take-lent s window scratch pool number) = sharedTake w s window scratch pool number .call .answer
-answerTo w (close-lent p s window pool number) = sharedClose w p s window pool number .call .answer
-answerTo w (plain-lent m) = plain.answerTo w m
+poolAnswerTo w (shared-take-lent s window scratch pool number) = sharedTake w s window scratch pool number .call .answer
+poolAnswerTo w (shared-close-lent p s window pool number) = sharedClose w p s window pool number .call .answer
+poolAnswerTo w (plain-lent m) = answerTo w m
 
 -- A call of one watch: an open, the first or a later one, lent buffers of any bytes; an offer; a take, lent the window
 -- with so many zeros appended, and a scratch of any length and content; a find; a close; or one that was lent other
@@ -83,7 +82,7 @@ PoolPassed w (take-call more scratch) = Unit {0}
 PoolPassed w (find-call line) = Unit {0}
 PoolPassed w (close-call p) = Unit {0}
 PoolPassed w (mislent-call m) =
-    (answerTo w m ≡ turnedBack lengthNumber 0) ⊎ (answerTo w m ≡ turnedBack stateNumber 0)
+    (poolAnswerTo w m ≡ turnedBack lengthNumber 0) ⊎ (poolAnswerTo w m ≡ turnedBack stateNumber 0)
 
 -- With the number of its watch, which may be any.
 pub record Numbered : Type 0 where
@@ -163,7 +162,7 @@ outcomeOfClose w i p pool m =
 -- A call of watch i, by the pool and the place that it finds.
 unfoldable pub outcome : (w i : ℕ) (c : PoolCall) (pool : List ℕ) (P : Place) → Outcome
 outcome w i (open-call text k labels s window) pool P = outcomeOfOpen w i text k labels s window pool P
-outcome w i (mislent-call m) pool P = unchanged pool P (answerTo w m ∷ [])
+outcome w i (mislent-call m) pool P = unchanged pool P (poolAnswerTo w m ∷ [])
 outcome w i (offer-call mask clock labels) pool vacant = unchanged pool vacant []
 outcome w i (offer-call mask clock labels) pool (has m) = outcomeOfOffer w mask clock labels pool m
 outcome w i (take-call more scratch) pool vacant = unchanged pool vacant []
@@ -190,37 +189,3 @@ afterPoolCall w c G = record {
 unfoldable pub poolRun : (w : ℕ) (cs : List Numbered) (G : Pooled) → Pooled
 poolRun w [] G = G
 poolRun w (c ∷ cs) G = poolRun w cs (afterPoolCall w c G)
-
--- ---- One watch's part of a run
-
--- Its own calls.
-unfoldable pub ownCalls : (i : ℕ) (cs : List Numbered) → List PoolCall
-ownCalls i [] = []
-ownCalls i (c ∷ cs) = cond (eqb (c .number) i) (c .call ∷ ownCalls i cs) (ownCalls i cs)
-
--- One of them: the watch as it was found and as it was left, with record and window; the scratch that was left, the
--- watch's own number in the pool, and the answer.
-pub record Turn : Type 0 where
-  pub call : PoolCall
-  pub found : Place
-  pub left : Place
-  pub scratch : List ℕ
-  pub kept : ℕ
-  pub answers : List Answer
-
-abbrev pub turnOf : (w : ℕ) (c : Numbered) (G : Pooled) → Turn
-turnOf w c G = record {
-  call = c .call;
-  found = G .places (c .number);
-  left = outcomeIn w c G .place;
-  scratch = outcomeIn w c G .scratch;
-  kept = keptAt (outcomeIn w c G .pool) (c .number);
-  answers = outcomeIn w c G .answers;
-}
-
--- All of them, in their order.
-unfoldable pub ownTurns : (w i : ℕ) (cs : List Numbered) (G : Pooled) → List Turn
-ownTurns w i [] G = []
-ownTurns w i (c ∷ cs) G =
-    cond (eqb (c .number) i) (turnOf w c G ∷ ownTurns w i cs (afterPoolCall w c G))
-    (ownTurns w i cs (afterPoolCall w c G))

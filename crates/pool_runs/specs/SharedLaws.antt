@@ -2,24 +2,23 @@
 -- under the cap that the pool allows; and what an open comes to.
 use Prim.Native.Nat.{ℕ, zero, suc, _≤_, _<_}
 use native.Mathlib.Omega.{arith}
-use mathlib.Core.Path.{_≡_, refl, sym, ap, _∙_}
-use mathlib.Core.Bool.{Bool, true, false, true≢false, cond, not, _||_}
+use mathlib.Core.Path.{_≡_, refl, ap}
+use mathlib.Core.Bool.{Bool, true, false, _||_}
 use mathlib.Core.List.{List}
 use lib.Dec.{leb, eqb}
 use lib.ListN.{length}
 use borrow.Author.Tests.{eq-eqb, leb-false, eqb-false}
 use Rattle.clocks.specs.stored.BoundedLaws.{or-false-e}
 use Rattle.numbers.specs.Limit.{mostMembers}
-use Rattle.rules.specs.Line.{linesAt}
 use Rattle.records.specs.Record.{keptCount}
 use Rattle.refusals.specs.Refusals.{badRecordLength, badWindowLength, roomOf, badState}
-use Rattle.answers.specs.Answer.{Answer, turnedBack, stateOf}
+use Rattle.answers.specs.Answer.{turnedBack, stateOf}
 use Rattle.answers.specs.Kinds.{isTurnedBack}
 use Rattle.answers.specs.Turns.{by-test}
 use Rattle.pool.specs.Pool.{shareAt, poolLength, badPoolLength, noShare, allowance, broughtUp}
 use Rattle.call_open.specs.Open.{Opened, openTable, openCall}
-use Rattle.call_take.specs.Take.{Taken, badLengths, takeCapped}
-use Rattle.call_close.specs.Close.{Closed, closeCall}
+use Rattle.call_take.specs.Take.{badLengths, takeCapped}
+use Rattle.call_close.specs.Close.{closeCall}
 use Rattle.call_shared.specs.Shared.{Shared, poolAfter, sharedOpen, sharedTake, sharedClose}
 use Rattle.demands.specs.EveryList.{Accepts}
 use Rattle.demands.specs.calls.OpenLaws.{OpenCase, open-case, turned-back, opens}

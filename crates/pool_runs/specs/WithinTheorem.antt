@@ -1,15 +1,13 @@
 -- After one accepted setting the invariant holds in every run; so the watches together keep at most 1,024 frontiers.
-use Prim.Native.Nat.{ℕ, _≤_, _<_, max}
+use Prim.Native.Nat.{ℕ, _<_}
 use native.Mathlib.Omega.{arith}
-use mathlib.Core.Path.{_≡_, refl, sym, _∙_}
+use mathlib.Core.Path.{_≡_, refl, _∙_}
 use mathlib.Core.List.{List, [], _∷_, List·Memᴰ·head, List·Memᴰ·tail}
 use lib.ListN.{length}
 use Rattle.clocks.specs.Counts.{at}
 use Rattle.clocks.specs.stored.CountsLaws.{at-beyond}
-use Rattle.numbers.specs.Limit.{mostFrontiers, mostMembers}
-use Rattle.pool.specs.Pool.{sumBelow, allowance}
+use Rattle.numbers.specs.Limit.{mostMembers}
 use Rattle.pool.specs.PoolLaws.{sum-same, sum-le, sum-past, share-allowed}
-use Rattle.call_shares.specs.Shares.{setShares}
 use Rattle.call_shares.specs.SharesTheorem.{shares-exact}
 use Rattle.pool_runs.specs.Runs.{Member, vacant, has, Pooled, IsSet, begun, Numbered, AllPoolPassed, afterPoolCall, poolRun}
 use Rattle.pool_runs.specs.statements.Within.{OfEveryRun, keptBy, keptOrPromised, Within, NeverOver}

@@ -1,6 +1,6 @@
 -- Each watch of a run (02 [10]): calls alone wrote it, so that all that is said of every written watch is true of it,
 -- demands 2 and 3 and the balance among it; and what its next shared take and close answer. Proved in MembersTheorem.
-use Prim.Native.Nat.{ℕ, _<_}
+use Prim.Native.Nat.{ℕ}
 use mathlib.Core.Path.{_≡_}
 use mathlib.Core.List.{List}
 use mathlib.Core.Logic.{_↔_, _≢_}

@@ -8,7 +8,8 @@ use lib.ListN.{take}
 use Rattle.clocks.specs.Counts.{at}
 use Rattle.demands.specs.EveryList.{RightLengths}
 use Rattle.demands.specs.statements.Caps.{WouldPass}
-use Rattle.pool_runs.specs.Runs.{Member, has, IsSet, begun, take-call, Numbered, AllPoolPassed, ownCalls, Turn, ownTurns}
+use Rattle.pool_runs.specs.Runs.{Member, has, IsSet, begun, take-call, Numbered, AllPoolPassed}
+use Rattle.pool_runs.specs.Turns.{ownCalls, Turn, ownTurns}
 
 -- A take, lent right lengths, in which some pending event is ready and has a true clock, and the cuts kept with it are
 -- more than the share: whether it fits or not. It goes by what the watch's own calls left alone.
