@@ -14,6 +14,10 @@ use Rattle.call_close.specs.CloseReplies.{CloseTells}
 use Rattle.call_move.specs.MoveExact.{MoveExact, WidenNever43, ThereAndBack}
 use Rattle.call_page.specs.PageExact.{PageIsExact, RefusedWritesNothing, PageTells}
 use Rattle.call_busiest.specs.BusiestExact.{BusiestIsExact}
+use Rattle.call_take.specs.TakeCaps.{CapsMakeNoDifference}
+use Rattle.call_shares.specs.SharesExact.{SharesAreExact}
+use Rattle.call_shared.specs.SharedExact.{SharedOpenIsExact, SharedTakeIsExact, SharedCloseIsExact}
+use Rattle.call_shared.specs.SharedFit.{AllowedIsExact}
 use Rattle.sharing_laws.specs.SharingExact.{KeptIsProducts, EvenIsBest}
 use Rattle.demands.specs.statements.Mislent.{MislentIsExact}
 use Rattle.demands.specs.statements.WindowExact.{WindowIsExact}
@@ -32,6 +36,10 @@ use Rattle.demands.specs.statements.BothForms.{BothFormsAlike, MovedGoesOn}
 use Rattle.demands.specs.statements.Page.{PageShowsKept, PagesAlike}
 use Rattle.demands.specs.statements.Busiest.{DayIsListed, BusiestIsKept}
 use Rattle.demands.specs.statements.BusiestTaken.{DayFitsItsWindow, DayIsTaken, DayMeetsNo36}
+use Rattle.demands.specs.statements.Caps.{CapsAreAlike}
+use Rattle.pool_runs.specs.statements.Within.{NeverOver}
+use Rattle.pool_runs.specs.statements.Members.{EveryMemberIsExact, MembersOrderIndependent, MemberAndPlainAlike}
+use Rattle.pool_runs.specs.statements.Others.{OthersMakeNoDifference}
 use Rattle.demands.specs.statements.Examples.{StarredExamples}
 
 pub record Theorem : Type 1 where
@@ -98,5 +106,20 @@ pub record Theorem : Type 1 where
   pub day-fits : DayFitsItsWindow
   pub day-taken : DayIsTaken
   pub day-no-36 : DayMeetsNo36
+  -- [10] Shares: setting them, and open, take and close of a watch that shares, on all bytes; when a take's cap makes no
+  -- difference; and of every run of calls on such watches: they never keep over 1,024 together, each is as exact as any
+  -- watch, demand 3 of any two, and the others make no difference
+  pub shares-exact : SharesAreExact
+  pub shared-open : SharedOpenIsExact
+  pub shared-take : SharedTakeIsExact
+  pub shared-close : SharedCloseIsExact
+  pub allowed-exactly : AllowedIsExact
+  pub caps-idle : CapsMakeNoDifference
+  pub caps-alike : CapsAreAlike
+  pub never-over : NeverOver
+  pub members-exact : EveryMemberIsExact
+  pub members-order : MembersOrderIndependent
+  pub member-and-plain : MemberAndPlainAlike
+  pub others-idle : OthersMakeNoDifference
   -- The starred examples of 01
   pub examples : StarredExamples
