@@ -2,3 +2,5 @@
 
 -- What a reader has to believe
 pub mod Shared
+pub mod SharedFit
+pub mod SharedFitLaws
