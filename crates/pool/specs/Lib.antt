@@ -2,3 +2,5 @@
 
 -- What a reader has to believe
 pub mod Pool
+-- What is proved
+pub mod PoolLaws

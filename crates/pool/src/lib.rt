@@ -102,7 +102,7 @@ fn used_by_others(pool: &[u8], i: usize) -> usize
 pub fn allowance(pool: &[u8], i: usize) -> usize
     requires { ⌜ length (now pool) ≡ poolLength ⌝ }
     requires { ⌜ i < mostMembers ⌝ }
-    ensures { λ r. ⌜ r ≡ pools.allowance (now (pool .entry)) i ⌝ }
+    ensures { λ r. ⌜ (r ≡ pools.allowance (now (pool .entry)) i) × (r ≤ 66560) ⌝ }
 {
     let unpromised = less(FRONTIERS, promised(pool));
     share_at(pool, i) + less(unpromised, used_by_others(pool, i))
