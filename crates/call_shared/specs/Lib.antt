@@ -2,3 +2,7 @@
 
 -- What a reader has to believe
 pub mod Shared
+-- What is proved
+pub mod SettledLaws
+-- What its functions' contracts cite
+pub mod SharedCode

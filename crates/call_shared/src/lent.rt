@@ -33,7 +33,7 @@ pub fn settle_pool(pool: &mut [u8], i: usize, record: &[u8], reply: u64)
     requires { ⌜ length (now pool) ≡ poolLength ⌝ }
     requires { ⌜ i < mostMembers ⌝ }
     requires { ⌜ 8 ≤ length (now «record») ⌝ }
-    requires { ⌜ reply % 256 ≡ 0 → keptCount (now «record») < 65536 ⌝ }
+    requires { ⌜ (reply % 256 ≡ 0 → keptCount (now «record») < 65536) ⌝ }
     ensures { λ r. ⌜ now (pool .exit) ≡ poolBy (now (pool .entry)) i reply (now («record» .entry)) ⌝ }
 {
     if reply % 256 != 0 {
