@@ -66,7 +66,7 @@ module _ {A : Type 0} (K : Kind A) (pool : List ℕ) (i : ℕ) where
 
   -- ---- The plain numbers: 6 and 34 of take and close, 6, 5 and 9 of open
 
-  pub two-turned : (a c : Bool) (x : A) → (cond a 6 (cond c 34 0) ≡ 0 → ⊥)
+  pub two-turned : (a c : Bool) (x : A) → (_≡_ {A = ℕ} (cond a 6 (cond c 34 0)) 0 → ⊥)
       → cond a (K .back 6) (cond c (K .back 34) x) ≡ K .back (cond a 6 (cond c 34 0))
   two-turned true c x h = refl
   two-turned false true x h = refl

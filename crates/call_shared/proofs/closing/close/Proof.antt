@@ -1,60 +1,97 @@
-use native.Mathlib.Omega.{arith}
-use mathlib.Core.Path.{_≡_, refl, sym, ap, _∙_}
-use Prim.Native.Nat.{ℕ, _≤_, _<_, _-_, _+_, _*_}
-use mathlib.Core.List.{List, _++_}
-use lib.ListN.{length, getD, take, drop, set, length-set}
-use mathlib.Core.Logic.{⊎-elim}
-use borrow.Author.Needs.{needs}
-use Rattle.call_shared.proofs.closing.close.Statement.{statement}
+-- Turned back, or closed and the pool brought up to date: the laws `close-turned`, `close-passed` and `close-settled`.
 use Rattle.call_shared.proofs.closing.close.Tie as tie
-use Rattle.call_shared.proofs.closing.close.Reads as reads
-use Rattle.call_shared.proofs.closing.close.Lts as lts
-use Rattle.call_close.proofs.close.Reads as close-reads
-use Rattle.call_shared.proofs.lent.settle_pool.Reads as settle-pool-reads
-use Rattle.call_shared.proofs.lent.shared_fault.Reads as shared-fault-reads
-use Rattle.refusals.proofs.watch_fault.Reads as watch-fault-reads
+use Prim.Native.Nat.{_<_}
+use native.Mathlib.Omega.{arith}
+use mathlib.Core.Path.{_≡_, sym, ap, _∙_}
+use lib.ListN.{length}
+use borrow.Author.Needs.{needs}
+use denote.Ref.{now}
+use Rattle.refusals.specs.RefusalCode.{watchFault}
+use Rattle.refusals.specs.FaultLaws.{Good}
+use Rattle.answers.specs.Answer.{replyWord}
+use Rattle.call_close.specs.Close.{closeCall}
+use Rattle.call_shared.specs.Shared.{sharedClose}
+use Rattle.call_shared.specs.SharedCode.{sharedFault, poolBy}
+use Rattle.call_shared.specs.SettledLaws.{Settled, settled-pool, settled-few, close-settled}
+use Rattle.call_shared.proofs.CallSteps.{closes, close-turned, close-passed}
+use Rattle.call_shared.proofs.FaultSteps.{went}
+use Rattle.call_shared.proofs.closing.close.Statement.{statement}
 
--- src/closing.rt:26:9
+-- ---- Places in the walk: the start, where nothing turns the call back, and after the plain call
+
+abbrev watched : tie.After-shared-fault → tie.After-watch-fault
+watched c = c .before .before
+
+abbrev start : tie.After-shared-fault → tie.Start
+start c = watched c .before .before .before .before .before
+
+abbrev passed : tie.After-close → tie.Else1
+passed c = c .before .before .before
+
+abbrev closed : tie.After-settle-pool-arg2 → tie.After-close
+closed c = c .before .before .before .before .before .before
+
+-- ---- What is known there
+
+number-is : (c : tie.After-shared-fault) → let a = start c .args in
+    c .shared-fault .result
+    ≡ sharedFault (watchFault (a .w) (now (a .«record»)) (length (now (a .window)))) (now (a .pool)) (a .number)
+number-is c =
+    let a = start c .args in
+    rw (← (watched c .watch-fault .ensures)) (c .shared-fault .ensures)
+
+known : (c : tie.Else1) → let a = start (c .before) .args in
+    (length (now (a .pool)) ≡ 32) × (a .number < 8) × Good (a .w) (now (a .«record»)) (length (now (a .window)))
+    × (sharedClose (a .w) (a .process) (now (a .«record»)) (now (a .window)) (now (a .pool)) (a .number)
+    ≡ went (closes (a .w) (a .process) (now (a .«record»)) (now (a .window)) (now (a .pool)) (a .number)) (now (a .pool)) (a .number)
+    (closeCall (a .w) (a .process) (now (a .«record»)) (now (a .window))))
+known c =
+    let a = start (c .before) .args in
+    close-passed (a .w) (a .process) (now (a .«record»)) (now (a .window)) (now (a .pool)) (a .number)
+    (sym (number-is (c .before)) ∙ c .if1 .left)
+
+-- ---- The needs
+
 watch-fault-requires : tie.Need-watch-fault-requires
 watch-fault-requires c κs = search needs
 
--- src/closing.rt:27:9
 shared-fault-requires : tie.Need-shared-fault-requires
 shared-fault-requires c κs = search needs
 
--- src/closing.rt:29:9
 same-length : tie.Need-same-length
 same-length c = search needs
 
--- src/closing.rt:29:9
 same-length-2 : tie.Need-same-length-2
 same-length-2 c = search needs
 
--- src/closing.rt:29:9
 returns : tie.Need-returns
-returns c = ?
+unfolding replyWord
+returns c =
+    let f = c .before in
+    let a = start f .args in
+    let whole =
+    close-turned (a .w) (a .process) (now (a .«record»)) (now (a .window)) (now (a .pool)) (a .number)
+    (f .shared-fault .result) (number-is f) (c .if1 .taken) in
+    (rw whole (omega arith), (rw whole, (rw whole, rw whole)))
 
--- src/closing.rt:31:9
 close-requires : tie.Need-close-requires
 close-requires c κs = search needs
 
--- src/closing.rt:32:5
 settle-pool-requires : tie.Need-settle-pool-requires
-settle-pool-requires c κs = ?
+settle-pool-requires c κs =
+    let d = closed c in
+    let k = known (passed d) in
+    (k .0, (k .1, (?, λ z. ?)))
 
--- src/closing.rt:12:1
 same-length-3 : tie.Need-same-length-3
 same-length-3 c = search needs
 
--- src/closing.rt:12:1
 same-length-4 : tie.Need-same-length-4
 same-length-4 c = search needs
 
--- src/closing.rt:12:1
 same-length-5 : tie.Need-same-length-5
 same-length-5 c = search needs
 
--- src/closing.rt:12:1
 returns-2 : tie.Need-returns-2
 returns-2 c = ?
 

@@ -1,40 +1,40 @@
-use native.Mathlib.Omega.{arith}
-use mathlib.Core.Path.{_≡_, refl, sym, ap, _∙_}
-use Prim.Native.Nat.{ℕ, _≤_, _<_, _-_, _+_, _*_}
-use mathlib.Core.List.{List, _++_}
-use lib.ListN.{length, getD, take, drop, set, length-set}
-use mathlib.Core.Logic.{⊎-elim}
-use borrow.Author.Needs.{needs}
-use Rattle.call_shared.proofs.lent.settle_pool.Statement.{statement}
+-- The word's number decides; the number kept fits two bytes where it is 0.
 use Rattle.call_shared.proofs.lent.settle_pool.Tie as tie
-use Rattle.call_shared.proofs.lent.settle_pool.Reads as reads
-use Rattle.call_shared.proofs.lent.settle_pool.Lts as lts
-use Rattle.pool.proofs.bring_up.Reads as bring-up-reads
-use Rattle.records.proofs.fields.kept_count.Reads as kept-count-reads
+use native.Mathlib.Omega.{arith}
+use mathlib.Core.Path.{_≡_, sym, _∙_}
+use borrow.Author.Needs.{needs}
+use borrow.Author.Tests.{eq-eqb, ne-eqb}
+use Rattle.call_shared.specs.SharedCode.{poolBy}
+use Rattle.call_shared.proofs.lent.settle_pool.Statement.{statement}
 
--- src/lent.rt:40:9
+-- Where the word's number is 0.
+abbrev accepted : tie.After-kept-count → tie.Else1
+accepted c = c .before .before
+
 returns : tie.Need-returns
-returns c = ?
+unfolding poolBy
+returns c = rw (ne-eqb _ _ (c .if1 .taken))
 
--- src/lent.rt:42:29
 kept-count-requires : tie.Need-kept-count-requires
 kept-count-requires c κs = search needs
 
--- src/lent.rt:42:29
 cast-bring-up : tie.Need-cast-bring-up
-cast-bring-up c = ?
+cast-bring-up c =
+    let e = accepted c in
+    record { fits = omega (arith, c .kept-count .ensures, e .before .before .before .pre .1 .1 .1 (e .if1 .left)) }
 
--- src/lent.rt:42:5
 bring-up-requires : tie.Need-bring-up-requires
 bring-up-requires c κs = search needs
 
--- src/lent.rt:32:1
 same-length : tie.Need-same-length
 same-length c = search needs
 
--- src/lent.rt:32:1
 returns-2 : tie.Need-returns-2
-returns-2 c = ?
+unfolding poolBy
+returns-2 c =
+    let brought = c .before .before in
+    let read = brought .before in
+    rw (eq-eqb _ _ (accepted read .if1 .left), ← (read .kept-count .ensures)) (brought .bring-up .ensures)
 
 pub settle-pool-spec : {M : Type 1} → statement M
 settle-pool-spec =

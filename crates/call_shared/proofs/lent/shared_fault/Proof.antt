@@ -18,17 +18,28 @@ returns c = rw (eq-eqb _ _ (c .if1 .taken)) (c .if1 .taken)
 bad-pool-length-requires : tie.Need-bad-pool-length-requires
 bad-pool-length-requires c κs = search needs
 
+-- The tests that let the call pass.
+long-passed : (c : tie.Else2) → badPoolLength (length (now (c .before .before .before .before .args .pool))) ≡ false
+long-passed c = sym (c .before .bad-pool-length .ensures) ∙ c .if2 .left
+
 returns-2 : tie.Need-returns-2
-returns-2 c = ?
+unfolding sharedFault
+returns-2 c = rw (ne-eqb _ _ (c .before .before .if1 .left), sym (c .before .bad-pool-length .ensures) ∙ c .if2 .taken)
 
 no-share-requires : tie.Need-no-share-requires
-no-share-requires c κs = ?
+no-share-requires c κs = pool-right _ (long-passed c)
 
 returns-3 : tie.Need-returns-3
-returns-3 c = ?
+unfolding sharedFault
+returns-3 c =
+    let e = c .before .before in
+    rw (ne-eqb _ _ (e .before .before .if1 .left), long-passed e, sym (c .before .no-share .ensures) ∙ c .if3 .taken)
 
 returns-4 : tie.Need-returns-4
-returns-4 c = ?
+unfolding sharedFault
+returns-4 c =
+    let e = c .before .before in
+    rw (ne-eqb _ _ (e .before .before .if1 .left), long-passed e, sym (c .before .no-share .ensures) ∙ c .if3 .left)
 
 pub shared-fault-spec : {M : Type 1} → statement M
 shared-fault-spec =
