@@ -8,10 +8,10 @@ use lib.ListN.{length}
 use borrow.Author.Tests.{eqb-true, not-false}
 use Rattle.clocks.specs.Refusal.{badStart}
 use Rattle.clocks.specs.stored.BoundedLaws.{or-false-e}
-use Rattle.records.specs.Record.{processCount, closedMask, pendingEvents}
+use Rattle.records.specs.Record.{recordLength, processCount, closedMask, pendingEvents}
 use Rattle.refusals.specs.Refusals.{badRecordLength, badWindowLength, roomOf, badProcesses, badState, notOpen, namedBy}
 use Rattle.refusals.specs.RefusalCode.{watchFault}
-use Rattle.refusals.specs.RefusalLaws.{room-few}
+use Rattle.refusals.specs.RefusalLaws.{right-length, room-few}
 use Rattle.refusals.specs.FaultLaws.{Good, tests-good, good-watch}
 use Rattle.answers.specs.Answer.{turnedBack}
 use Rattle.answers.specs.Turns.{passed}
@@ -57,10 +57,14 @@ module _ (w : ℕ) (text : List ℕ) (k : ℕ) (labels s window pool : List ℕ)
       ∙ fault-turned opens pool i open-number opened (open-back w text k labels s window open-number refl) n e some
 
   pub open-passed : sharedFault open-number pool i ≡ 0
-      → (length pool ≡ 32) × (i < 8) × (sharedOpen w text k labels s window pool i ≡ went opens pool i opened)
+      → (length pool ≡ 32) × (i < 8) × (length s ≡ recordLength w)
+      × (sharedOpen w text k labels s window pool i ≡ went opens pool i opened)
+  unfolding openFault
   open-passed h =
       let p = fault-passed opens pool i open-number opened h in
-      (p .1, p .2, open-by ∙ p .3)
+      let right = passed (badRecordLength w (length s) || badWindowLength w (length window)) 6 _ (lit< tt) (p .0) .0 in
+      let long = right-length w (length s) (or-false-e (badRecordLength w (length s)) _ right .0) in
+      (p .1, p .2, long, open-by ∙ p .3)
 
 -- ---- Take
 

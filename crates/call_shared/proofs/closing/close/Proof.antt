@@ -1,6 +1,6 @@
 -- Turned back, or closed and the pool brought up to date: the laws `close-turned`, `close-passed` and `close-settled`.
 use Rattle.call_shared.proofs.closing.close.Tie as tie
-use Prim.Native.Nat.{_<_}
+use Prim.Native.Nat.{_≤_, _<_}
 use native.Mathlib.Omega.{arith}
 use mathlib.Core.Path.{_≡_, sym, ap, _∙_}
 use lib.ListN.{length}
@@ -50,6 +50,17 @@ known c =
     close-passed (a .w) (a .process) (now (a .«record»)) (now (a .window)) (now (a .pool)) (a .number)
     (sym (number-is (c .before)) ∙ c .if1 .left)
 
+settled : (c : tie.After-close) → let a = start (passed c .before) .args in
+    let call = closeCall (a .w) (a .process) (now (a .«record»)) (now (a .window)) in
+    Settled (call .answer) (call .bytes)
+settled c =
+    let a = start (passed c .before) .args in
+    close-settled (a .w) (a .process) (now (a .«record»)) (now (a .window)) (known (passed c) .2)
+
+record-stays : (c : tie.After-close)
+    → length (c .close .last .1 .1 .0) ≡ length (now (start (passed c .before) .args .«record»))
+record-stays c = search needs
+
 -- ---- The needs
 
 watch-fault-requires : tie.Need-watch-fault-requires
@@ -81,7 +92,11 @@ settle-pool-requires : tie.Need-settle-pool-requires
 settle-pool-requires c κs =
     let d = closed c in
     let k = known (passed d) in
-    (k .0, (k .1, (?, λ z. ?)))
+    let e = d .close .ensures in
+    let a = start (passed d .before) .args in
+    let call = closeCall (a .w) (a .process) (now (a .«record»)) (now (a .window)) in
+    let long : 8 ≤ length (d .close .last .1 .1 .0) = omega (arith, record-stays d, k .2 .record-long) in
+    (k .0, (k .1, (long, λ z. rw (e .1 .0) (settled-few (call .answer) (call .bytes) (settled d) (d .close .result) (e .0) z))))
 
 same-length-3 : tie.Need-same-length-3
 same-length-3 c = search needs
@@ -93,7 +108,15 @@ same-length-5 : tie.Need-same-length-5
 same-length-5 c = search needs
 
 returns-2 : tie.Need-returns-2
-returns-2 c = ?
+returns-2 c =
+    let s = c .before .before in
+    let d = closed (s .before) in
+    let a = start (passed d .before) .args in
+    let e = d .close .ensures in
+    let call = closeCall (a .w) (a .process) (now (a .«record»)) (now (a .window)) in
+    let whole = known (passed d) .3 in
+    let pool = settled-pool (call .answer) (call .bytes) (settled d) (d .close .result) (e .0) (now (a .pool)) (a .number) in
+    (rw whole (e .0), (rw whole (e .1 .0), (rw whole (e .1 .1), rw whole (s .settle-pool .ensures ∙ ap (poolBy (now (a .pool)) (a .number) (d .close .result)) (e .1 .0) ∙ pool))))
 
 pub close-spec : {M : Type 1} → statement M
 close-spec =

@@ -1,81 +1,165 @@
-use native.Mathlib.Omega.{arith}
-use mathlib.Core.Path.{_≡_, refl, sym, ap, _∙_}
-use Prim.Native.Nat.{ℕ, _≤_, _<_, _-_, _+_, _*_}
-use mathlib.Core.List.{List, _++_}
-use lib.ListN.{length, getD, take, drop, set, length-set}
-use mathlib.Core.Logic.{⊎-elim}
-use borrow.Author.Needs.{needs}
-use Rattle.call_shared.proofs.taking.take.Statement.{statement}
+-- Turned back, or taken within what is allowed and the pool brought up to date: the laws `take-turned`, `take-passed`
+-- and `take-settled`.
 use Rattle.call_shared.proofs.taking.take.Tie as tie
-use Rattle.call_shared.proofs.taking.take.Reads as reads
-use Rattle.call_shared.proofs.taking.take.Lts as lts
-use Rattle.call_shared.proofs.lent.settle_pool.Reads as settle-pool-reads
-use Rattle.call_shared.proofs.lent.shared_fault.Reads as shared-fault-reads
-use Rattle.call_shared.proofs.taking.smaller.Reads as smaller-reads
-use Rattle.call_take.proofs.take_fault.Reads as take-fault-reads
-use Rattle.call_take.proofs.take_within.Reads as take-within-reads
-use Rattle.pool.proofs.allowance.Reads as allowance-reads
-use Rattle.refusals.proofs.room_of.Reads as room-of-reads
+use Prim.Native.Nat.{ℕ, min, _*_, _≤_, _<_}
+use native.Mathlib.Omega.{arith}
+use native.Mathlib.Nat.{min-le-right}
+use mathlib.Core.Path.{_≡_, sym, ap, _∙_, ap₂}
+use lib.ListN.{length}
+use borrow.Author.Needs.{needs}
+use denote.Ref.{now}
+use Rattle.frontiers.specs.Bytes.{frontierLength}
+use Rattle.refusals.specs.Refusals.{roomOf}
+use Rattle.refusals.specs.RefusalLaws.{room-within}
+use Rattle.answers.specs.Answer.{replyWord}
+use Rattle.pool.specs.Pool.{allowance}
+use Rattle.call_take.specs.Take.{Taken, takeWithin, takeCapped}
+use Rattle.call_take.specs.TakeCode.{takeFault}
+use Rattle.call_shared.specs.SharedCode.{sharedFault, poolBy}
+use Rattle.call_shared.specs.SettledLaws.{Settled, settled-pool, settled-few, take-settled}
+use Rattle.call_shared.proofs.CallSteps.{TakePassed, take-turned, take-passed}
+use Rattle.call_shared.proofs.taking.take.Statement.{statement}
 
--- src/taking.rt:37:9
+-- ---- Places in the walk: the start, where nothing turns the call back, what is allowed, and after the plain call
+
+abbrev judged : tie.After-shared-fault → tie.After-take-fault
+judged c = c .before .before
+
+abbrev start : tie.After-shared-fault → tie.Start
+start c = judged c .before .before .before .before .before .before
+
+abbrev passed : tie.After-smaller → tie.Else1
+passed c = c .before .before .before .before
+
+abbrev allowed : tie.After-take-within → tie.After-smaller
+allowed c = c .before .before .before .before
+
+abbrev taken : tie.After-settle-pool-arg2 → tie.After-take-within
+taken c = let lent = c .before .before .before .before in lent .before .before .before .before
+
+-- ---- What is known there
+
+number-is : (c : tie.After-shared-fault) → let a = start c .args in
+    c .shared-fault .result
+    ≡ sharedFault (takeFault (a .w) (now (a .«record»)) (length (now (a .window))) (length (now (a .scratch))))
+    (now (a .pool)) (a .number)
+number-is c = rw (← (judged c .take-fault .ensures)) (c .shared-fault .ensures)
+
+known : (c : tie.Else1) → let a = start (c .before) .args in
+    TakePassed (a .w) (now (a .«record»)) (now (a .window)) (now (a .scratch)) (now (a .pool)) (a .number)
+known c =
+    let a = start (c .before) .args in
+    take-passed (a .w) (now (a .«record»)) (now (a .window)) (now (a .scratch)) (now (a .pool)) (a .number)
+    (sym (number-is (c .before)) ∙ c .if1 .left)
+
+-- The smaller one of the pool's number and the window's.
+allowed-is : (c : tie.After-smaller) → let a = start (passed c .before) .args in
+    c .smaller .result ≡ min (allowance (now (a .pool)) (a .number)) (roomOf (a .w) (length (now (a .window))))
+allowed-is c =
+    rw (← (c .before .before .allowance .ensures), ← (c .before .room-of .ensures)) (c .smaller .ensures)
+
+-- What is taken is what the definition takes.
+plain-take : (c : tie.After-take-within) → let a = start (passed (allowed c) .before) .args in
+    takeWithin (a .w) (allowed c .smaller .result) (now (a .«record»)) (now (a .window))
+    ≡ takeCapped (a .w) (allowance (now (a .pool)) (a .number)) (now (a .«record»)) (now (a .window)) (now (a .scratch))
+plain-take c =
+    let a = start (passed (allowed c) .before) .args in
+    ap (λ (n : ℕ). takeWithin (a .w) n (now (a .«record»)) (now (a .window))) (allowed-is (allowed c))
+    ∙ sym (known (passed (allowed c)) .goes)
+
+settled : (c : tie.After-take-within) → let a = start (passed (allowed c) .before) .args in
+    let t = takeCapped (a .w) (allowance (now (a .pool)) (a .number)) (now (a .«record»)) (now (a .window)) (now (a .scratch)) in
+    Settled (t .answer) (t .bytes)
+settled c =
+    let a = start (passed (allowed c) .before) .args in
+    take-settled (a .w) (allowance (now (a .pool)) (a .number)) (now (a .«record»)) (now (a .window)) (now (a .scratch))
+    (known (passed (allowed c)) .good)
+
+record-stays : (c : tie.After-take-within)
+    → length (c .take-within .last .1 .1 .0) ≡ length (now (start (passed (allowed c) .before) .args .«record»))
+record-stays c = search needs
+
+-- ---- The needs
+
 take-fault-requires : tie.Need-take-fault-requires
 take-fault-requires c κs = search needs
 
--- src/taking.rt:38:9
 shared-fault-requires : tie.Need-shared-fault-requires
 shared-fault-requires c κs = search needs
 
--- src/taking.rt:40:9
 same-length : tie.Need-same-length
 same-length c = search needs
 
--- src/taking.rt:40:9
 same-length-2 : tie.Need-same-length-2
 same-length-2 c = search needs
 
--- src/taking.rt:40:9
 returns : tie.Need-returns
-returns c = ?
+unfolding replyWord
+returns c =
+    let f = c .before in
+    let a = start f .args in
+    let whole =
+    take-turned (a .w) (now (a .«record»)) (now (a .window)) (now (a .scratch)) (now (a .pool)) (a .number)
+    (f .shared-fault .result) (number-is f) (c .if1 .taken) in
+    (rw whole (omega arith), (rw whole, (rw whole, (rw whole, rw whole))))
 
--- src/taking.rt:43:27
 allowance-requires : tie.Need-allowance-requires
-allowance-requires c κs = ?
+allowance-requires c κs = let k = known (c .before) in (k .pool-long, k .member)
 
--- src/taking.rt:43:53
 room-of-requires : tie.Need-room-of-requires
 room-of-requires c κs = search needs
 
--- src/taking.rt:43:9
 smaller-requires : tie.Need-smaller-requires
 smaller-requires c κs = search needs
 
--- src/taking.rt:44:9
 take-within-requires : tie.Need-take-within-requires
-take-within-requires c κs = ?
+take-within-requires c κs =
+    let d = c .before .before .before in
+    let a = start (passed d .before) .args in
+    let k = known (passed d) in
+    let g = k .good in
+    let room = roomOf (a .w) (length (now (a .window))) in
+    let cap : min (allowance (now (a .pool)) (a .number)) room ≤ room = min-le-right _ room in
+    let below : d .smaller .result ≤ room = rw (allowed-is d) cap in
+    let few : d .smaller .result ≤ 1024 = omega (arith, below, k .few-room) in
+    (search needs, (g .record-long, ((g .processes, g .some-line, g .lines), (g .pending, ((g .kept, g .kept-within), ((few, room-within (a .w) (d .smaller .result) (length (now (a .window))) below), k .same))))))
 
--- src/taking.rt:45:5
 settle-pool-requires : tie.Need-settle-pool-requires
-settle-pool-requires c κs = ?
+settle-pool-requires c κs =
+    let d = taken c in
+    let k = known (passed (allowed d)) in
+    let a = start (passed (allowed d) .before) .args in
+    let t = takeCapped (a .w) (allowance (now (a .pool)) (a .number)) (now (a .«record»)) (now (a .window)) (now (a .scratch)) in
+    let e = d .take-within .ensures in
+    let long : 8 ≤ length (d .take-within .last .1 .1 .0) = omega (arith, record-stays d, k .good .record-long) in
+    let reply = e .0 ∙ ap (λ (x : Taken). replyWord (x .answer)) (plain-take d) in
+    let bytes = e .1 .0 ∙ ap (λ (x : Taken). x .bytes) (plain-take d) in
+    (k .pool-long, (k .member, (long, λ z. rw bytes (settled-few (t .answer) (t .bytes) (settled d) (d .take-within .result) reply z))))
 
--- src/taking.rt:22:1
 same-length-3 : tie.Need-same-length-3
 same-length-3 c = search needs
 
--- src/taking.rt:22:1
 same-length-4 : tie.Need-same-length-4
 same-length-4 c = search needs
 
--- src/taking.rt:22:1
 same-length-5 : tie.Need-same-length-5
 same-length-5 c = search needs
 
--- src/taking.rt:22:1
 same-length-6 : tie.Need-same-length-6
 same-length-6 c = search needs
 
--- src/taking.rt:22:1
 returns-2 : tie.Need-returns-2
-returns-2 c = ?
+returns-2 c =
+    let s = c .before .before in
+    let d = taken (s .before) in
+    let a = start (passed (allowed d) .before) .args in
+    let t = takeCapped (a .w) (allowance (now (a .pool)) (a .number)) (now (a .«record»)) (now (a .window)) (now (a .scratch)) in
+    let e = d .take-within .ensures in
+    let whole = known (passed (allowed d)) .whole in
+    let reply = e .0 ∙ ap (λ (x : Taken). replyWord (x .answer)) (plain-take d) in
+    let bytes = e .1 .0 ∙ ap (λ (x : Taken). x .bytes) (plain-take d) in
+    let pool = settled-pool (t .answer) (t .bytes) (settled d) (d .take-within .result) reply (now (a .pool)) (a .number) in
+    (rw whole reply, (rw whole bytes, (rw whole (e .1 .1 .0 ∙ ap (λ (x : Taken). x .window) (plain-take d)), (rw whole (e .1 .1 .1 ∙ ap (λ (x : Taken). x .scratch) (plain-take d)), rw whole (s .settle-pool .ensures ∙ ap (poolBy (now (a .pool)) (a .number) (d .take-within .result)) bytes ∙ pool)))))
 
 pub take-spec : {M : Type 1} → statement M
 take-spec =
