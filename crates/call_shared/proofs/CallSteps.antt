@@ -1,5 +1,7 @@
 -- The three shared calls, each by its fault.
-use Prim.Native.Nat.{ℕ, min, _≤_, _<_}
+use Prim.Native.Nat.{ℕ, min, _*_, _≤_, _<_}
+use native.Mathlib.Omega.{arith}
+use native.Mathlib.Nat.{min-le-right}
 use mathlib.Core.Path.{_≡_, refl, sym, ap, _∙_}
 use mathlib.Core.Bool.{Bool, not, cond, _||_, or-assoc}
 use mathlib.Core.List.{List}
@@ -8,10 +10,11 @@ use lib.ListN.{length}
 use borrow.Author.Tests.{eqb-true, not-false}
 use Rattle.clocks.specs.Refusal.{badStart}
 use Rattle.clocks.specs.stored.BoundedLaws.{or-false-e}
+use Rattle.frontiers.specs.Bytes.{frontierLength}
 use Rattle.records.specs.Record.{recordLength, processCount, closedMask, pendingEvents}
 use Rattle.refusals.specs.Refusals.{badRecordLength, badWindowLength, roomOf, badProcesses, badState, notOpen, namedBy}
 use Rattle.refusals.specs.RefusalCode.{watchFault}
-use Rattle.refusals.specs.RefusalLaws.{right-length, room-few}
+use Rattle.refusals.specs.RefusalLaws.{right-length, room-within, room-few}
 use Rattle.refusals.specs.FaultLaws.{Good, tests-good, good-watch}
 use Rattle.answers.specs.Answer.{turnedBack}
 use Rattle.answers.specs.Turns.{passed}
@@ -67,6 +70,13 @@ module _ (w : ℕ) (text : List ℕ) (k : ℕ) (labels s window pool : List ℕ)
       (p .1, p .2, long, open-by ∙ p .3)
 
 -- ---- Take
+
+-- What is allowed lies within the window.
+pub allowed-room : (w most n allowed : ℕ) → allowed ≡ min most (roomOf w n) → roomOf w n ≤ 1024
+    → (allowed ≤ 1024) × (allowed * frontierLength w ≤ n)
+allowed-room w most n allowed e few =
+    let below : allowed ≤ roomOf w n = rw e (min-le-right most (roomOf w n)) in
+    (omega arith, room-within w allowed n below)
 
 module _ (w : ℕ) (s window scratch pool : List ℕ) (i : ℕ) where
   abbrev pub takes : Kind Taken

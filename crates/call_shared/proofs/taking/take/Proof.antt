@@ -1,23 +1,20 @@
 -- Turned back, or taken within what is allowed and the pool brought up to date: the laws `take-turned`, `take-passed`
 -- and `take-settled`.
 use Rattle.call_shared.proofs.taking.take.Tie as tie
-use Prim.Native.Nat.{ℕ, min, _*_, _≤_, _<_}
+use Prim.Native.Nat.{ℕ, min, _≤_}
 use native.Mathlib.Omega.{arith}
-use native.Mathlib.Nat.{min-le-right}
-use mathlib.Core.Path.{_≡_, sym, ap, _∙_, ap₂}
+use mathlib.Core.Path.{_≡_, sym, ap, _∙_}
 use lib.ListN.{length}
 use borrow.Author.Needs.{needs}
 use denote.Ref.{now}
-use Rattle.frontiers.specs.Bytes.{frontierLength}
 use Rattle.refusals.specs.Refusals.{roomOf}
-use Rattle.refusals.specs.RefusalLaws.{room-within}
 use Rattle.answers.specs.Answer.{replyWord}
 use Rattle.pool.specs.Pool.{allowance}
 use Rattle.call_take.specs.Take.{Taken, takeWithin, takeCapped}
 use Rattle.call_take.specs.TakeCode.{takeFault}
 use Rattle.call_shared.specs.SharedCode.{sharedFault, poolBy}
 use Rattle.call_shared.specs.SettledLaws.{Settled, settled-pool, settled-few, take-settled}
-use Rattle.call_shared.proofs.CallSteps.{TakePassed, take-turned, take-passed}
+use Rattle.call_shared.proofs.CallSteps.{TakePassed, allowed-room, take-turned, take-passed}
 use Rattle.call_shared.proofs.taking.take.Statement.{statement}
 
 -- ---- Places in the walk: the start, where nothing turns the call back, what is allowed, and after the plain call
@@ -56,16 +53,29 @@ known c =
 allowed-is : (c : tie.After-smaller) → let a = start (passed c .before) .args in
     c .smaller .result ≡ min (allowance (now (a .pool)) (a .number)) (roomOf (a .w) (length (now (a .window))))
 allowed-is c =
-    rw (← (c .before .before .allowance .ensures), ← (c .before .room-of .ensures)) (c .smaller .ensures)
+    rw (← (c .before .before .allowance .ensures .0), ← (c .before .room-of .ensures)) (c .smaller .ensures)
 
 -- What is taken is what the definition takes.
-plain-take : (c : tie.After-take-within) → let a = start (passed (allowed c) .before) .args in
+same-take : (c : tie.After-take-within) → let a = start (passed (allowed c) .before) .args in
     takeWithin (a .w) (allowed c .smaller .result) (now (a .«record»)) (now (a .window))
     ≡ takeCapped (a .w) (allowance (now (a .pool)) (a .number)) (now (a .«record»)) (now (a .window)) (now (a .scratch))
-plain-take c =
+same-take c =
     let a = start (passed (allowed c) .before) .args in
     ap (λ (n : ℕ). takeWithin (a .w) n (now (a .«record»)) (now (a .window))) (allowed-is (allowed c))
     ∙ sym (known (passed (allowed c)) .goes)
+
+plain-take : (c : tie.After-take-within) → let a = start (passed (allowed c) .before) .args in
+    let t = takeCapped (a .w) (allowance (now (a .pool)) (a .number)) (now (a .«record»)) (now (a .window)) (now (a .scratch)) in
+    (c .take-within .result ≡ replyWord (t .answer)) × (c .take-within .last .1 .1 .0 ≡ t .bytes)
+    × (c .take-within .last .1 .1 .1 .0 ≡ t .window) × (c .take-within .last .1 .1 .1 .1 .0 ≡ t .scratch)
+plain-take c =
+    let e = c .take-within .ensures in
+    let same = same-take c in (
+      e .0 ∙ ap (λ (t : Taken). replyWord (t .answer)) same,
+      e .1 .0 ∙ ap (λ (t : Taken). t .bytes) same,
+      e .1 .1 .0 ∙ ap (λ (t : Taken). t .window) same,
+      e .1 .1 .1 ∙ ap (λ (t : Taken). t .scratch) same,
+    )
 
 settled : (c : tie.After-take-within) → let a = start (passed (allowed c) .before) .args in
     let t = takeCapped (a .w) (allowance (now (a .pool)) (a .number)) (now (a .«record»)) (now (a .window)) (now (a .scratch)) in
@@ -118,11 +128,9 @@ take-within-requires c κs =
     let a = start (passed d .before) .args in
     let k = known (passed d) in
     let g = k .good in
-    let room = roomOf (a .w) (length (now (a .window))) in
-    let cap : min (allowance (now (a .pool)) (a .number)) room ≤ room = min-le-right _ room in
-    let below : d .smaller .result ≤ room = rw (allowed-is d) cap in
-    let few : d .smaller .result ≤ 1024 = omega (arith, below, k .few-room) in
-    (search needs, (g .record-long, ((g .processes, g .some-line, g .lines), (g .pending, ((g .kept, g .kept-within), ((few, room-within (a .w) (d .smaller .result) (length (now (a .window))) below), k .same))))))
+    let most = allowance (now (a .pool)) (a .number) in
+    let room = allowed-room (a .w) most (length (now (a .window))) (d .smaller .result) (allowed-is d) (k .few-room) in
+    (search needs, (g .record-long, ((g .processes, g .some-line, g .lines), (g .pending, ((g .kept, g .kept-within), (room, k .same))))))
 
 settle-pool-requires : tie.Need-settle-pool-requires
 settle-pool-requires c κs =
@@ -130,11 +138,9 @@ settle-pool-requires c κs =
     let k = known (passed (allowed d)) in
     let a = start (passed (allowed d) .before) .args in
     let t = takeCapped (a .w) (allowance (now (a .pool)) (a .number)) (now (a .«record»)) (now (a .window)) (now (a .scratch)) in
-    let e = d .take-within .ensures in
+    let e = plain-take d in
     let long : 8 ≤ length (d .take-within .last .1 .1 .0) = omega (arith, record-stays d, k .good .record-long) in
-    let reply = e .0 ∙ ap (λ (x : Taken). replyWord (x .answer)) (plain-take d) in
-    let bytes = e .1 .0 ∙ ap (λ (x : Taken). x .bytes) (plain-take d) in
-    (k .pool-long, (k .member, (long, λ z. rw bytes (settled-few (t .answer) (t .bytes) (settled d) (d .take-within .result) reply z))))
+    (k .pool-long, (k .member, (long, λ z. rw (e .1) (settled-few (t .answer) (t .bytes) (settled d) (d .take-within .result) (e .0) z))))
 
 same-length-3 : tie.Need-same-length-3
 same-length-3 c = search needs
@@ -154,12 +160,10 @@ returns-2 c =
     let d = taken (s .before) in
     let a = start (passed (allowed d) .before) .args in
     let t = takeCapped (a .w) (allowance (now (a .pool)) (a .number)) (now (a .«record»)) (now (a .window)) (now (a .scratch)) in
-    let e = d .take-within .ensures in
+    let e = plain-take d in
     let whole = known (passed (allowed d)) .whole in
-    let reply = e .0 ∙ ap (λ (x : Taken). replyWord (x .answer)) (plain-take d) in
-    let bytes = e .1 .0 ∙ ap (λ (x : Taken). x .bytes) (plain-take d) in
-    let pool = settled-pool (t .answer) (t .bytes) (settled d) (d .take-within .result) reply (now (a .pool)) (a .number) in
-    (rw whole reply, (rw whole bytes, (rw whole (e .1 .1 .0 ∙ ap (λ (x : Taken). x .window) (plain-take d)), (rw whole (e .1 .1 .1 ∙ ap (λ (x : Taken). x .scratch) (plain-take d)), rw whole (s .settle-pool .ensures ∙ ap (poolBy (now (a .pool)) (a .number) (d .take-within .result)) bytes ∙ pool)))))
+    let pool = settled-pool (t .answer) (t .bytes) (settled d) (d .take-within .result) (e .0) (now (a .pool)) (a .number) in
+    (rw whole (e .0), (rw whole (e .1), (rw whole (e .2), (rw whole (e .3), rw whole (s .settle-pool .ensures ∙ ap (poolBy (now (a .pool)) (a .number) (d .take-within .result)) (e .1) ∙ pool)))))
 
 pub take-spec : {M : Type 1} → statement M
 take-spec =
