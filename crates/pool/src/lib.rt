@@ -41,7 +41,7 @@ pub fn no_share(pool: &[u8], number: u64) -> bool
     requires { ⌜ length (now pool) ≡ poolLength ⌝ }
     ensures { λ r. ⌜ r ≡ noShare (now (pool .entry)) number ⌝ }
 {
-    if MEMBERS as u64 <= number {
+    if number >= MEMBERS as u64 {
         return true;
     }
     share_at(pool, number as usize) == 0
