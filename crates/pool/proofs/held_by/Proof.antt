@@ -31,16 +31,17 @@ another pool i j share kept held other here there sum = rw (ne-eqb j i other, â†
 
 returns-2 : tie.Need-returns-2
 returns-2 c =
-    let k = c .before .before in
-    let s = k .before .share-at in
-    let e = k .kept-at .ensures .0 in
-    (another _ _ _ _ _ (s .result) (c .before .if1 .left) (s .ensures .0) e (omega (arith, c .if2 .taken)), search needs)
+    let s = c .before .before .before .share-at in
+    let k = c .before .before .kept-at .ensures .0 in
+    let other = c .before .if1 .left in
+    (another _ _ _ _ _ (s .result) other (s .ensures .0) k (omega (arith, c .if2 .taken)), search needs)
 
 returns-3 : tie.Need-returns-3
 returns-3 c =
+    let s = c .before .before .before .share-at .ensures .0 in
     let k = c .before .before .kept-at in
-    let e = c .before .before .before .share-at .ensures .0 in
-    (another _ _ _ _ _ (k .result) (c .before .if1 .left) e (k .ensures .0) (omega (arith, c .if2 .left)), search needs)
+    let other = c .before .if1 .left in
+    (another _ _ _ _ _ (k .result) other s (k .ensures .0) (omega (arith, c .if2 .left)), search needs)
 
 pub held-by-spec : {M : Type 1} â†’ statement M
 held-by-spec = tie.close (tie.spec share-at-requires kept-at-requires returns returns-2 returns-3)
