@@ -1,20 +1,26 @@
--- Laws of sums, of a pool whose kept number was brought up to date, and of what a watch may keep.
+-- Laws of sums, of a pool whose kept number was brought up to date, of what is refused and what a watch may keep.
 use Prim.Native.Nat.{ℕ, zero, suc, _+_, _*_, _≤_, _<_}
 use native.Mathlib.Decide.{decLt, ℕ-discrete}
 use native.Mathlib.Omega.{arith}
+use native.Mathlib.Numerals.{add-one}
 use mathlib.Core.Path.{_≡_, refl}
-use mathlib.Core.Bool.{cond}
+use mathlib.Core.Bool.{true, false, cond}
 use mathlib.Core.List.{List}
 use mathlib.Core.Logic.{_≢_}
 use lib.Dec.{eqb}
 use lib.ListN.{length, getD}
-use borrow.Author.Tests.{eq-eqb, ne-eqb}
+use borrow.Author.Tests.{eq-eqb, ne-eqb, eqb-true, eqb-false, not-true, not-false}
 use Rattle.codec.specs.Little.{Bytes}
 use Rattle.codec.specs.PutLaws.{length-put, Bytes-put, number-lt, number-put-same, number-put-before, number-put-after, getD-put-before, getD-put-after}
-use Rattle.pool.specs.Pool.{poolLength, sumBelow, shareAt, keptPlace, keptAt, broughtUp, allowance}
+use Rattle.pool.specs.Pool.{poolLength, sumBelow, shareAt, keptPlace, keptAt, broughtUp, badPoolLength, allowance}
 use Rattle.numbers.specs.Limit.{mostMembers}
 
 -- ---- Sums
+
+-- The next value is added, as a loop does it.
+pub sum-next : (f : ℕ → ℕ) (j sum value : ℕ) → sum ≡ sumBelow j f → value ≡ f j → sum + value ≡ sumBelow (j + 1) f
+unfolding sumBelow
+sum-next f j sum value so-far next = rw (add-one j, so-far, next)
 
 pub sum-same : (n : ℕ) (f g : ℕ → ℕ) → ((j : ℕ) → j < n → f j ≡ g j) → sumBelow n f ≡ sumBelow n g
 unfolding sumBelow
@@ -88,7 +94,15 @@ module _ (pool : List ℕ) (i kept : ℕ) where
       go (yes l) = getD-put-before pool (keptPlace i) 2 kept n 0 l
       go (no l) = getD-put-after pool (keptPlace i) 2 kept n 0 (omega arith)
 
--- ---- What a watch may keep
+-- ---- What is refused, and what a watch may keep
+
+pub length-right : (n : ℕ) → badPoolLength n ≡ false → n ≡ poolLength
+unfolding badPoolLength
+length-right n h = eqb-true n poolLength (not-false _ h)
+
+pub length-wrong : (n : ℕ) → badPoolLength n ≡ true → n ≢ poolLength
+unfolding badPoolLength
+length-wrong n h = eqb-false n poolLength (not-true _ h)
 
 pub share-allowed : (pool : List ℕ) (i : ℕ) → shareAt pool i ≤ allowance pool i
 unfolding allowance

@@ -1,2 +1,2 @@
 -- What the functions' proofs share.
-pub mod SumSteps
+pub mod PutSteps
