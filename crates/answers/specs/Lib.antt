@@ -8,3 +8,4 @@ pub mod Kinds
 -- What is proved of refusals in their order, and of words
 pub mod Turns
 pub mod ToldLaws
+pub mod NumberLaws

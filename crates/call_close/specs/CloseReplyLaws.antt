@@ -19,7 +19,7 @@ use Rattle.answers.specs.Turns.{by-test}
 use Rattle.call_close.specs.Close.{Closed, closing, remaining, closeProcess, closeCall}
 use Rattle.call_close.specs.CloseReplies.{CloseTold, CloseTells}
 
-turned-told : (n : ℕ) → 0 < n → n < 256 → CloseTold (turnedBack n 0)
+pub turned-told : (n : ℕ) → 0 < n → n < 256 → CloseTold (turnedBack n 0)
 unfolding replyWord
 turned-told n some small = record {
   closed-exactly = λ m. (λ x. let z : _≡_ {A = ℕ} 0 1 = cc in absurd (omega arith), λ x. absurd (omega (arith, x .0)));

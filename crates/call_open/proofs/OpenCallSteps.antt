@@ -6,7 +6,7 @@ use mathlib.Core.Bool.{cond, _||_}
 use mathlib.Core.List.{List}
 use lib.Dec.{eqb, lit<}
 use lib.ListN.{length}
-use borrow.Author.Tests.{eq-eqb, ne-eqb}
+use borrow.Author.Tests.{eq-eqb}
 use Rattle.rules.specs.reading.ReaderAccepts.{accepted}
 use Rattle.frontiers.specs.Bytes.{frontierLength}
 use Rattle.rules.specs.lines.RuleTableLaws.{length-tableOf, linesOf-tableOf}
@@ -25,10 +25,11 @@ use Rattle.refusals.specs.RefusalLaws.{right-length, processes-within, window-h
 use Rattle.records.specs.Record.{recordLength}
 use Rattle.refusals.specs.Refusals.{badRecordLength, badWindowLength, badProcesses}
 use Rattle.call_open.specs.Open.{Opened, openTable, openRead, openCall}
-use Rattle.answers.specs.Answer.{replyWord, turnedBack}
-use Rattle.answers.specs.Turns.{chosen-by, passed, end, turn}
+use Rattle.answers.specs.Answer.{replyWord}
+use Rattle.answers.specs.Turns.{passed}
 use Rattle.clocks.specs.stored.BoundedLaws.{or-false-e}
 use Rattle.call_open.specs.OpenCode.{openFault}
+use Rattle.call_open.specs.OpenFaultLaws.{open-by, open-back}
 
 -- ---- What a text's answer says of it
 
@@ -63,30 +64,20 @@ module _ (text : List ℕ) (k : ℕ) (lent : List ℕ) (long : length lent ≡ 1
 
 -- ---- The refusals before the text
 
--- What an open that is turned back answers and leaves.
-turned : List ℕ → List ℕ → ℕ → Opened
-turned s window n = record { answer = turnedBack n 0; bytes = s; window = window }
-
 module _ (w : ℕ) (text : List ℕ) (k : ℕ) (labels s window : List ℕ) where
   abbrev fault : ℕ
   fault = openFault w k labels (length s) (length window)
 
-  open-by : openCall w text k labels s window ≡ cond (eqb fault 0) (openRead w k labels s window (readRule text k)) (turned s window fault)
-  unfolding openCall openFault turned
-  open-by =
-      chosen-by (turn (badRecordLength w (length s) || badWindowLength w (length window)) 6 (turn (badProcesses k) 5 (turn (badStart k labels) 9 end)))
-      (turned s window) (openRead w k labels s window (readRule text k)) (lit< tt, (lit< tt, (lit< tt, tt)))
-
   pub open-turned : (n : ℕ) → n ≡ fault → (n ≡ 0 → ⊥)
       → (n ≡ replyWord (openCall w text k labels s window .answer))
       × (s ≡ openCall w text k labels s window .bytes) × (window ≡ openCall w text k labels s window .window)
-  unfolding turned replyWord
+  unfolding replyWord
   open-turned n e h =
-      let whole : openCall w text k labels s window ≡ turned s window n = open-by ∙ rw (← e, ne-eqb n 0 h) in
+      let whole = open-back w text k labels s window n e h in
       (rw whole (omega arith), rw whole, rw whole)
 
   open-reads : fault ≡ 0 → openCall w text k labels s window ≡ openRead w k labels s window (readRule text k)
-  open-reads h = open-by ∙ rw (eq-eqb fault 0 h)
+  open-reads h = open-by w text k labels s window ∙ rw (eq-eqb fault 0 h)
 
   pub open-passed : fault ≡ 0 → (length s ≡ recordLength w) × (frontierLength w ≤ length window) × (k ≤ 8)
   unfolding openFault

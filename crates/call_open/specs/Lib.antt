@@ -9,3 +9,4 @@ pub mod OpenReplyLaws
 pub mod OpenTheorem
 -- What its functions' contracts cite
 pub mod OpenCode
+pub mod OpenFaultLaws

@@ -13,8 +13,8 @@ use Rattle.records.specs.Record.{takenCounts}
 use Rattle.answers.specs.Answer.{turnedBack, state, replyWord}
 use Rattle.call_open.specs.Open.{Opened, openCall}
 
--- What an open answers and leaves, for counts of w bytes.
-pub record OpenTold (w : ℕ) (o : Opened) : Type 0 where
+-- The word of what an open answers and leaves, for counts of w bytes, whatever may turn it back.
+pub record OpenWord (w : ℕ) (o : Opened) : Type 0 where
   -- accepted exactly if the word's number is 0: its value is the number of frontiers kept, the flag is the rule's
   -- truth, and the counts are those that stand in the record afterwards
   pub opened-exactly : (counts : List ℕ) (truth : Bool) (kept : ℕ)
@@ -28,12 +28,16 @@ pub record OpenTold (w : ℕ) (o : Opened) : Type 0 where
   pub turned-exactly : (n place : ℕ)
       → (o .answer ≡ turnedBack n place)
       ↔ ((0 < n) × (replyWord (o .answer) % 256 ≡ n) × (replyWord (o .answer) / 4294967296 ≡ place))
-  -- that is 6, 5 or 9 without a place, or a number of the text's, 1 to 4, with a place below 1,024
+  -- the flag is 0 or 1
+  pub one-flag : replyWord (o .answer) / 256 % 256 ≤ 1
+
+-- ... and what turns it back.
+pub record OpenTold (w : ℕ) (o : Opened) : Type 0 where
+  pub word : OpenWord w o
+  -- 6, 5 or 9 without a place, or a number of the text's, 1 to 4, with a place below 1,024
   pub turned-by : (n place : ℕ) → o .answer ≡ turnedBack n place
       → ((place ≡ 0) × ((n ≡ lengthNumber) ⊎ ((n ≡ processesNumber) ⊎ (n ≡ labelsNumber))))
       ⊎ ((1 ≤ n) × (n ≤ atomNumber) × (place < 1024))
-  -- the flag is 0 or 1
-  pub one-flag : replyWord (o .answer) / 256 % 256 ≤ 1
 
 abbrev pub OpenTells : Type 0
 OpenTells = (w : ℕ) (text : List ℕ) (k : ℕ) (labels s window : List ℕ) → OpenTold w (openCall w text k labels s window)

@@ -27,7 +27,7 @@ use Rattle.refusals.specs.Refusals.{badRecordLength, badWindowLength, badProces
 use Rattle.answers.specs.Answer.{turnedBack, state, flag, replyWord, stateOf}
 use Rattle.answers.specs.Turns.{by-test}
 use Rattle.call_open.specs.Open.{Opened, firstRecord, openTable, openRead, openCall}
-use Rattle.call_open.specs.OpenReplies.{OpenTold, OpenTells}
+use Rattle.call_open.specs.OpenReplies.{OpenWord, OpenTold, OpenTells}
 
 -- ---- A new watch has taken nothing
 
@@ -79,10 +79,9 @@ abbrev TurnedBy : ℕ → ℕ → Type 0
 TurnedBy n place =
     ((place ≡ 0) × ((n ≡ 6) ⊎ ((n ≡ 5) ⊎ (n ≡ 9)))) ⊎ ((1 ≤ n) × (n ≤ 4) × (place < 1024))
 
-turned-told : (w n place : ℕ) (o : Opened) → o .answer ≡ turnedBack n place → TurnedBy n place → 0 < n → n < 256
-    → OpenTold w o
+pub turned-word : (w n place : ℕ) (o : Opened) → o .answer ≡ turnedBack n place → 0 < n → n < 256 → OpenWord w o
 unfolding replyWord
-turned-told w n place o q by some small = rw q (record {
+turned-word w n place o q some small = rw q (record {
   opened-exactly = λ counts truth kept.
       (λ x. let z : _≡_ {A = ℕ} 0 1 = cc in absurd (omega arith), λ x. absurd (omega (arith, x .0)));
   opened-with = λ counts truth kept x. let z : _≡_ {A = ℕ} 0 1 = cc in absurd (omega arith);
@@ -90,9 +89,24 @@ turned-told w n place o q by some small = rw q (record {
     (λ x. let z : n ≡ m = cc in let p : place ≡ i = cc in (omega arith, omega arith, omega arith)),
     (λ x. let z : n ≡ m = omega (arith, x .1) in let p : place ≡ i = omega (arith, x .2) in rw (z, p)),
   );
-  turned-by = λ m i x. let z : n ≡ m = cc in let p : place ≡ i = cc in rw (z, p) at by;
   one-flag = omega arith;
 })
+
+-- Turned back by one number with one place.
+pub by-number : (R : ℕ → ℕ → Type 0) (n place : ℕ) (o : Opened) → o .answer ≡ turnedBack n place → R n place
+    → (m i : ℕ) → o .answer ≡ turnedBack m i → R m i
+by-number R n place o q by m i x =
+    let same : turnedBack n place ≡ turnedBack m i = sym q ∙ x in
+    let z : n ≡ m = cc in
+    let p : place ≡ i = cc in
+    rw (z, p) at by
+
+turned-told : (w n place : ℕ) (o : Opened) → o .answer ≡ turnedBack n place → TurnedBy n place → 0 < n → n < 256
+    → OpenTold w o
+turned-told w n place o q by some small = record {
+  word = turned-word w n place o q some small;
+  turned-by = by-number TurnedBy n place o q by;
+}
 
 -- The parts of an accepted open's word.
 value-is : (b : Bool) → (256 * flag b + 65536 * 1) / 65536 % 65536 ≡ 1
@@ -111,10 +125,10 @@ flag-small : (b : Bool) → (256 * flag b + 65536 * 1) / 256 % 256 ≤ 1
 flag-small true = omega arith
 flag-small false = omega arith
 
-opened-told : (w : ℕ) (o : Opened) (truth : Bool) → o .answer ≡ state (replicate 8 0) truth 1
-    → takenCounts w (o .bytes) ≡ replicate 8 0 → OpenTold w o
+opened-word : (w : ℕ) (o : Opened) (truth : Bool) → o .answer ≡ state (replicate 8 0) truth 1
+    → takenCounts w (o .bytes) ≡ replicate 8 0 → OpenWord w o
 unfolding replyWord
-opened-told w o truth q c = rw q (record {
+opened-word w o truth q c = rw q (record {
   opened-exactly = λ counts′ truth′ kept′. (
     (λ x.
         let a : replicate 8 0 ≡ counts′ = cc in
@@ -133,9 +147,18 @@ opened-told w o truth q c = rw q (record {
     (λ x. let z : _≡_ {A = ℕ} 0 1 = cc in absurd (omega arith)),
     (λ x. absurd (omega (arith, x .0, x .1, number-is truth))),
   );
-  turned-by = λ m i x. let z : _≡_ {A = ℕ} 0 1 = cc in absurd (omega arith);
   one-flag = flag-small truth;
 })
+
+opened-told : (w : ℕ) (o : Opened) (truth : Bool) → o .answer ≡ state (replicate 8 0) truth 1
+    → takenCounts w (o .bytes) ≡ replicate 8 0 → OpenTold w o
+opened-told w o truth q c = record {
+  word = opened-word w o truth q c;
+  turned-by = λ m i x.
+      let same : state (replicate 8 0) truth 1 ≡ turnedBack m i = sym q ∙ x in
+      let z : _≡_ {A = ℕ} 0 1 = cc in
+      absurd (omega arith);
+}
 
 -- ---- Theorem
 

@@ -33,7 +33,7 @@ module _ (w : ℕ) (s window : List ℕ) where
   abbrev wrong : Bool
   wrong = badRecordLength w (length s) || badWindowLength w (length window)
 
-  lengths-i : RightBuffers w s window → wrong ≡ false
+  pub lengths-i : RightBuffers w s window → wrong ≡ false
   unfolding badRecordLength badWindowLength
   lengths-i h =
       rw (
@@ -43,7 +43,7 @@ module _ (w : ℕ) (s window : List ℕ) where
         eq-eqb (length window % frontierLength w) 0 (h .whole-frontiers),
       )
 
-  lengths-e : wrong ≡ false → RightBuffers w s window
+  pub lengths-e : wrong ≡ false → RightBuffers w s window
   unfolding badWindowLength
   lengths-e h =
       let n = length window in

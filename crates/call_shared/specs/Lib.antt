@@ -3,4 +3,8 @@
 -- What a reader has to believe
 pub mod Shared
 pub mod SharedFit
+-- What is proved
+pub mod SettledLaws
 pub mod SharedFitLaws
+-- What its functions' contracts cite
+pub mod SharedCode

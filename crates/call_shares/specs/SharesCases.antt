@@ -15,7 +15,7 @@ use Rattle.clocks.specs.stored.BoundedLaws.{or-false-e, any-of-i, any-of-e}
 use Rattle.clocks.specs.cuts.EventLaws.{true-T, T-true}
 use Rattle.numbers.specs.Limit.{mostFrontiers, mostMembers}
 use Rattle.answers.specs.Result.{refused, gives}
-use Rattle.pool.specs.Pool.{sumBelow, poolLength, badPoolLength}
+use Rattle.pool.specs.Pool.{sumBelow, badPoolLength}
 use Rattle.call_shares.specs.Shares.{badShares, poolOf, SharesSet, setShares}
 use Rattle.call_shares.specs.SharesExact.{GoodShares}
 

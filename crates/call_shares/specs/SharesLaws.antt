@@ -1,11 +1,10 @@
 -- The pool that is written, read back: the shares in their order, and 0 in all other places.
 use Prim.Native.Nat.{ℕ, zero, suc, _+_, _-_, _*_, _≤_, _<_}
-use native.Mathlib.Nat.{mul-suc}
 use native.Mathlib.Decide.{decLt}
 use native.Mathlib.Omega.{arith}
-use mathlib.Core.Path.{_≡_, refl, sym, ap, _∙_}
+use mathlib.Core.Path.{_≡_, refl, _∙_}
 use mathlib.Core.List.{List, [], _∷_, _++_}
-use lib.ListN.{length, take, drop, replicate, length-append, length-replicate}
+use lib.ListN.{length, replicate, length-append, length-replicate}
 use Rattle.codec.specs.Little.{bytesOf, valueOf, number}
 use Rattle.codec.specs.LittleLaws.{length-bytesOf}
 use Rattle.clocks.specs.Counts.{at}

@@ -1,7 +1,7 @@
 // Setting the shares of a pool (02 [10]).
 
 use codec::write_u16;
-use frontiers::moving::clear_all;
+use frontiers::moving::clear;
 use numbers::limit::FRONTIERS;
 use numbers::limit::MEMBERS;
 use numbers::refusal::LENGTH;
@@ -53,7 +53,7 @@ fn put_shares(shares: &[u16], pool: &mut [u8])
     requires { ⌜ length (now pool) ≡ poolLength ⌝ }
     ensures { λ r. ⌜ now (pool .exit) ≡ poolOf (now (shares .entry)) ⌝ }
 {
-    clear_all(pool);
+    clear(pool, 0, 32);
     let mut i = 0;
     while i < shares.len() {
         write_u16(pool, 2 * i, shares[i]);

@@ -20,7 +20,7 @@ use Rattle.call_take.specs.TakenCountsLaws.{counted-taken}
 
 -- ---- An answer by its kind
 
-turned-told : (w n : ℕ) (t : Taken) → t .answer ≡ turnedBack n 0
+pub turned-told : (w n : ℕ) (t : Taken) → t .answer ≡ turnedBack n 0
     → (n ≡ 6) ⊎ ((n ≡ 34) ⊎ ((n ≡ 35) ⊎ (n ≡ 36))) → 0 < n → n < 256 → TakeTold w t
 unfolding replyWord
 turned-told w n t q by some small = rw q (record {

@@ -41,7 +41,7 @@ removed-taken w s i = listOf-same 8 _ _ λ p l.
     (part-sets-after moved 2 ((pendingCount s - 1) ∷ []) (8 + p * w) w (omega arith)
     ∙ part-sets-before s (pendingPlace w i) (movedUp w s i) (8 + p * w) w (omega (arith, count-within p 8 w l)))
 
-length-removed : (w : ℕ) (s : List ℕ) (i : ℕ) → length (removed w s i) ≡ length s
+pub length-removed : (w : ℕ) (s : List ℕ) (i : ℕ) → length (removed w s i) ≡ length s
 unfolding removed
 length-removed w s i =
     length-set (sets s (pendingPlace w i) (movedUp w s i)) 2 (pendingCount s - 1)

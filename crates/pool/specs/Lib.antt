@@ -4,3 +4,5 @@
 pub mod Pool
 -- What is proved
 pub mod PoolLaws
+-- What its functions' contracts cite
+pub mod PoolCode

@@ -3,13 +3,12 @@
 
 use numbers::limit::FRONTIERS;
 use numbers::limit::MEMBERS;
-ghost use Prim.Native.Nat.{_-_, _≤_, _<_};
+ghost use Prim.Native.Nat.{_+_, _≤_, _<_};
 ghost use mathlib.Core.Path.{_≡_};
-ghost use mathlib.Core.Bool.{cond};
-ghost use lib.Dec.{eqb};
 ghost use lib.ListN.{length};
 ghost use Rattle.numbers.specs.Limit.{mostMembers};
-ghost use Rattle.pool.specs.Pool.{poolLength, sumBelow, shareAt, keptAt, broughtUp, badPoolLength, noShare, aboveShare, usedByOthers};
+ghost use Rattle.pool.specs.Pool.{poolLength, sumBelow, shareAt, keptAt, broughtUp, badPoolLength, noShare, usedByOthers};
+ghost use Rattle.pool.specs.PoolCode.{usedBy};
 ghost use Rattle.pool.specs.Pool as pools;
 
 // 6: a pool of a wrong length.
@@ -42,70 +41,56 @@ pub fn no_share(pool: &[u8], number: u64) -> bool
     requires { ⌜ length (now pool) ≡ poolLength ⌝ }
     ensures { λ r. ⌜ r ≡ noShare (now (pool .entry)) number ⌝ }
 {
-    if MEMBERS as u64 <= number {
+    if number >= MEMBERS as u64 {
         return true;
     }
     share_at(pool, number as usize) == 0
 }
 
-// The difference of two numbers, 0 where the second is the larger one.
-fn less(a: usize, b: usize) -> usize
-    ensures { λ r. ⌜ (r ≡ a - b) × (r ≤ a) ⌝ }
-{
-    if a < b {
-        return 0;
-    }
-    a - b
-}
-
-// The sum of all shares.
-fn promised(pool: &[u8]) -> usize
-    requires { ⌜ length (now pool) ≡ poolLength ⌝ }
-    ensures { λ r. ⌜ r ≡ sumBelow mostMembers (shareAt (now (pool .entry))) ⌝ }
-{
-    let mut sum = 0;
-    let mut j = 0;
-    while j < MEMBERS {
-        sum = sum + share_at(pool, j);
-        j = j + 1;
-    }
-    sum
-}
-
-// How many of the unpromised frontiers watch j is using, and 0 for watch i itself.
-fn used_by(pool: &[u8], i: usize, j: usize) -> usize
+// What watch j holds against watch i: its share, or what it keeps if that is more. Of watch i itself the share alone
+// counts.
+fn held_by(pool: &[u8], i: usize, j: usize) -> usize
     requires { ⌜ length (now pool) ≡ poolLength ⌝ }
     requires { ⌜ j < mostMembers ⌝ }
-    ensures { λ r. ⌜ (r ≡ cond (eqb j i) 0 (aboveShare (now (pool .entry)) j)) × (r < 65536) ⌝ }
+    ensures { λ r. ⌜ (r ≡ shareAt (now (pool .entry)) j + usedBy (now (pool .entry)) i j) × (r < 65536) ⌝ }
 {
+    let share = share_at(pool, j);
+    let kept = kept_at(pool, j);
     if j == i {
-        return 0;
+        return share;
     }
-    less(kept_at(pool, j), share_at(pool, j))
+    if kept < share {
+        return share;
+    }
+    kept
 }
 
-// How many the watches other than i are using.
-fn used_by_others(pool: &[u8], i: usize) -> usize
+// What all watches hold against watch i: the promised frontiers, and those that others are using beyond their shares.
+fn held(pool: &[u8], i: usize) -> usize
     requires { ⌜ length (now pool) ≡ poolLength ⌝ }
-    ensures { λ r. ⌜ r ≡ usedByOthers (now (pool .entry)) i ⌝ }
+    ensures { λ r. ⌜ r ≡ sumBelow mostMembers (shareAt (now (pool .entry))) + usedByOthers (now (pool .entry)) i ⌝ }
 {
     let mut sum = 0;
     let mut j = 0;
     while j < MEMBERS {
-        sum = sum + used_by(pool, i, j);
+        sum = sum + held_by(pool, i, j);
         j = j + 1;
     }
     sum
 }
 
-// How many frontiers watch i may keep: its share, and the unpromised ones that no other watch is using.
+// How many frontiers watch i may keep: its share, and what nothing holds against it.
 pub fn allowance(pool: &[u8], i: usize) -> usize
     requires { ⌜ length (now pool) ≡ poolLength ⌝ }
     requires { ⌜ i < mostMembers ⌝ }
     ensures { λ r. ⌜ (r ≡ pools.allowance (now (pool .entry)) i) × (r ≤ 66560) ⌝ }
 {
-    let unpromised = less(FRONTIERS, promised(pool));
-    share_at(pool, i) + less(unpromised, used_by_others(pool, i))
+    let share = share_at(pool, i);
+    let held = held(pool, i);
+    if FRONTIERS < held {
+        return share;
+    }
+    share + (FRONTIERS - held)
 }
 
 // Watch i's kept number is brought up to date.

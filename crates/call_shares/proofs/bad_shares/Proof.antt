@@ -68,7 +68,7 @@ returns-3 c =
     let l = c .before .before .before .before .loop in
     let d = c .before .before .before .before .before in
     let shares = now (d .before .before .before .args .shares) in
-    let here = eq-eqb (at shares (l .i)) 0 (sym (c .before .wide .ensures .0) ∙ c .if3 .taken) in
+    let here = eq-eqb (at shares (l .i)) 0 (omega (arith, c .before .wide .ensures .0, c .if3 .taken)) in
     rw (some-few d, l .inv .3, search-here (length shares) (at shares) empty (l .i) (search needs) here)
 
 add-sum : tie.Need-add-sum Inv-loop μ-loop

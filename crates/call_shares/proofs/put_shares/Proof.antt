@@ -1,10 +1,11 @@
 -- The first i shares stand in the cleared pool, one more with each turn: the law `share-step`.
-use Prim.Native.Nat.{ℕ, _≤_, _-_}
+use Prim.Native.Nat.{_≤_, _-_}
 use native.Mathlib.Omega.{arith}
-use mathlib.Core.Path.{_≡_, refl, sym, ap, _∙_}
+use mathlib.Core.Path.{_≡_, refl, ap, _∙_}
 use lib.ListN.{length, replicate}
 use borrow.Author.Needs.{needs}
 use denote.Ref.{now}
+use Rattle.codec.specs.SetsLaws.{sets-whole}
 use Rattle.call_shares.proofs.PutSteps.{written, share-step, all-written}
 use Rattle.call_shares.specs.Shares.{sharesBytes}
 use Rattle.call_shares.proofs.put_shares.Statement.{statement}
@@ -16,15 +17,16 @@ Inv-loop shares pool₀ i₀ pool i = (i ≤ length shares) × (length pool ≡ 
 abbrev μ-loop : tie.MeasureT-loop
 μ-loop shares pool₀ i₀ pool i = length shares - i
 
-clear-all-requires : tie.Need-clear-all-requires Inv-loop μ-loop
-clear-all-requires c κs = search needs
+clear-requires : tie.Need-clear-requires Inv-loop μ-loop
+clear-requires c κs = search needs
 
 loop-holds : tie.Need-loop-holds Inv-loop μ-loop
 unfolding sharesBytes
 loop-holds c =
-    let size : length (now (c .before .before .before .before .before .before .args .pool)) ≡ 32 = search needs in
-    let cleared : c .before .before .clear-all .last .0 ≡ replicate 32 0 =
-    c .before .before .clear-all .ensures ∙ ap (λ (n : ℕ). replicate n 0) size in
+    let pool = now (c .before .before .before .before .before .before .args .pool) in
+    let size : 32 ≡ length pool = search needs in
+    let cleared : c .before .before .clear .last .0 ≡ replicate 32 0 =
+    c .before .before .clear .ensures ∙ sets-whole pool (replicate 32 0) size in
     (search needs, ap length cleared, cleared)
 
 mul-write-u16 : tie.Need-mul-write-u16 Inv-loop μ-loop
@@ -71,7 +73,7 @@ put-shares-spec =
     (tie.spec
     Inv-loop
     μ-loop
-    clear-all-requires
+    clear-requires
     loop-holds
     mul-write-u16
     mul-write-u16-2

@@ -48,7 +48,8 @@ put-shares-requires : tie.Need-put-shares-requires
 put-shares-requires c κs =
     let d = c .before .before .before in
     let a = d .before .before .before .before .args in
-    (shares-good (now (a .shares)) (good-shares (c .before)) .few, length-right (length (now (a .pool))) (right-length d))
+    let few = shares-good (now (a .shares)) (good-shares (c .before)) .few in
+    (few, length-right (length (now (a .pool))) (right-length d))
 
 same-length : tie.Need-same-length
 same-length c = search needs

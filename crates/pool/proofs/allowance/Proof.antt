@@ -1,43 +1,32 @@
--- What the calls give, put together.
+-- What is held is taken off 1,024 at once, or in two steps: the same, as differences stop at 0.
+use native.Mathlib.Omega.{arith}
 use borrow.Author.Needs.{needs}
 use Rattle.pool.specs.Pool.{unpromised, allowance}
 use Rattle.pool.proofs.allowance.Statement.{statement}
 use Rattle.pool.proofs.allowance.Tie as tie
 
-promised-requires : tie.Need-promised-requires
-promised-requires c κs = search needs
-
-less-requires : tie.Need-less-requires
-less-requires c κs = search needs
-
 share-at-requires : tie.Need-share-at-requires
 share-at-requires c κs = search needs
 
-used-by-others-requires : tie.Need-used-by-others-requires
-used-by-others-requires c κs = search needs
-
-less-requires-2 : tie.Need-less-requires-2
-less-requires-2 c κs = search needs
-
-add-result : tie.Need-add-result
-add-result c = search needs
+held-requires : tie.Need-held-requires
+held-requires c κs = search needs
 
 returns : tie.Need-returns
 unfolding allowance unpromised
 returns c =
-    let d = c .before .before in (
-      rw (
-        c .less2 .ensures .0,
-        c .before .used-by-others .ensures,
-        d .share-at .ensures .0,
-        d .before .less .ensures .0,
-        d .before .before .promised .ensures,
-      ),
-      search needs,
-    )
+    let h = c .before in
+    (omega (arith, h .held .ensures, h .before .share-at .ensures .0, c .if1 .taken), search needs)
+
+add-result : tie.Need-add-result
+add-result c = search needs
+
+returns-2 : tie.Need-returns-2
+unfolding allowance unpromised
+returns-2 c =
+    let h = c .before in
+    (omega (arith, h .held .ensures, h .before .share-at .ensures .0, c .if1 .left), search needs)
 
 pub allowance-spec : {M : Type 1} → statement M
 allowance-spec =
     tie.close
-    (tie.spec promised-requires less-requires share-at-requires used-by-others-requires less-requires-2 add-result
-    returns)
+    (tie.spec share-at-requires held-requires returns add-result returns-2)

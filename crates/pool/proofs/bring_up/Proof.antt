@@ -18,7 +18,7 @@ same-length c = search needs
 
 returns : tie.Need-returns
 unfolding broughtUp
-returns c = search needs
+returns c = c .before .before .write-u16 .ensures
 
 pub bring-up-spec : {M : Type 1} → statement M
 bring-up-spec =

@@ -1,0 +1,3 @@
+-- What the functions' proofs here share.
+pub mod FaultSteps
+pub mod CallSteps
