@@ -2,7 +2,9 @@
 
 -- What a reader has to believe
 pub mod Shared
+pub mod SharedExact
 -- What is proved
 pub mod SettledLaws
+pub mod SharedLaws
 -- What its functions' contracts cite
 pub mod SharedCode
