@@ -6,5 +6,8 @@ pub mod SharedExact
 -- What is proved
 pub mod SettledLaws
 pub mod SharedLaws
+pub mod SharedOpenTheorem
+pub mod SharedTakeTheorem
+pub mod SharedCloseTheorem
 -- What its functions' contracts cite
 pub mod SharedCode

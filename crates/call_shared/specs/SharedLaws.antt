@@ -62,6 +62,16 @@ pub test-fails : (b : Bool) (R : Type 0) → (R → b ≡ false) → (b ≡ fals
 test-fails true R i e = (λ _ r. true≢false (i r), λ _. refl)
 test-fails false R i e = (λ h. absurd (true≢false (sym h)), λ f. absurd (f (e refl)))
 
+pub test-not : (b : Bool) (R : Type 0) → (b ≡ true → R) → (R → ⊥) → b ≡ false
+test-not true R e f = absurd (f (e refl))
+test-not false R e f = refl
+
+pub iff-trans : {A B C : Type 0} → A ↔ B → B ↔ C → A ↔ C
+iff-trans f g = (λ a. g .0 (f .0 a), λ c. f .1 (g .1 c))
+
+pub iff-both : {A B C D : Type 0} → A ↔ B → C ↔ D → (A × C) ↔ (B × D)
+iff-both f g = (λ x. (f .0 (x .0), g .0 (x .1)), λ y. (f .1 (y .0), g .1 (y .1)))
+
 -- One of two tests.
 pub either : (a b : Bool) (B : Type 0) → (b ≡ true) ↔ B → ((a || b) ≡ true) ↔ ((a ≡ true) ⊎ B)
 either true b B t = (λ _. inl refl, λ _. refl)
@@ -95,8 +105,11 @@ module _ (w : ℕ) (s window pool : List ℕ) where
   pub right-i : RightLengths w s window pool → wrongLengths ≡ false
   unfolding badPoolLength
   right-i h =
-      rw (← or-assoc (badRecordLength w (length s)) (badWindowLength w (length window)) (badPoolLength (length pool)),
-      lengths-i w s window (h .0), eq-eqb (length pool) 32 (h .1))
+      rw (
+        ← or-assoc (badRecordLength w (length s)) (badWindowLength w (length window)) (badPoolLength (length pool)),
+        lengths-i w s window (h .0),
+        eq-eqb (length pool) 32 (h .1),
+      )
 
   pub right-e : wrongLengths ≡ false → RightLengths w s window pool
   right-e h =
@@ -147,16 +160,16 @@ module _ {A : Type 0} (K : Kind A) (pool : List ℕ) (i : ℕ) where
 
   pub length-exact : (wrong bad : Bool) (x : A) → (wrong ≡ false → bad ≡ false → Neither x)
       → (K .answer (byTests wrong bad x .call) ≡ turnedBack 6 0) ↔ (wrong ≡ true)
-  length-exact true bad x no = (λ _. refl, λ _. K .refuses 6)
-  length-exact false true x no = (λ e. absurd (omega (arith, other-number 34 6 e)), λ h. absurd (true≢false (sym h)))
-  length-exact false false x no = (λ e. absurd (no refl refl 6 (inl refl) e), λ h. absurd (true≢false (sym h)))
+  length-exact true bad x none = (λ _. refl, λ _. K .refuses 6)
+  length-exact false true x none = (λ e. absurd (omega (arith, other-number 34 6 e)), λ h. absurd (true≢false (sym h)))
+  length-exact false false x none = (λ e. absurd (none refl refl 6 (inl refl) e), λ h. absurd (true≢false (sym h)))
 
   pub state-exact : (wrong bad : Bool) (x : A) → (wrong ≡ false → bad ≡ false → Neither x)
       → (K .answer (byTests wrong bad x .call) ≡ turnedBack 34 0) ↔ ((wrong ≡ false) × (bad ≡ true))
-  state-exact true bad x no = (λ e. absurd (omega (arith, other-number 6 34 e)), λ h. absurd (true≢false (h .0)))
-  state-exact false true x no = (λ _. (refl, refl), λ _. K .refuses 34)
-  state-exact false false x no =
-      (λ e. absurd (no refl refl 34 (inr refl) e), λ h. absurd (true≢false (sym (h .1))))
+  state-exact true bad x none = (λ e. absurd (omega (arith, other-number 6 34 e)), λ h. absurd (true≢false (h .0)))
+  state-exact false true x none = (λ _. (refl, refl), λ _. K .refuses 34)
+  state-exact false false x none =
+      (λ e. absurd (none refl refl 34 (inr refl) e), λ h. absurd (true≢false (sym (h .1))))
 
   pub passes : (wrong bad : Bool) (x : A) → wrong ≡ false → bad ≡ false → byTests wrong bad x .call ≡ x
   passes wrong bad x a b = rw (a, b)
