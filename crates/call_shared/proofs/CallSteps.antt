@@ -2,7 +2,7 @@
 use Prim.Native.Nat.{ℕ, min, _*_, _≤_, _<_}
 use native.Mathlib.Omega.{arith}
 use native.Mathlib.Nat.{min-le-right}
-use mathlib.Core.Path.{_≡_, refl, sym, ap, _∙_}
+use mathlib.Core.Path.{_≡_, refl, _∙_}
 use mathlib.Core.Bool.{Bool, not, cond, _||_, or-assoc}
 use mathlib.Core.List.{List}
 use lib.Dec.{eqb, lit<}
@@ -16,7 +16,6 @@ use Rattle.refusals.specs.Refusals.{badRecordLength, badWindowLength, roomOf, b
 use Rattle.refusals.specs.RefusalCode.{watchFault}
 use Rattle.refusals.specs.RefusalLaws.{right-length, room-within, room-few}
 use Rattle.refusals.specs.FaultLaws.{Good, tests-good, good-watch}
-use Rattle.answers.specs.Answer.{turnedBack}
 use Rattle.answers.specs.Turns.{passed}
 use Rattle.pool.specs.Pool.{badPoolLength, noShare, allowance}
 use Rattle.call_open.specs.Open.{Opened, openCall}
@@ -25,7 +24,7 @@ use Rattle.call_open.specs.OpenFaultLaws.{open-back}
 use Rattle.call_take.specs.Take.{Taken, badLengths, takeWithin, allowedOf, takeCapped}
 use Rattle.call_take.specs.TakeCode.{takeFault}
 use Rattle.call_close.specs.Close.{Closed, closeProcess, closeCall}
-use Rattle.call_shared.specs.Shared.{Shared, sharedOpen, sharedTake, sharedClose}
+use Rattle.call_shared.specs.Shared.{sharedOpen, sharedTake, sharedClose}
 use Rattle.call_shared.specs.SharedLaws.{opens, takes, closes, turned, went}
 use Rattle.call_shared.specs.SharedCode.{sharedFault}
 use Rattle.call_shared.proofs.FaultSteps.{byFault, fault-turned, fault-passed, two-turned, two-by, three-by}

@@ -2,9 +2,9 @@
 use Prim.Native.Nat.{ℕ}
 use native.Mathlib.Omega.{arith}
 use mathlib.Core.Path.{_≡_, refl, ap, _∙_, sym}
-use mathlib.Core.Bool.{Bool, false, _||_}
+use mathlib.Core.Bool.{Bool, true, false, _||_}
 use mathlib.Core.List.{List}
-use mathlib.Core.Logic.{_⊎_, inl, inr, _↔_}
+use mathlib.Core.Logic.{_⊎_, inl, inr}
 use lib.Dec.{lit<}
 use lib.ListN.{length}
 use Rattle.clocks.specs.stored.BoundedLaws.{or-false-e}
@@ -21,7 +21,7 @@ use Rattle.call_close.specs.CloseReplyLaws.{turned-told, replies-tell}
 use Rattle.call_shared.specs.Shared.{Shared, sharedClose}
 use Rattle.call_shared.specs.SharedExact.{Shareless, RightLengths, SharedCloseExact, SharedCloseIsExact}
 use Rattle.call_shared.specs.SettledLaws.{close-settled}
-use Rattle.call_shared.specs.SharedLaws.{Kind, closes, test-fails, test-not, iff-trans, iff-both, either, shareless, share-below, wrongLengths, right-i, right-e, went, byTests, Neither, length-exact, state-exact, passes, pool-by}
+use Rattle.call_shared.specs.SharedLaws.{Kind, closes, either, not-either, shareless, share-below, wrongLengths, right-i, right-e, Neither, went, byTests, Judged, length-exact, state-exact, passes, pool-by}
 use Rattle.call_shared.specs.SharedLaws as laws
 
 module _ (w p : ℕ) (s window pool : List ℕ) (i : ℕ) where
@@ -53,18 +53,18 @@ module _ (w p : ℕ) (s window pool : List ℕ) (i : ℕ) where
       tests-good w s (length window) (rw (q .0, q .1)) (or-false-e damaged (noShare pool i) sound .0)
 
   -- 41, 42 or done.
-  neither : wrong ≡ false → bad ≡ false → Neither K pool i plain
+  neither : wrong ≡ false → bad ≡ false → Neither (plain .answer)
   unfolding closeCall closeProcess
   neither h sound =
       let q = parts h in
-      let back : (m : ℕ) → (m ≡ 41) ⊎ (m ≡ 42) → Neither K pool i (K .back m) = other in
+      let P : Closed → Type 0 = λ c. Neither (c .answer) in
       rw (q .0, q .1, or-false-e damaged (noShare pool i) sound .0)
-      (by-test (Neither K pool i) (notOpen (processCount s) (closedMask s) p) (K .back 41) _ (λ _. back 41 (inl refl)) λ _.
-      by-test (Neither K pool i) (namedBy p (pendingEvents w s)) (K .back 42) _ (λ _. back 42 (inr refl)) λ _ n by e.
+      (by-test P (notOpen (processCount s) (closedMask s) p) (K .back 41) _ (λ _. other 41 (inl refl)) λ _.
+      by-test P (namedBy p (pendingEvents w s)) (K .back 42) _ (λ _. other 42 (inr refl)) λ _ n by e.
       let z : _≡_ {A = ℕ} 0 1 = cc in
       absurd (omega arith))
     where
-      other : (m : ℕ) → (m ≡ 41) ⊎ (m ≡ 42) → Neither K pool i (K .back m)
+      other : (m : ℕ) → (m ≡ 41) ⊎ (m ≡ 42) → Neither (turnedBack m 0)
       other m (inl a) n (inl b) e = let z : m ≡ n = cc in omega arith
       other m (inl a) n (inr b) e = let z : m ≡ n = cc in omega arith
       other m (inr a) n (inl b) e = let z : m ≡ n = cc in omega arith
@@ -95,25 +95,31 @@ module _ (w p : ℕ) (s window pool : List ℕ) (i : ℕ) where
       by-test Left bad (laws.turned K pool i 34) (went K pool i plain) (λ _ n place q. (refl, refl)) λ _.
       plain-left plain (close-case w p s window)
 
-  right : (wrong ≡ false) ↔ RightLengths w s window pool
-  right = (right-e w s window pool, right-i w s window pool)
+  abbrev Right : Type 0
+  Right = RightLengths w s window pool
+
+  abbrev Unfit : Type 0
+  Unfit = (damaged ≡ true) ⊎ Shareless pool i
+
+  judged : Judged K pool i wrong bad plain Right Unfit
+  judged = record {
+    lengths = (right-e w s window pool, right-i w s window pool);
+    state = either damaged (noShare pool i) (Shareless pool i) (shareless pool i);
+    pool-long = λ right. right .1;
+    member = λ sound. share-below pool i (or-false-e damaged (noShare pool i) sound .1);
+    neither = neither;
+    settled = λ lengths sound. close-settled w p s window (good lengths sound);
+  }
 
   exact : SharedCloseExact w p s window pool i (byTests K pool i wrong bad plain)
   exact = record {
-    wrong-length =
-        iff-trans (length-exact K pool i wrong bad plain neither)
-        (test-fails wrong (RightLengths w s window pool) (right .1) (right .0));
-    no-share =
-        iff-trans (state-exact K pool i wrong bad plain neither)
-        (iff-both right (either damaged (noShare pool i) (Shareless pool i) (shareless pool i)));
+    wrong-length = length-exact K pool i wrong bad plain Right Unfit judged;
+    no-share = state-exact K pool i wrong bad plain Right Unfit judged;
     else-plain = λ lengths sound share.
-        let shared = test-not (noShare pool i) (Shareless pool i) (shareless pool i .0) share in
-        passes K pool i wrong bad plain (right .1 lengths) (rw (sound, shared));
+        passes K pool i wrong bad plain Right Unfit judged lengths
+        (not-either damaged (Shareless pool i) sound share);
     refused-leaves = left;
-    pool-exact =
-        pool-by K pool i wrong bad plain
-        (λ lengths sound.
-        (close-settled w p s window (good lengths sound), right .0 lengths .1, share-below pool i (or-false-e damaged (noShare pool i) sound .1)));
+    pool-exact = pool-by K pool i wrong bad plain Right Unfit judged;
     told = told;
   }
 

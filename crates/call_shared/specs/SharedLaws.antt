@@ -11,7 +11,6 @@ use borrow.Author.Tests.{eqb-true, eq-eqb, leb-true, le-leb, leb-false}
 use Rattle.clocks.specs.stored.BoundedLaws.{or-false-e}
 use Rattle.refusals.specs.Refusals.{badRecordLength, badWindowLength}
 use Rattle.answers.specs.Answer.{Answer, turnedBack}
-use Rattle.answers.specs.Kinds.{isTurnedBack}
 use Rattle.pool.specs.Pool.{shareAt, badPoolLength, noShare}
 use Rattle.pool.specs.PoolLaws.{brought-length, kept-own, other-bytes, length-right}
 use Rattle.call_open.specs.Open.{Opened}
@@ -57,25 +56,14 @@ closes s window = record {
 
 -- ---- The tests, by what they ask for
 
--- A test that is false exactly if something holds is true exactly if it does not.
-pub test-fails : (b : Bool) (R : Type 0) → (R → b ≡ false) → (b ≡ false → R) → (b ≡ true) ↔ (R → ⊥)
-test-fails true R i e = (λ _ r. true≢false (i r), λ _. refl)
-test-fails false R i e = (λ h. absurd (true≢false (sym h)), λ f. absurd (f (e refl)))
-
-pub test-not : (b : Bool) (R : Type 0) → (b ≡ true → R) → (R → ⊥) → b ≡ false
-test-not true R e f = absurd (f (e refl))
-test-not false R e f = refl
-
-pub iff-trans : {A B C : Type 0} → A ↔ B → B ↔ C → A ↔ C
-iff-trans f g = (λ a. g .0 (f .0 a), λ c. f .1 (g .1 c))
-
-pub iff-both : {A B C D : Type 0} → A ↔ B → C ↔ D → (A × C) ↔ (B × D)
-iff-both f g = (λ x. (f .0 (x .0), g .0 (x .1)), λ y. (f .1 (y .0), g .1 (y .1)))
-
 -- One of two tests.
 pub either : (a b : Bool) (B : Type 0) → (b ≡ true) ↔ B → ((a || b) ≡ true) ↔ ((a ≡ true) ⊎ B)
 either true b B t = (λ _. inl refl, λ _. refl)
 either false b B t = (λ h. inr (t .0 h), ⊎-elim (λ h. absurd (true≢false (sym h))) (λ x. t .1 x))
+
+pub not-either : (a : Bool) (B : Type 0) → a ≡ false → (B → ⊥) → (a ≡ true) ⊎ B → ⊥
+not-either a B e f (inl h) = true≢false (sym h ∙ e)
+not-either a B e f (inr b) = f b
 
 pub shareless : (pool : List ℕ) (i : ℕ) → (noShare pool i ≡ true) ↔ Shareless pool i
 unfolding noShare
@@ -140,6 +128,10 @@ back-exact pool i a n s e = rw e (record {
 
 -- ---- A call by its tests
 
+-- An answer that is neither 6 nor 34.
+abbrev pub Neither : (a : Answer) → Type 0
+Neither a = (n : ℕ) → (n ≡ 6) ⊎ (n ≡ 34) → a ≡ turnedBack n 0 → ⊥
+
 module _ {A : Type 0} (K : Kind A) (pool : List ℕ) (i : ℕ) where
   abbrev pub turned : ℕ → Shared A
   turned n = record { call = K .back n; pool = pool }
@@ -150,33 +142,44 @@ module _ {A : Type 0} (K : Kind A) (pool : List ℕ) (i : ℕ) where
   abbrev pub byTests : (wrong bad : Bool) (x : A) → Shared A
   byTests wrong bad x = cond wrong (turned 6) (cond bad (turned 34) (went x))
 
+  -- What is known of a call: what its tests ask for, and what the plain call is where they let it pass.
+  pub record Judged (wrong bad : Bool) (x : A) (Right Unfit : Type 0) : Type 0 where
+    pub lengths : (wrong ≡ false) ↔ Right
+    pub state : (bad ≡ true) ↔ Unfit
+    pub pool-long : Right → length pool ≡ 32
+    pub member : bad ≡ false → i < 8
+    pub neither : wrong ≡ false → bad ≡ false → Neither (K .answer x)
+    pub settled : wrong ≡ false → bad ≡ false → Settled (K .answer x) (K .bytes x)
+
   -- Turned back by one number, it is not by another.
   other-number : (m n : ℕ) → K .answer (K .back m) ≡ turnedBack n 0 → m ≡ n
   other-number m n e = let same : turnedBack m 0 ≡ turnedBack n 0 = sym (K .refuses m) ∙ e in cc
 
-  -- The plain call, where both let it pass, answers neither 6 nor 34.
-  abbrev pub Neither : (x : A) → Type 0
-  Neither x = (n : ℕ) → (n ≡ 6) ⊎ (n ≡ 34) → K .answer x ≡ turnedBack n 0 → ⊥
+  pub length-exact : (wrong bad : Bool) (x : A) (Right Unfit : Type 0) → Judged wrong bad x Right Unfit
+      → (K .answer (byTests wrong bad x .call) ≡ turnedBack 6 0) ↔ (Right → ⊥)
+  length-exact true bad x Right Unfit j = (λ _ r. true≢false (j .lengths .1 r), λ _. K .refuses 6)
+  length-exact false true x Right Unfit j =
+      (λ e. absurd (omega (arith, other-number 34 6 e)), λ f. absurd (f (j .lengths .0 refl)))
+  length-exact false false x Right Unfit j =
+      (λ e. absurd (j .neither refl refl 6 (inl refl) e), λ f. absurd (f (j .lengths .0 refl)))
 
-  pub length-exact : (wrong bad : Bool) (x : A) → (wrong ≡ false → bad ≡ false → Neither x)
-      → (K .answer (byTests wrong bad x .call) ≡ turnedBack 6 0) ↔ (wrong ≡ true)
-  length-exact true bad x none = (λ _. refl, λ _. K .refuses 6)
-  length-exact false true x none = (λ e. absurd (omega (arith, other-number 34 6 e)), λ h. absurd (true≢false (sym h)))
-  length-exact false false x none = (λ e. absurd (none refl refl 6 (inl refl) e), λ h. absurd (true≢false (sym h)))
+  pub state-exact : (wrong bad : Bool) (x : A) (Right Unfit : Type 0) → Judged wrong bad x Right Unfit
+      → (K .answer (byTests wrong bad x .call) ≡ turnedBack 34 0) ↔ (Right × Unfit)
+  state-exact true bad x Right Unfit j =
+      (λ e. absurd (omega (arith, other-number 6 34 e)), λ h. absurd (true≢false (j .lengths .1 (h .0))))
+  state-exact false true x Right Unfit j = (λ _. (j .lengths .0 refl, j .state .0 refl), λ _. K .refuses 34)
+  state-exact false false x Right Unfit j =
+      (λ e. absurd (j .neither refl refl 34 (inr refl) e), λ h. absurd (true≢false (sym (j .state .1 (h .1)))))
 
-  pub state-exact : (wrong bad : Bool) (x : A) → (wrong ≡ false → bad ≡ false → Neither x)
-      → (K .answer (byTests wrong bad x .call) ≡ turnedBack 34 0) ↔ ((wrong ≡ false) × (bad ≡ true))
-  state-exact true bad x none = (λ e. absurd (omega (arith, other-number 6 34 e)), λ h. absurd (true≢false (h .0)))
-  state-exact false true x none = (λ _. (refl, refl), λ _. K .refuses 34)
-  state-exact false false x none =
-      (λ e. absurd (none refl refl 34 (inr refl) e), λ h. absurd (true≢false (sym (h .1))))
+  pub passes : (wrong bad : Bool) (x : A) (Right Unfit : Type 0) → Judged wrong bad x Right Unfit
+      → Right → (Unfit → ⊥) → byTests wrong bad x .call ≡ x
+  passes true bad x Right Unfit j r f = absurd (true≢false (j .lengths .1 r))
+  passes false true x Right Unfit j r f = absurd (f (j .state .0 refl))
+  passes false false x Right Unfit j r f = refl
 
-  pub passes : (wrong bad : Bool) (x : A) → wrong ≡ false → bad ≡ false → byTests wrong bad x .call ≡ x
-  passes wrong bad x a b = rw (a, b)
-
-  pub pool-by : (wrong bad : Bool) (x : A)
-      → (wrong ≡ false → bad ≡ false → Settled (K .answer x) (K .bytes x) × (length pool ≡ 32) × (i < 8))
+  pub pool-by : (wrong bad : Bool) (x : A) (Right Unfit : Type 0) → Judged wrong bad x Right Unfit
       → let r = byTests wrong bad x in PoolExact pool i (K .answer (r .call)) (K .bytes (r .call)) (r .pool)
-  pool-by true bad x h = back-exact pool i _ 6 _ (K .refuses 6)
-  pool-by false true x h = back-exact pool i _ 34 _ (K .refuses 34)
-  pool-by false false x h = let k = h refl refl in settled-exact pool i _ _ (k .0) (k .1) (k .2)
+  pool-by true bad x Right Unfit j = back-exact pool i _ 6 _ (K .refuses 6)
+  pool-by false true x Right Unfit j = back-exact pool i _ 34 _ (K .refuses 34)
+  pool-by false false x Right Unfit j =
+      settled-exact pool i _ _ (j .settled refl refl) (j .pool-long (j .lengths .0 refl)) (j .member refl)

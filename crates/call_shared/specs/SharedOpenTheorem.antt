@@ -4,7 +4,7 @@ use native.Mathlib.Omega.{arith}
 use mathlib.Core.Path.{_≡_, refl}
 use mathlib.Core.Bool.{Bool, false}
 use mathlib.Core.List.{List}
-use mathlib.Core.Logic.{_⊎_, inl, inr, _↔_}
+use mathlib.Core.Logic.{_⊎_, inl, inr}
 use lib.Dec.{lit<}
 use Rattle.answers.specs.Answer.{turnedBack}
 use Rattle.answers.specs.Turns.{by-test}
@@ -15,7 +15,7 @@ use Rattle.call_open.specs.OpenTheorem.{open-exact}
 use Rattle.call_shared.specs.Shared.{Shared, sharedOpen}
 use Rattle.call_shared.specs.SharedExact.{Shareless, RightLengths, SharedOpenTold, SharedOpenExact, SharedOpenIsExact}
 use Rattle.call_shared.specs.SettledLaws.{open-settled}
-use Rattle.call_shared.specs.SharedLaws.{Kind, opens, test-fails, test-not, iff-trans, iff-both, shareless, share-below, wrongLengths, right-i, right-e, turned, went, byTests, Neither, length-exact, state-exact, passes, pool-by}
+use Rattle.call_shared.specs.SharedLaws.{Kind, opens, shareless, share-below, wrongLengths, right-i, right-e, Neither, turned, went, byTests, Judged, length-exact, state-exact, passes, pool-by}
 
 -- ---- What turns it back, by its number and place
 
@@ -58,7 +58,7 @@ module _ (w : ℕ) (text : List ℕ) (k : ℕ) (labels s window pool : List ℕ)
   abbrev bad : Bool
   bad = noShare pool i
 
-  neither : wrong ≡ false → bad ≡ false → Neither K pool i plain
+  neither : wrong ≡ false → bad ≡ false → Neither (plain .answer)
   neither right share n (inl e) q =
       open-exact w text k labels s window .wrong-length .0 (rw e at q) (right-e w s window pool right .0)
   neither right share n (inr e) q = never-34 n 0 e (replies-tell w text k labels s window .turned-by n 0 q)
@@ -87,21 +87,26 @@ module _ (w : ℕ) (text : List ℕ) (k : ℕ) (labels s window pool : List ℕ)
       by-test Left bad (turned K pool i 34) (went K pool i plain) (λ _ n place q. (refl, refl)) λ _.
       open-exact w text k labels s window .refused-leaves
 
-  right : (wrong ≡ false) ↔ RightLengths w s window pool
-  right = (right-e w s window pool, right-i w s window pool)
+  abbrev Right : Type 0
+  Right = RightLengths w s window pool
+
+  judged : Judged K pool i wrong bad plain Right (Shareless pool i)
+  judged = record {
+    lengths = (right-e w s window pool, right-i w s window pool);
+    state = shareless pool i;
+    pool-long = λ right. right .1;
+    member = share-below pool i;
+    neither = neither;
+    settled = λ right share. open-settled w text k labels s window;
+  }
 
   exact : SharedOpenExact w text k labels s window pool i (byTests K pool i wrong bad plain)
   exact = record {
-    wrong-length =
-        iff-trans (length-exact K pool i wrong bad plain neither)
-        (test-fails wrong (RightLengths w s window pool) (right .1) (right .0));
-    no-share = iff-trans (state-exact K pool i wrong bad plain neither) (iff-both right (shareless pool i));
-    else-plain = λ lengths share.
-        passes K pool i wrong bad plain (right .1 lengths) (test-not bad (Shareless pool i) (shareless pool i .0) share);
+    wrong-length = length-exact K pool i wrong bad plain Right (Shareless pool i) judged;
+    no-share = state-exact K pool i wrong bad plain Right (Shareless pool i) judged;
+    else-plain = passes K pool i wrong bad plain Right (Shareless pool i) judged;
     refused-leaves = left;
-    pool-exact =
-        pool-by K pool i wrong bad plain
-        (λ lengths share. (open-settled w text k labels s window, right .0 lengths .1, share-below pool i share));
+    pool-exact = pool-by K pool i wrong bad plain Right (Shareless pool i) judged;
     told = told;
   }
 

@@ -16,20 +16,19 @@ use Rattle.records.specs.Record.{keptCount}
 use Rattle.refusals.specs.Refusals.{badRecordLength, badWindowLength, roomOf, badState}
 use Rattle.refusals.specs.FaultLaws.{Good, tests-good}
 use Rattle.trial.specs.Trial.{Decision, undecided, false-clock, chosen, trial}
-use Rattle.answers.specs.Answer.{turnedBack, state, nothingReady, stateOf}
+use Rattle.answers.specs.Answer.{turnedBack, stateOf}
 use Rattle.answers.specs.Turns.{by-test}
 use Rattle.pool.specs.Pool.{badPoolLength, noShare, allowance}
 use Rattle.call_take.specs.Take.{Taken, badLengths, decided, takeWithin, allowedOf, takeCapped}
 use Rattle.call_take.specs.TakeReplies.{TakeTold}
 use Rattle.call_take.specs.TakeReplyLaws.{turned-told, replies-tell}
 use Rattle.call_shared.specs.Shared.{Shared, sharedTake}
-use Rattle.call_shared.specs.SharedExact.{Shareless, RightLengths, TakeLengths, SharedTakeExact, SharedTakeIsExact}
+use Rattle.call_shared.specs.SharedExact.{Shareless, TakeLengths, SharedTakeExact, SharedTakeIsExact}
 use Rattle.call_shared.specs.SettledLaws.{take-settled}
-use Rattle.call_shared.specs.SharedLaws.{Kind, takes, test-fails, test-not, iff-trans, iff-both, either, shareless, share-below, wrongLengths, right-i, right-e, turned, went, byTests, Neither, length-exact, state-exact, passes, pool-by}
+use Rattle.call_shared.specs.SharedLaws.{Kind, takes, either, not-either, shareless, share-below, right-i, right-e, Neither, turned, went, byTests, Judged, length-exact, state-exact, passes, pool-by}
 
 -- What a decision leads to is neither 6 nor 34.
-decided-neither : (w : ℕ) (s window : List ℕ) (fs : List Frontier) (d : Decision) (n : ℕ) → (n ≡ 6) ⊎ (n ≡ 34)
-    → decided w s window fs d .answer ≡ turnedBack n 0 → ⊥
+decided-neither : (w : ℕ) (s window : List ℕ) (fs : List Frontier) (d : Decision) → Neither (decided w s window fs d .answer)
 unfolding decided stateOf
 decided-neither w s window fs (undecided true) n (inl e) q = let z : 36 ≡ n = cc in omega arith
 decided-neither w s window fs (undecided true) n (inr e) q = let z : 36 ≡ n = cc in omega arith
@@ -89,7 +88,7 @@ module _ (w : ℕ) (s window scratch pool : List ℕ) (i : ℕ) where
       let p = parts h in
       tests-good w s (length window) (rw (p .0, p .1)) (or-false-e damaged (noShare pool i) sound .0)
 
-  neither : wrong ≡ false → bad ≡ false → Neither K pool i plain
+  neither : wrong ≡ false → bad ≡ false → Neither (plain .answer)
   unfolding takeCapped takeWithin
   neither h sound n by q =
       let lent = or-false-e (badLengths w (length s) (length window) (length scratch)) (badPoolLength (length pool)) h in
@@ -117,22 +116,28 @@ module _ (w : ℕ) (s window scratch pool : List ℕ) (i : ℕ) where
       by-test Left bad (turned K pool i 34) (went K pool i plain) (λ _ n by q. (refl, refl, refl)) λ sound n by q.
       absurd (neither lengths sound n by q)
 
+  abbrev Unfit : Type 0
+  Unfit = (damaged ≡ true) ⊎ Shareless pool i
+
+  judged : Judged K pool i wrong bad plain (TakeLengths w s window scratch pool) Unfit
+  judged = record {
+    lengths = right;
+    state = either damaged (noShare pool i) (Shareless pool i) (shareless pool i);
+    pool-long = λ x. x .0 .1;
+    member = λ sound. share-below pool i (or-false-e damaged (noShare pool i) sound .1);
+    neither = neither;
+    settled = λ lengths sound. take-settled w (allowance pool i) s window scratch (good lengths sound);
+  }
+
   exact : SharedTakeExact w s window scratch pool i (byTests K pool i wrong bad plain)
   exact = record {
-    wrong-length =
-        iff-trans (length-exact K pool i wrong bad plain neither)
-        (test-fails wrong (TakeLengths w s window scratch pool) (right .1) (right .0));
-    no-share =
-        iff-trans (state-exact K pool i wrong bad plain neither)
-        (iff-both right (either damaged (noShare pool i) (Shareless pool i) (shareless pool i)));
+    wrong-length = length-exact K pool i wrong bad plain (TakeLengths w s window scratch pool) Unfit judged;
+    no-share = state-exact K pool i wrong bad plain (TakeLengths w s window scratch pool) Unfit judged;
     else-plain = λ lengths sound share.
-        let shared = test-not (noShare pool i) (Shareless pool i) (shareless pool i .0) share in
-        passes K pool i wrong bad plain (right .1 lengths) (rw (sound, shared));
+        passes K pool i wrong bad plain (TakeLengths w s window scratch pool) Unfit judged lengths
+        (not-either damaged (Shareless pool i) sound share);
     unfit-leaves = left;
-    pool-exact =
-        pool-by K pool i wrong bad plain
-        (λ lengths sound.
-        (take-settled w (allowance pool i) s window scratch (good lengths sound), right .0 lengths .0 .1, share-below pool i (or-false-e damaged (noShare pool i) sound .1)));
+    pool-exact = pool-by K pool i wrong bad plain (TakeLengths w s window scratch pool) Unfit judged;
     told = told;
   }
 
