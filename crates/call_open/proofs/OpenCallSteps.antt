@@ -4,7 +4,7 @@ use native.Mathlib.Omega.{arith}
 use mathlib.Core.Path.{_≡_, refl, sym, ap, _∙_, ap₂}
 use mathlib.Core.Bool.{cond, _||_}
 use mathlib.Core.List.{List}
-use lib.Dec.{eqb, lit<}
+use lib.Dec.{lit<}
 use lib.ListN.{length}
 use borrow.Author.Tests.{eq-eqb}
 use Rattle.rules.specs.reading.ReaderAccepts.{accepted}
@@ -24,7 +24,7 @@ use Rattle.pactl.specs.declared.Line.{Line}
 use Rattle.refusals.specs.RefusalLaws.{right-length, processes-within, window-holds}
 use Rattle.records.specs.Record.{recordLength}
 use Rattle.refusals.specs.Refusals.{badRecordLength, badWindowLength, badProcesses}
-use Rattle.call_open.specs.Open.{Opened, openTable, openRead, openCall}
+use Rattle.call_open.specs.Open.{openTable, openRead, openCall}
 use Rattle.answers.specs.Answer.{replyWord}
 use Rattle.answers.specs.Turns.{passed}
 use Rattle.clocks.specs.stored.BoundedLaws.{or-false-e}

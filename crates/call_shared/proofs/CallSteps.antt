@@ -2,7 +2,7 @@
 use Prim.Native.Nat.{ℕ, min, _*_, _≤_, _<_}
 use native.Mathlib.Omega.{arith}
 use native.Mathlib.Nat.{min-le-right}
-use mathlib.Core.Path.{_≡_, refl, sym, ap, _∙_}
+use mathlib.Core.Path.{_≡_, refl, _∙_}
 use mathlib.Core.Bool.{Bool, not, cond, _||_, or-assoc}
 use mathlib.Core.List.{List}
 use lib.Dec.{eqb, lit<}
@@ -16,7 +16,6 @@ use Rattle.refusals.specs.Refusals.{badRecordLength, badWindowLength, roomOf, b
 use Rattle.refusals.specs.RefusalCode.{watchFault}
 use Rattle.refusals.specs.RefusalLaws.{right-length, room-within, room-few}
 use Rattle.refusals.specs.FaultLaws.{Good, tests-good, good-watch}
-use Rattle.answers.specs.Answer.{turnedBack}
 use Rattle.answers.specs.Turns.{passed}
 use Rattle.pool.specs.Pool.{badPoolLength, noShare, allowance}
 use Rattle.call_open.specs.Open.{Opened, openCall}
@@ -25,46 +24,39 @@ use Rattle.call_open.specs.OpenFaultLaws.{open-back}
 use Rattle.call_take.specs.Take.{Taken, badLengths, takeWithin, allowedOf, takeCapped}
 use Rattle.call_take.specs.TakeCode.{takeFault}
 use Rattle.call_close.specs.Close.{Closed, closeProcess, closeCall}
-use Rattle.call_shared.specs.Shared.{Shared, sharedOpen, sharedTake, sharedClose}
+use Rattle.call_shared.specs.Shared.{sharedOpen, sharedTake, sharedClose}
+use Rattle.call_shared.specs.SharedLaws.{opens, takes, closes, turned, went}
 use Rattle.call_shared.specs.SharedCode.{sharedFault}
-use Rattle.call_shared.proofs.FaultSteps.{Kind, turned, went, byFault, fault-turned, fault-passed, two-turned, two-by, three-by}
+use Rattle.call_shared.proofs.FaultSteps.{byFault, fault-turned, fault-passed, two-turned, two-by, three-by}
 
 -- ---- Open
 
 module _ (w : ℕ) (text : List ℕ) (k : ℕ) (labels s window pool : List ℕ) (i : ℕ) where
-  abbrev pub opens : Kind Opened
-  opens = record {
-    answer = λ o. o .answer;
-    bytes = λ o. o .bytes;
-    back = λ n. record { answer = turnedBack n 0; bytes = s; window = window };
-    refuses = λ n. refl;
-  }
-
   abbrev open-number : ℕ
   open-number = openFault w k labels (length s) (length window)
 
   abbrev opened : Opened
   opened = openCall w text k labels s window
 
-  open-by : sharedOpen w text k labels s window pool i ≡ byFault opens pool i open-number opened
+  open-by : sharedOpen w text k labels s window pool i ≡ byFault (opens s window) pool i open-number opened
   unfolding sharedOpen openFault
   open-by =
       rw (← or-assoc (badRecordLength w (length s)) (badWindowLength w (length window)) (badPoolLength (length pool)))
-      (three-by opens pool i (badRecordLength w (length s) || badWindowLength w (length window))
+      (three-by (opens s window) pool i (badRecordLength w (length s) || badWindowLength w (length window))
       (badPoolLength (length pool)) (badProcesses k) (noShare pool i) (badStart k labels) opened)
 
   pub open-turned : (n : ℕ) → n ≡ sharedFault open-number pool i → (n ≡ 0 → ⊥)
-      → sharedOpen w text k labels s window pool i ≡ turned opens pool i n
+      → sharedOpen w text k labels s window pool i ≡ turned (opens s window) pool i n
   open-turned n e some =
       open-by
-      ∙ fault-turned opens pool i open-number opened (open-back w text k labels s window open-number refl) n e some
+      ∙ fault-turned (opens s window) pool i open-number opened (open-back w text k labels s window open-number refl) n e some
 
   pub open-passed : sharedFault open-number pool i ≡ 0
       → (length pool ≡ 32) × (i < 8) × (length s ≡ recordLength w)
-      × (sharedOpen w text k labels s window pool i ≡ went opens pool i opened)
+      × (sharedOpen w text k labels s window pool i ≡ went (opens s window) pool i opened)
   unfolding openFault
   open-passed h =
-      let p = fault-passed opens pool i open-number opened h in
+      let p = fault-passed (opens s window) pool i open-number opened h in
       let right = passed (badRecordLength w (length s) || badWindowLength w (length window)) 6 _ (lit< tt) (p .0) .0 in
       let long = right-length w (length s) (or-false-e (badRecordLength w (length s)) _ right .0) in
       (p .1, p .2, long, open-by ∙ p .3)
@@ -79,14 +71,6 @@ allowed-room w most n allowed e few =
     (omega arith, room-within w allowed n below)
 
 module _ (w : ℕ) (s window scratch pool : List ℕ) (i : ℕ) where
-  abbrev pub takes : Kind Taken
-  takes = record {
-    answer = λ t. t .answer;
-    bytes = λ t. t .bytes;
-    back = λ n. record { answer = turnedBack n 0; bytes = s; window = window; scratch = scratch };
-    refuses = λ n. refl;
-  }
-
   abbrev take-number : ℕ
   take-number = takeFault w s (length window) (length scratch)
 
@@ -102,17 +86,17 @@ module _ (w : ℕ) (s window scratch pool : List ℕ) (i : ℕ) where
   abbrev bad : Bool
   bad = badState w (roomOf w (length window)) s
 
-  take-by : sharedTake w s window scratch pool i ≡ byFault takes pool i take-number taken
+  take-by : sharedTake w s window scratch pool i ≡ byFault (takes s window scratch) pool i take-number taken
   unfolding sharedTake takeFault takeCapped
-  take-by = two-by takes pool i wrong (badPoolLength (length pool)) bad (noShare pool i) within
+  take-by = two-by (takes s window scratch) pool i wrong (badPoolLength (length pool)) bad (noShare pool i) within
 
-  plain-turned : (take-number ≡ 0 → ⊥) → taken ≡ takes .back take-number
+  plain-turned : (take-number ≡ 0 → ⊥) → taken ≡ takes s window scratch .back take-number
   unfolding takeFault takeCapped
-  plain-turned h = two-turned takes pool i wrong bad within h
+  plain-turned h = two-turned (takes s window scratch) pool i wrong bad within h
 
   pub take-turned : (n : ℕ) → n ≡ sharedFault take-number pool i → (n ≡ 0 → ⊥)
-      → sharedTake w s window scratch pool i ≡ turned takes pool i n
-  take-turned n e some = take-by ∙ fault-turned takes pool i take-number taken plain-turned n e some
+      → sharedTake w s window scratch pool i ≡ turned (takes s window scratch) pool i n
+  take-turned n e some = take-by ∙ fault-turned (takes s window scratch) pool i take-number taken plain-turned n e some
 
   -- What is known where nothing turns it back.
   pub record TakePassed : Type 0 where
@@ -122,12 +106,12 @@ module _ (w : ℕ) (s window scratch pool : List ℕ) (i : ℕ) where
     pub few-room : roomOf w (length window) ≤ 1024
     pub same : length scratch ≡ length window
     pub goes : taken ≡ within
-    pub whole : sharedTake w s window scratch pool i ≡ went takes pool i taken
+    pub whole : sharedTake w s window scratch pool i ≡ went (takes s window scratch) pool i taken
 
   pub take-passed : sharedFault take-number pool i ≡ 0 → TakePassed
   unfolding takeFault takeCapped
   take-passed h =
-      let p = fault-passed takes pool i take-number taken h in
+      let p = fault-passed (takes s window scratch) pool i take-number taken h in
       let n = length window in
       let lengths = passed wrong 6 (cond bad 34 0) (lit< tt) (p .0) in
       let sound = passed bad 34 0 (lit< tt) (lengths .1) .0 in
@@ -146,14 +130,6 @@ module _ (w : ℕ) (s window scratch pool : List ℕ) (i : ℕ) where
 -- ---- Close
 
 module _ (w p : ℕ) (s window pool : List ℕ) (i : ℕ) where
-  abbrev pub closes : Kind Closed
-  closes = record {
-    answer = λ c. c .answer;
-    bytes = λ c. c .bytes;
-    back = λ n. record { answer = turnedBack n 0; bytes = s; window = window };
-    refuses = λ n. refl;
-  }
-
   abbrev close-number : ℕ
   close-number = watchFault w s (length window)
 
@@ -163,8 +139,8 @@ module _ (w p : ℕ) (s window pool : List ℕ) (i : ℕ) where
   -- ... behind 6 and 34.
   abbrev judged : Closed
   judged =
-      cond (notOpen (processCount s) (closedMask s) p) (closes .back 41)
-      (cond (namedBy p (pendingEvents w s)) (closes .back 42) (closeProcess w p s window))
+      cond (notOpen (processCount s) (closedMask s) p) (closes s window .back 41)
+      (cond (namedBy p (pendingEvents w s)) (closes s window .back 42) (closeProcess w p s window))
 
   abbrev lengths-wrong : Bool
   lengths-wrong = badRecordLength w (length s) || badWindowLength w (length window)
@@ -172,23 +148,23 @@ module _ (w p : ℕ) (s window pool : List ℕ) (i : ℕ) where
   abbrev damaged : Bool
   damaged = badState w (roomOf w (length window)) s
 
-  close-by : sharedClose w p s window pool i ≡ byFault closes pool i close-number closed
+  close-by : sharedClose w p s window pool i ≡ byFault (closes s window) pool i close-number closed
   unfolding sharedClose watchFault closeCall
   close-by =
       rw (← or-assoc (badRecordLength w (length s)) (badWindowLength w (length window)) (badPoolLength (length pool)))
-      (two-by closes pool i lengths-wrong (badPoolLength (length pool)) damaged (noShare pool i) judged)
+      (two-by (closes s window) pool i lengths-wrong (badPoolLength (length pool)) damaged (noShare pool i) judged)
 
-  close-plain : (close-number ≡ 0 → ⊥) → closed ≡ closes .back close-number
+  close-plain : (close-number ≡ 0 → ⊥) → closed ≡ closes s window .back close-number
   unfolding watchFault closeCall
-  close-plain h = two-turned closes pool i lengths-wrong damaged judged h
+  close-plain h = two-turned (closes s window) pool i lengths-wrong damaged judged h
 
   pub close-turned : (n : ℕ) → n ≡ sharedFault close-number pool i → (n ≡ 0 → ⊥)
-      → sharedClose w p s window pool i ≡ turned closes pool i n
-  close-turned n e some = close-by ∙ fault-turned closes pool i close-number closed close-plain n e some
+      → sharedClose w p s window pool i ≡ turned (closes s window) pool i n
+  close-turned n e some = close-by ∙ fault-turned (closes s window) pool i close-number closed close-plain n e some
 
   pub close-passed : sharedFault close-number pool i ≡ 0
       → (length pool ≡ 32) × (i < 8) × Good w s (length window)
-      × (sharedClose w p s window pool i ≡ went closes pool i closed)
+      × (sharedClose w p s window pool i ≡ went (closes s window) pool i closed)
   close-passed h =
-      let q = fault-passed closes pool i close-number closed h in
+      let q = fault-passed (closes s window) pool i close-number closed h in
       (q .1, q .2, good-watch w s (length window) (q .0), close-by ∙ q .3)

@@ -9,9 +9,9 @@ use mathlib.Core.Logic.{inl, inr}
 use lib.Dec.{eqb, lit<}
 use lib.ListN.{length, take, set, length-set}
 use lib.Seq.{sets}
-use borrow.Author.Tests.{eq-eqb, eqb-true, eqb-false}
+use borrow.Author.Tests.{eq-eqb, eqb-false}
 use Rattle.codec.specs.Little.{bytesOf, valueOf, number, put}
-use Rattle.codec.specs.PutLaws.{number-middle, number-put-same, length-put}
+use Rattle.codec.specs.PutLaws.{number-middle, number-put-same}
 use Rattle.codec.specs.SetsLaws.{part-sets-before}
 use Rattle.clocks.specs.declared.Event.{Event}
 use Rattle.clocks.specs.Event.{apply}

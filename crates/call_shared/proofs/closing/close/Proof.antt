@@ -11,10 +11,10 @@ use Rattle.refusals.specs.FaultLaws.{Good}
 use Rattle.answers.specs.Answer.{replyWord}
 use Rattle.call_close.specs.Close.{closeCall}
 use Rattle.call_shared.specs.Shared.{sharedClose}
+use Rattle.call_shared.specs.SharedLaws.{closes, went}
 use Rattle.call_shared.specs.SharedCode.{sharedFault, poolBy}
 use Rattle.call_shared.specs.SettledLaws.{Settled, settled-pool, settled-few, close-settled}
-use Rattle.call_shared.proofs.CallSteps.{closes, close-turned, close-passed}
-use Rattle.call_shared.proofs.FaultSteps.{went}
+use Rattle.call_shared.proofs.CallSteps.{close-turned, close-passed}
 use Rattle.call_shared.proofs.closing.close.Statement.{statement}
 
 -- ---- Places in the walk: the start, where nothing turns the call back, and after the plain call
@@ -43,7 +43,7 @@ number-is c =
 known : (c : tie.Else1) → let a = start (c .before) .args in
     (length (now (a .pool)) ≡ 32) × (a .number < 8) × Good (a .w) (now (a .«record»)) (length (now (a .window)))
     × (sharedClose (a .w) (a .process) (now (a .«record»)) (now (a .window)) (now (a .pool)) (a .number)
-    ≡ went (closes (a .w) (a .process) (now (a .«record»)) (now (a .window)) (now (a .pool)) (a .number)) (now (a .pool)) (a .number)
+    ≡ went (closes (now (a .«record»)) (now (a .window))) (now (a .pool)) (a .number)
     (closeCall (a .w) (a .process) (now (a .«record»)) (now (a .window))))
 known c =
     let a = start (c .before) .args in

@@ -1,7 +1,6 @@
 -- The word's number decides; the number kept fits two bytes where it is 0.
 use Rattle.call_shared.proofs.lent.settle_pool.Tie as tie
 use native.Mathlib.Omega.{arith}
-use mathlib.Core.Path.{_≡_, sym, _∙_}
 use borrow.Author.Needs.{needs}
 use borrow.Author.Tests.{eq-eqb, ne-eqb}
 use Rattle.call_shared.specs.SharedCode.{poolBy}

@@ -7,8 +7,8 @@ use borrow.Author.Needs.{needs}
 use borrow.Author.Tests.{eq-eqb, ne-eqb}
 use denote.Ref.{now}
 use Rattle.pool.specs.Pool.{badPoolLength}
+use Rattle.pool.specs.PoolLaws.{length-right}
 use Rattle.call_shared.specs.SharedCode.{sharedFault}
-use Rattle.call_shared.proofs.FaultSteps.{pool-right}
 use Rattle.call_shared.proofs.lent.shared_fault.Statement.{statement}
 
 returns : tie.Need-returns
@@ -27,7 +27,7 @@ unfolding sharedFault
 returns-2 c = rw (ne-eqb _ _ (c .before .before .if1 .left), sym (c .before .bad-pool-length .ensures) ∙ c .if2 .taken)
 
 no-share-requires : tie.Need-no-share-requires
-no-share-requires c κs = pool-right _ (long-passed c)
+no-share-requires c κs = length-right _ (long-passed c)
 
 returns-3 : tie.Need-returns-3
 unfolding sharedFault

@@ -11,10 +11,10 @@ use Rattle.answers.specs.Answer.{replyWord}
 use Rattle.call_open.specs.Open.{openCall}
 use Rattle.call_open.specs.OpenCode.{openFault}
 use Rattle.call_shared.specs.Shared.{sharedOpen}
+use Rattle.call_shared.specs.SharedLaws.{opens, went}
 use Rattle.call_shared.specs.SharedCode.{sharedFault, poolBy}
 use Rattle.call_shared.specs.SettledLaws.{Settled, settled-pool, settled-few, open-settled}
-use Rattle.call_shared.proofs.CallSteps.{opens, open-turned, open-passed}
-use Rattle.call_shared.proofs.FaultSteps.{went}
+use Rattle.call_shared.proofs.CallSteps.{open-turned, open-passed}
 use Rattle.call_shared.proofs.opening.open.Statement.{statement}
 
 -- ---- Places in the walk: the start, where nothing turns the call back, and after the plain call
@@ -43,7 +43,7 @@ number-is c =
 known : (c : tie.Else1) → let a = start (c .before) .args in
     (length (now (a .pool)) ≡ 32) × (a .number < 8) × (length (now (a .«record»)) ≡ recordLength (a .w))
     × (sharedOpen (a .w) (now (a .rule)) (a .k) (a .labels) (now (a .«record»)) (now (a .window)) (now (a .pool)) (a .number)
-    ≡ went (opens (a .w) (now (a .rule)) (a .k) (a .labels) (now (a .«record»)) (now (a .window)) (now (a .pool)) (a .number)) (now (a .pool)) (a .number)
+    ≡ went (opens (now (a .«record»)) (now (a .window))) (now (a .pool)) (a .number)
     (openCall (a .w) (now (a .rule)) (a .k) (a .labels) (now (a .«record»)) (now (a .window))))
 known c =
     let a = start (c .before) .args in
