@@ -19,9 +19,9 @@ use Rattle.call_close.specs.CloseCases.{Case, close-case, turned, accepted}
 use Rattle.call_close.specs.CloseReplies.{CloseTold}
 use Rattle.call_close.specs.CloseReplyLaws.{turned-told, replies-tell}
 use Rattle.call_shared.specs.Shared.{Shared, sharedClose}
-use Rattle.call_shared.specs.SharedExact.{Shareless, RightLengths, SharedCloseExact, SharedCloseIsExact}
+use Rattle.call_shared.specs.SharedExact.{Shareless, RightlyPooled, SharedCloseExact, SharedCloseIsExact}
 use Rattle.call_shared.specs.SettledLaws.{close-settled}
-use Rattle.call_shared.specs.SharedLaws.{Kind, closes, either, not-either, shareless, share-below, wrongLengths, right-i, right-e, Neither, went, byTests, Judged, length-exact, state-exact, passes, pool-by}
+use Rattle.call_shared.specs.SharedLaws.{Kind, closes, either, not-either, shareless, share-below, wrongLengths, right-i, right-e, Neither, went, byTests, Judged, length-exact, state-exact, passes, other-exact, pool-by}
 use Rattle.call_shared.specs.SharedLaws as laws
 
 module _ (w p : ℕ) (s window pool : List ℕ) (i : ℕ) where
@@ -96,7 +96,7 @@ module _ (w p : ℕ) (s window pool : List ℕ) (i : ℕ) where
       plain-left plain (close-case w p s window)
 
   abbrev Right : Type 0
-  Right = RightLengths w s window pool
+  Right = RightlyPooled w s window pool
 
   abbrev Unfit : Type 0
   Unfit = (damaged ≡ true) ⊎ Shareless pool i
@@ -118,6 +118,7 @@ module _ (w p : ℕ) (s window pool : List ℕ) (i : ℕ) where
     else-plain = λ lengths sound share.
         passes K pool i wrong bad plain Right Unfit judged lengths
         (not-either damaged (Shareless pool i) sound share);
+    else-exactly = other-exact K pool i wrong bad plain Right Unfit judged;
     refused-leaves = left;
     pool-exact = pool-by K pool i wrong bad plain Right Unfit judged;
     told = told;

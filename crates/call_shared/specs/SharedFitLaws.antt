@@ -1,8 +1,5 @@
 -- What the pool allows is what the request says.
-use Prim.Native.Nat.{min}
 use native.Mathlib.Omega.{arith}
-use lib.ListN.{length}
-use Rattle.refusals.specs.Refusals.{roomOf}
 use Rattle.pool.specs.Pool.{allowance}
 use Rattle.call_shared.specs.SharedFit.{AllowedIsExact}
 

@@ -25,7 +25,7 @@ use Rattle.call_take.specs.TakeReplyLaws.{turned-told, replies-tell}
 use Rattle.call_shared.specs.Shared.{Shared, sharedTake}
 use Rattle.call_shared.specs.SharedExact.{Shareless, TakeLengths, SharedTakeExact, SharedTakeIsExact}
 use Rattle.call_shared.specs.SettledLaws.{take-settled}
-use Rattle.call_shared.specs.SharedLaws.{Kind, takes, either, not-either, shareless, share-below, right-i, right-e, Neither, turned, went, byTests, Judged, length-exact, state-exact, passes, pool-by}
+use Rattle.call_shared.specs.SharedLaws.{Kind, takes, either, not-either, shareless, share-below, right-i, right-e, Neither, turned, went, byTests, Judged, length-exact, state-exact, passes, other-exact, pool-by}
 
 -- What a decision leads to is neither 6 nor 34.
 decided-neither : (w : ℕ) (s window : List ℕ) (fs : List Frontier) (d : Decision) → Neither (decided w s window fs d .answer)
@@ -136,6 +136,7 @@ module _ (w : ℕ) (s window scratch pool : List ℕ) (i : ℕ) where
     else-plain = λ lengths sound share.
         passes K pool i wrong bad plain (TakeLengths w s window scratch pool) Unfit judged lengths
         (not-either damaged (Shareless pool i) sound share);
+    else-exactly = other-exact K pool i wrong bad plain (TakeLengths w s window scratch pool) Unfit judged;
     unfit-leaves = left;
     pool-exact = pool-by K pool i wrong bad plain (TakeLengths w s window scratch pool) Unfit judged;
     told = told;
