@@ -20,7 +20,7 @@ use Rattle.demands.specs.Run.{Watch, offers, takes, finds, closes, after, opene
 use Rattle.demands.specs.EveryList.{EightBytes, lentWindow, nextTake}
 use Rattle.demands.specs.Written.{Written, opens, calls}
 use Rattle.pool_runs.specs.Runs.{Member, Place, vacant, has, Pooled, PoolCall, open-call, offer-call, take-call, find-call, close-call, mislent-call, PoolPassed, Numbered, withWatch, unchanged, outcomeOfOpen, outcomeOfOffer, outcomeOfFind, outcomeOfTake, outcomeOfClose, outcome, outcomeIn}
-use Rattle.pool_runs.specs.statements.Within.{keptBy, keptOrPromised}
+use Rattle.pool_runs.specs.statements.Within.{keptAtPlace, keptOrPromised}
 use Rattle.pool_runs.specs.Running.{HasShare, IsWritten, Running}
 use Rattle.pool_runs.specs.RunningLaws.{Lawful}
 use Rattle.pool_runs.specs.KeptLaws.{written-few, offer-keeps, take-keeps, take-within, close-keeps, open-keeps}
@@ -90,7 +90,7 @@ module _ (w : ℕ) (pos : 0 < w) (shares : List ℕ) (G : Pooled) (R : Running w
   idle : (i : ℕ) (P : Place) (answers : List Answer) → G .places i ≡ P
       → Lawful w shares G i (unchanged (G .pool) P answers)
   idle i P answers h = record {
-    pool-left = inl (refl, ap keptBy (sym h));
+    pool-left = inl (refl, ap keptAtPlace (sym h));
     grows = inl (rw h (omega arith));
     member = λ m q. R .members i m (h ∙ q);
   }
@@ -138,8 +138,8 @@ module _ (w : ℕ) (pos : 0 < w) (shares : List ℕ) (G : Pooled) (R : Running w
         → HasShare shares i × IsWritten w l
     still Z z l e = (share, rw (← one-member _ l e) (eight, z))
 
-    kept-before : keptBy (G .places i) ≡ keptCount (W .bytes)
-    kept-before = ap keptBy here
+    kept-before : keptAtPlace (G .places i) ≡ keptCount (W .bytes)
+    kept-before = ap keptAtPlace here
 
     offer-lawful : (mask : ℕ) (clock labels : List ℕ) → PoolPassed w (offer-call mask clock labels)
         → Lawful w shares G i (outcomeOfOffer w mask clock labels (G .pool) m)
@@ -189,7 +189,7 @@ module _ (w : ℕ) (pos : 0 < w) (shares : List ℕ) (G : Pooled) (R : Running w
         rw (take-outcome more scratch)
         (record {
           pool-left =
-              left-by (G .pool) i (keptBy (G .places i)) (t .answer) (Z .bytes) (share .0)
+              left-by (G .pool) i (keptAtPlace (G .places i)) (t .answer) (Z .bytes) (share .0)
               (λ h. keeps (turned-no-state (t .answer) h) ∙ sym kept-before) few;
           grows = grown (isState (t .answer)) refl keeps within;
           member = still Z z;
@@ -229,7 +229,7 @@ module _ (w : ℕ) (pos : 0 < w) (shares : List ℕ) (G : Pooled) (R : Running w
         rw (close-outcome p)
         (record {
           pool-left =
-              left-by (G .pool) i (keptBy (G .places i)) (c .answer) (Z .bytes) (share .0)
+              left-by (G .pool) i (keptAtPlace (G .places i)) (c .answer) (Z .bytes) (share .0)
               (λ h. ap keptCount (refused-close w p (W .bytes) (W .window) h) ∙ sym kept-before) few;
           grows = inl (omega (arith, fewer, kept-before));
           member = still Z z;

@@ -9,7 +9,7 @@ use Rattle.pool.specs.Pool.{sumBelow, poolLength, shareAt, keptAt}
 use Rattle.demands.specs.EveryList.{EightBytes}
 use Rattle.demands.specs.Written.{Written}
 use Rattle.pool_runs.specs.Runs.{Member, has, Pooled}
-use Rattle.pool_runs.specs.statements.Within.{keptBy, keptOrPromised}
+use Rattle.pool_runs.specs.statements.Within.{keptAtPlace, keptOrPromised}
 
 -- A number that has a share.
 abbrev pub HasShare : (shares : List ℕ) (i : ℕ) → Type 0
@@ -22,6 +22,6 @@ IsWritten w m = EightBytes (m .labels) × Written (m .text) (m .processes) (m .l
 pub record Running (w : ℕ) (shares : List ℕ) (G : Pooled) : Type 0 where
   pub size : length (G .pool) ≡ poolLength
   pub shares-are : (i : ℕ) → i < mostMembers → shareAt (G .pool) i ≡ at shares i
-  pub numbers : (i : ℕ) → i < mostMembers → keptAt (G .pool) i ≡ keptBy (G .places i)
+  pub numbers : (i : ℕ) → i < mostMembers → keptAt (G .pool) i ≡ keptAtPlace (G .places i)
   pub promises : sumBelow mostMembers (keptOrPromised shares G) ≤ mostFrontiers
   pub members : (i : ℕ) (m : Member) → G .places i ≡ has m → HasShare shares i × IsWritten w m

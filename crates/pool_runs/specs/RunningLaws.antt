@@ -15,7 +15,7 @@ use Rattle.numbers.specs.Limit.{mostFrontiers, mostMembers}
 use Rattle.pool.specs.Pool.{sumBelow, poolLength, shareAt, keptAt, unpromised, aboveShare, usedByOthers, allowance, broughtUp}
 use Rattle.pool.specs.PoolLaws.{sum-same, sum-plus, sum-split, brought-length, kept-own, kept-other, share-stays, share-allowed}
 use Rattle.pool_runs.specs.Runs.{Member, Place, has, Pooled, Numbered, Outcome, outcomeIn, afterPoolCall}
-use Rattle.pool_runs.specs.statements.Within.{keptBy, keptOrPromised}
+use Rattle.pool_runs.specs.statements.Within.{keptAtPlace, keptOrPromised}
 use Rattle.pool_runs.specs.Running.{HasShare, IsWritten, Running}
 
 -- The larger of two numbers is the second and what the first is above it.
@@ -49,7 +49,7 @@ module _ (w : ℕ) (shares : List ℕ) (G : Pooled) (R : Running w shares G) whe
           → cond (eqb j i) 0 (keptOrPromised shares G j)
           ≡ cond (eqb j i) 0 (at shares j) + cond (eqb j i) 0 (keptAt (G .pool) j - shareAt (G .pool) j)
       each j l =
-          two (eqb j i) (keptBy (G .places j)) (at shares j) (keptAt (G .pool) j) (shareAt (G .pool) j) (R .numbers j l)
+          two (eqb j i) (keptAtPlace (G .places j)) (at shares j) (keptAt (G .pool) j) (shareAt (G .pool) j) (R .numbers j l)
           (R .shares-are j l)
 
   pub allowed-exactly : (i : ℕ) → i < mostMembers → allowance (G .pool) i + ofOthers i ≡ mostFrontiers
@@ -66,7 +66,7 @@ module _ (w : ℕ) (shares : List ℕ) (G : Pooled) (R : Running w shares G) whe
         others-parts i,
         R .shares-are i l,
         R .promises,
-        larger (keptBy (G .places i)) (at shares i),
+        larger (keptAtPlace (G .places i)) (at shares i),
       )
 
 -- ---- A call of watch i
@@ -74,14 +74,14 @@ module _ (w : ℕ) (shares : List ℕ) (G : Pooled) (R : Running w shares G) whe
 -- The pool is as it was and the watch keeps as many; or its number in the pool is the record's.
 abbrev pub PoolLeft : (G : Pooled) (i : ℕ) (o : Outcome) → Type 0
 PoolLeft G i o =
-    ((o .pool ≡ G .pool) × (keptBy (o .place) ≡ keptBy (G .places i)))
-    ⊎ ((i < mostMembers) × (o .pool ≡ broughtUp (G .pool) i (keptBy (o .place))) × (keptBy (o .place) ≤ mostFrontiers))
+    ((o .pool ≡ G .pool) × (keptAtPlace (o .place) ≡ keptAtPlace (G .places i)))
+    ⊎ ((i < mostMembers) × (o .pool ≡ broughtUp (G .pool) i (keptAtPlace (o .place))) × (keptAtPlace (o .place) ≤ mostFrontiers))
 
 -- What it leaves: such a pool, a watch that keeps no more than before or was promised, or no more than it may, and that
 -- calls alone wrote.
 pub record Lawful (w : ℕ) (shares : List ℕ) (G : Pooled) (i : ℕ) (o : Outcome) : Type 0 where
   pub pool-left : PoolLeft G i o
-  pub grows : (keptBy (o .place) ≤ keptOrPromised shares G i) ⊎ (keptBy (o .place) ≤ allowance (G .pool) i)
+  pub grows : (keptAtPlace (o .place) ≤ keptOrPromised shares G i) ⊎ (keptAtPlace (o .place) ≤ allowance (G .pool) i)
   pub member : (m : Member) → o .place ≡ has m → HasShare shares i × IsWritten w m
 
 module _ (w : ℕ) (shares : List ℕ) (G : Pooled) (R : Running w shares G) (c : Numbered) where
@@ -107,33 +107,33 @@ module _ (w : ℕ) (shares : List ℕ) (G : Pooled) (R : Running w shares G) (c 
       where
         go : PoolLeft G i o → length (o .pool) ≡ poolLength
         go (inl x) = rw (x .0) (R .size)
-        go (inr x) = rw (x .1) (brought-length (G .pool) i (keptBy (o .place)) ∙ R .size)
+        go (inr x) = rw (x .1) (brought-length (G .pool) i (keptAtPlace (o .place)) ∙ R .size)
 
     shares-after : (j : ℕ) → j < mostMembers → shareAt (o .pool) j ≡ at shares j
     shares-after j l = go (L .pool-left)
       where
         go : PoolLeft G i o → shareAt (o .pool) j ≡ at shares j
         go (inl x) = rw (x .0) (R .shares-are j l)
-        go (inr x) = rw (x .1) (share-stays (G .pool) i (keptBy (o .place)) j l ∙ R .shares-are j l)
+        go (inr x) = rw (x .1) (share-stays (G .pool) i (keptAtPlace (o .place)) j l ∙ R .shares-are j l)
 
-    pub own-number : i < mostMembers → keptAt (o .pool) i ≡ keptBy (o .place)
+    pub own-number : i < mostMembers → keptAt (o .pool) i ≡ keptAtPlace (o .place)
     own-number l = go (L .pool-left)
       where
-        go : PoolLeft G i o → keptAt (o .pool) i ≡ keptBy (o .place)
+        go : PoolLeft G i o → keptAt (o .pool) i ≡ keptAtPlace (o .place)
         go (inl x) = rw (x .0) (R .numbers i l ∙ sym (x .1))
-        go (inr x) = rw (x .1) (kept-own (G .pool) i (keptBy (o .place)) (R .size) l (omega (arith, x .2)))
+        go (inr x) = rw (x .1) (kept-own (G .pool) i (keptAtPlace (o .place)) (R .size) l (omega (arith, x .2)))
 
     pub other-number : (j : ℕ) → j ≢ i → keptAt (o .pool) j ≡ keptAt (G .pool) j
     other-number j n = go (L .pool-left)
       where
         go : PoolLeft G i o → keptAt (o .pool) j ≡ keptAt (G .pool) j
         go (inl x) = rw (x .0)
-        go (inr x) = rw (x .1) (kept-other (G .pool) i (keptBy (o .place)) j n)
+        go (inr x) = rw (x .1) (kept-other (G .pool) i (keptAtPlace (o .place)) j n)
 
-    numbers-after : (j : ℕ) → j < mostMembers → keptAt (o .pool) j ≡ keptBy (H .places j)
+    numbers-after : (j : ℕ) → j < mostMembers → keptAt (o .pool) j ≡ keptAtPlace (H .places j)
     numbers-after j l = go (ℕ-discrete j i)
       where
-        go : Dec (j ≡ i) → keptAt (o .pool) j ≡ keptBy (H .places j)
+        go : Dec (j ≡ i) → keptAt (o .pool) j ≡ keptAtPlace (H .places j)
         go (yes e) = rw (e, own-place) (own-number (omega (arith, e)))
         go (no n) = rw (other-place j n) (other-number j n ∙ R .numbers j l)
 
@@ -156,8 +156,8 @@ module _ (w : ℕ) (shares : List ℕ) (G : Pooled) (R : Running w shares G) (c 
 
     -- with what it keeps itself, or is promised
     own-within : i < mostMembers
-        → (keptBy (o .place) ≤ keptOrPromised shares G i) ⊎ (keptBy (o .place) ≤ allowance (G .pool) i)
-        → max (keptBy (o .place)) (at shares i) + ofOthers w shares G R i ≤ mostFrontiers
+        → (keptAtPlace (o .place) ≤ keptOrPromised shares G i) ⊎ (keptAtPlace (o .place) ≤ allowance (G .pool) i)
+        → max (keptAtPlace (o .place)) (at shares i) + ofOthers w shares G R i ≤ mostFrontiers
     own-within l (inl g) =
         let before = sum-split mostMembers i (keptOrPromised shares G) l in
         omega (arith, g, before, R .promises)
@@ -171,7 +171,7 @@ module _ (w : ℕ) (shares : List ℕ) (G : Pooled) (R : Running w shares G) (c 
         go (yes l) =
             let after = sum-split mostMembers i (keptOrPromised shares H) l in
             let same = sum-same mostMembers _ _ others-same in
-            let own = ap (λ (P : Place). max (keptBy P) (at shares i)) own-place in
+            let own = ap (λ (P : Place). max (keptAtPlace P) (at shares i)) own-place in
             omega (arith, after, same, own, own-within l (L .grows))
         go (no f) =
             let same : sumBelow mostMembers (keptOrPromised shares H) ≡ sumBelow mostMembers (keptOrPromised shares G) =

@@ -22,7 +22,7 @@ use Rattle.demands.specs.statements.Caps.{WouldPass}
 use Rattle.demands.specs.forms.EveryWatch.{caps-alike}
 use Rattle.pool_runs.specs.Runs.{Member, Place, vacant, has, Pooled, PoolCall, open-call, offer-call, take-call, find-call, close-call, mislent-call, PoolPassed, Numbered, Outcome, withWatch, outcomeOfOpen, outcomeOfOffer, outcomeOfFind, outcomeOfTake, outcomeOfClose, outcome, outcomeIn, afterPoolCall}
 use Rattle.pool_runs.specs.Turns.{turnOf}
-use Rattle.pool_runs.specs.statements.Within.{keptBy}
+use Rattle.pool_runs.specs.statements.Within.{keptAtPlace}
 use Rattle.pool_runs.specs.statements.Others.{MayPassShare}
 use Rattle.pool_runs.specs.Running.{Running}
 use Rattle.pool_runs.specs.RunningLaws.{PoolLeft, Lawful, other-place, other-number, own-place, own-number, lawful-running}
@@ -174,7 +174,7 @@ module _ (w : ℕ) (pos : 0 < w) (shares : List ℕ) (i : ℕ) where
 
           go : Dec (i < mostMembers) → keptAt (outcomeIn w c G .pool) i ≡ keptAt (outcomeIn w c H .pool) i
           go (yes l) =
-              own-number w shares G (S .first) c L l ∙ ap keptBy same ∙ sym (own-number w shares H (S .second) c M l)
+              own-number w shares G (S .first) c L l ∙ ap keptAtPlace same ∙ sym (own-number w shares H (S .second) c M l)
           go (no out) = stays G (L .pool-left) out ∙ S .number ∙ sym (stays H (M .pool-left) out)
 
       alike : (MayPassShare w (at shares i) (turnOf w c G) → ⊥) → SameOutcome (outcomeIn w c G) (outcomeIn w c H)

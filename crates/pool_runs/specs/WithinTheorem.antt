@@ -10,7 +10,7 @@ use Rattle.numbers.specs.Limit.{mostMembers}
 use Rattle.pool.specs.PoolLaws.{sum-same, sum-le, sum-past, share-allowed}
 use Rattle.call_shares.specs.SharesTheorem.{shares-exact}
 use Rattle.pool_runs.specs.Runs.{Member, vacant, has, Pooled, IsSet, begun, Numbered, AllPoolPassed, afterPoolCall, poolRun}
-use Rattle.pool_runs.specs.statements.Within.{OfEveryRun, keptBy, keptOrPromised, Within, NeverOver}
+use Rattle.pool_runs.specs.statements.Within.{OfEveryRun, keptAtPlace, keptOrPromised, WithinAllowance, NeverOver}
 use Rattle.pool_runs.specs.Running.{Running}
 use Rattle.pool_runs.specs.RunningLaws.{allowed-exactly, lawful-running}
 use Rattle.pool_runs.specs.OutcomeLaws.{call-lawful}
@@ -48,7 +48,7 @@ running w pos shares pool set cs p = run-running w pos shares cs p (begun shares
 
 -- ---- Theorem
 
-within-of : (w : ℕ) (shares : List ℕ) (G : Pooled) → Running w shares G → Within w shares G
+within-of : (w : ℕ) (shares : List ℕ) (G : Pooled) → Running w shares G → WithinAllowance w shares G
 within-of w shares G R = record {
   pool-length = R .size;
   shares-stay = R .shares-are;
@@ -56,7 +56,7 @@ within-of w shares G R = record {
   only-shares = λ i m h. R .members i m h .0;
   promises = R .promises;
   together =
-      omega (arith, R .promises, sum-le mostMembers (λ i. keptBy (G .places i)) (keptOrPromised shares G) (λ i l. omega arith));
+      omega (arith, R .promises, sum-le mostMembers (λ i. keptAtPlace (G .places i)) (keptOrPromised shares G) (λ i l. omega arith));
   share-allowed = λ i l. omega (arith, share-allowed (G .pool) i, R .shares-are i l);
   allowed-exactly = allowed-exactly w shares G R;
 }

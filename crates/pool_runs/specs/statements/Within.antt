@@ -21,25 +21,25 @@ OfEveryRun P =
     → (cs : List Numbered) → AllPoolPassed w cs → P w shares (poolRun w cs (begun shares pool))
 
 -- How many frontiers a place's record says that its watch keeps; none where it has no watch.
-abbrev pub keptBy : (P : Place) → ℕ
-keptBy vacant = 0
-keptBy (has m) = keptCount (m .watch .bytes)
+abbrev pub keptAtPlace : (P : Place) → ℕ
+keptAtPlace vacant = 0
+keptAtPlace (has m) = keptCount (m .watch .bytes)
 
 -- What watch i keeps, or is promised where that is more.
 abbrev pub keptOrPromised : (shares : List ℕ) (G : Pooled) (i : ℕ) → ℕ
-keptOrPromised shares G i = max (keptBy (G .places i)) (at shares i)
+keptOrPromised shares G i = max (keptAtPlace (G .places i)) (at shares i)
 
-pub record Within (w : ℕ) (shares : List ℕ) (G : Pooled) : Type 0 where
+pub record WithinAllowance (w : ℕ) (shares : List ℕ) (G : Pooled) : Type 0 where
   -- the pool has its length, and its shares are those that were set
   pub pool-length : length (G .pool) ≡ poolLength
   pub shares-stay : (i : ℕ) → i < mostMembers → shareAt (G .pool) i ≡ at shares i
   -- its kept numbers are the records'
-  pub numbers : (i : ℕ) → i < mostMembers → keptAt (G .pool) i ≡ keptBy (G .places i)
+  pub numbers : (i : ℕ) → i < mostMembers → keptAt (G .pool) i ≡ keptAtPlace (G .places i)
   -- only a number with a share has a watch
   pub only-shares : (i : ℕ) (m : Member) → G .places i ≡ has m → (i < mostMembers) × (1 ≤ at shares i)
   -- what each keeps, or is promised where that is more, adds up to at most 1,024; so does what they keep
   pub promises : sumBelow mostMembers (keptOrPromised shares G) ≤ mostFrontiers
-  pub together : sumBelow mostMembers (λ i. keptBy (G .places i)) ≤ mostFrontiers
+  pub together : sumBelow mostMembers (λ i. keptAtPlace (G .places i)) ≤ mostFrontiers
   -- how many a watch may keep: its share at least, and exactly what the others neither keep nor are promised
   pub share-allowed : (i : ℕ) → i < mostMembers → at shares i ≤ allowance (G .pool) i
   pub allowed-exactly : (i : ℕ) → i < mostMembers
@@ -47,4 +47,4 @@ pub record Within (w : ℕ) (shares : List ℕ) (G : Pooled) : Type 0 where
       ≡ mostFrontiers
 
 abbrev pub NeverOver : Type 0
-NeverOver = OfEveryRun Within
+NeverOver = OfEveryRun WithinAllowance
