@@ -51,15 +51,24 @@ module _ (w : ℕ) (text : List ℕ) (k : ℕ) (labels s window pool : List ℕ)
       open-by
       ∙ fault-turned (opens s window) pool i open-number opened (open-back w text k labels s window open-number refl) n e some
 
-  pub open-passed : sharedFault open-number pool i ≡ 0
-      → (length pool ≡ 32) × (i < 8) × (length s ≡ recordLength w)
-      × (sharedOpen w text k labels s window pool i ≡ went (opens s window) pool i opened)
+  -- What is known where neither its own tests nor those of the plain open, but for the text, turn it back.
+  pub record OpenPassed : Type 0 where
+    pub pool-long : length pool ≡ 32
+    pub member : i < 8
+    pub long : length s ≡ recordLength w
+    pub whole : sharedOpen w text k labels s window pool i ≡ went (opens s window) pool i opened
+
+  pub open-passed : sharedFault open-number pool i ≡ 0 → OpenPassed
   unfolding openFault
   open-passed h =
       let p = fault-passed (opens s window) pool i open-number opened h in
       let right = passed (badRecordLength w (length s) || badWindowLength w (length window)) 6 _ (lit< tt) (p .0) .0 in
-      let long = right-length w (length s) (or-false-e (badRecordLength w (length s)) _ right .0) in
-      (p .1, p .2, long, open-by ∙ p .3)
+      record {
+        pool-long = p .1;
+        member = p .2;
+        long = right-length w (length s) (or-false-e (badRecordLength w (length s)) _ right .0);
+        whole = open-by ∙ p .3;
+      }
 
 -- ---- Take
 
@@ -162,9 +171,19 @@ module _ (w p : ℕ) (s window pool : List ℕ) (i : ℕ) where
       → sharedClose w p s window pool i ≡ turned (closes s window) pool i n
   close-turned n e some = close-by ∙ fault-turned (closes s window) pool i close-number closed close-plain n e some
 
-  pub close-passed : sharedFault close-number pool i ≡ 0
-      → (length pool ≡ 32) × (i < 8) × Good w s (length window)
-      × (sharedClose w p s window pool i ≡ went (closes s window) pool i closed)
+  -- What is known where its own tests let it pass.
+  pub record ClosePassed : Type 0 where
+    pub pool-long : length pool ≡ 32
+    pub member : i < 8
+    pub good : Good w s (length window)
+    pub whole : sharedClose w p s window pool i ≡ went (closes s window) pool i closed
+
+  pub close-passed : sharedFault close-number pool i ≡ 0 → ClosePassed
   close-passed h =
       let q = fault-passed (closes s window) pool i close-number closed h in
-      (q .1, q .2, good-watch w s (length window) (q .0), close-by ∙ q .3)
+      record {
+        pool-long = q .1;
+        member = q .2;
+        good = good-watch w s (length window) (q .0);
+        whole = close-by ∙ q .3;
+      }

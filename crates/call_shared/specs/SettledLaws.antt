@@ -9,7 +9,7 @@ use mathlib.Core.Logic.{inl, inr}
 use lib.Dec.{eqb, lit<}
 use lib.ListN.{length, take, set, length-set}
 use lib.Seq.{sets}
-use borrow.Author.Tests.{eq-eqb, eqb-false}
+use borrow.Author.Tests.{eq-eqb, eqb-false, not-true}
 use Rattle.codec.specs.Little.{bytesOf, valueOf, number, put}
 use Rattle.codec.specs.PutLaws.{number-middle, number-put-same}
 use Rattle.codec.specs.SetsLaws.{part-sets-before}
@@ -55,24 +55,27 @@ pub record Settled (a : Answer) (s : List ℕ) : Type 0 where
 
 -- ---- The pool by the reply word
 
-module _ (a : Answer) (s : List ℕ) (settled : Settled a s) (reply : ℕ) (told : reply ≡ replyWord a) where
-  pub settled-pool : (pool : List ℕ) (i : ℕ) → poolBy pool i reply s ≡ poolAfter pool i a s
+-- A plain call that answers a and leaves the record s was made: its word, and the record's bytes after it.
+pub record Made (a : Answer) (s : List ℕ) (reply : ℕ) (bytes : List ℕ) : Type 0 where
+  pub settled : Settled a s
+  pub told : reply ≡ replyWord a
+  pub left : bytes ≡ s
+
+module _ (a : Answer) (s : List ℕ) (reply : ℕ) (bytes : List ℕ) (made : Made a s reply bytes) where
+  pub made-pool : (pool : List ℕ) (i : ℕ) → poolBy pool i reply bytes ≡ poolAfter pool i a s
   unfolding poolBy poolAfter
-  settled-pool pool i = rw (told, turned-told a (settled .numbered)) (go (isTurnedBack a))
+  made-pool pool i = rw (made .left, made .told, turned-told a (made .settled .numbered)) (go (isTurnedBack a))
     where
-      go : (b : Bool) → cond (not b) (broughtUp pool i (keptCount s)) pool ≡ cond b pool (broughtUp pool i (keptCount s))
+      go : (b : Bool)
+          → cond (not b) (broughtUp pool i (keptCount s)) pool ≡ cond b pool (broughtUp pool i (keptCount s))
       go true = refl
       go false = refl
 
-  pub settled-few : reply % 256 ≡ 0 → keptCount s < 65536
-  settled-few z =
-      settled .few
-      (go (isTurnedBack a)
-      (sym (turned-told a (settled .numbered)) ∙ eq-eqb (replyWord a % 256) 0 (ap (λ (r : ℕ). r % 256) (sym told) ∙ z)))
-    where
-      go : (b : Bool) → not b ≡ true → b ≡ false
-      go true h = sym h
-      go false h = refl
+  pub made-few : reply % 256 ≡ 0 → keptCount bytes < 65536
+  made-few z =
+      let number = ap (λ (r : ℕ). r % 256) (sym (made .told)) ∙ z in
+      let word = sym (turned-told a (made .settled .numbered)) ∙ eq-eqb (replyWord a % 256) 0 number in
+      rw (made .left) (made .settled .few (not-true (isTurnedBack a) word))
 
 -- ---- Refused
 

@@ -2,26 +2,24 @@
 use Prim.Native.Nat.{ℕ}
 use native.Mathlib.Omega.{arith}
 use mathlib.Core.Path.{_≡_, refl, ap, _∙_, sym}
-use mathlib.Core.Bool.{Bool, true, false, _||_}
+use mathlib.Core.Bool.{Bool, false}
 use mathlib.Core.List.{List}
 use mathlib.Core.Logic.{_⊎_, inl, inr}
 use lib.Dec.{lit<}
 use lib.ListN.{length}
-use Rattle.clocks.specs.stored.BoundedLaws.{or-false-e}
 use Rattle.records.specs.Record.{processCount, closedMask, pendingEvents}
-use Rattle.refusals.specs.Refusals.{badRecordLength, badWindowLength, roomOf, badState, notOpen, namedBy}
-use Rattle.refusals.specs.FaultLaws.{Good, tests-good}
+use Rattle.refusals.specs.Refusals.{roomOf, badState, notOpen, namedBy}
 use Rattle.answers.specs.Answer.{turnedBack, processClosed}
 use Rattle.answers.specs.Turns.{by-test}
-use Rattle.pool.specs.Pool.{badPoolLength, noShare}
+use Rattle.call_open.specs.OpenTheorem.{lengths-i}
 use Rattle.call_close.specs.Close.{Closed, closeProcess, closeCall}
 use Rattle.call_close.specs.CloseCases.{Case, close-case, turned, accepted}
 use Rattle.call_close.specs.CloseReplies.{CloseTold}
 use Rattle.call_close.specs.CloseReplyLaws.{turned-told, replies-tell}
 use Rattle.call_shared.specs.Shared.{Shared, sharedClose}
-use Rattle.call_shared.specs.SharedExact.{Shareless, RightlyPooled, SharedCloseExact, SharedCloseIsExact}
+use Rattle.call_shared.specs.SharedExact.{Shareless, RightlyPooled, SharedCloseExact, SharedCloseIsExact, Unfit}
 use Rattle.call_shared.specs.SettledLaws.{close-settled}
-use Rattle.call_shared.specs.SharedLaws.{Kind, closes, either, not-either, shareless, share-below, wrongLengths, right-i, right-e, Neither, went, byTests, Judged, length-exact, state-exact, passes, other-exact, pool-by}
+use Rattle.call_shared.specs.SharedLaws.{Kind, closes, not-either, share-below, wrongLengths, right-i, right-e, unfit, unfit-exact, unfit-parts, good-watch, Neither, went, byTests, Judged, length-exact, state-exact, passes, other-exact, pool-by}
 use Rattle.call_shared.specs.SharedLaws as laws
 
 module _ (w p : ℕ) (s window pool : List ℕ) (i : ℕ) where
@@ -34,31 +32,15 @@ module _ (w p : ℕ) (s window pool : List ℕ) (i : ℕ) where
   abbrev wrong : Bool
   wrong = wrongLengths w s window pool
 
-  abbrev damaged : Bool
-  damaged = badState w (roomOf w (length window)) s
-
   abbrev bad : Bool
-  bad = damaged || noShare pool i
-
-  -- ---- What the plain close is where both let it pass
-
-  parts : wrong ≡ false → (badRecordLength w (length s) ≡ false) × (badWindowLength w (length window) ≡ false)
-  parts h =
-      let a = or-false-e (badRecordLength w (length s)) _ h in
-      (a .0, or-false-e (badWindowLength w (length window)) (badPoolLength (length pool)) (a .1) .0)
-
-  good : wrong ≡ false → bad ≡ false → Good w s (length window)
-  good h sound =
-      let q = parts h in
-      tests-good w s (length window) (rw (q .0, q .1)) (or-false-e damaged (noShare pool i) sound .0)
+  bad = unfit w s window pool i
 
   -- 41, 42 or done.
-  neither : wrong ≡ false → bad ≡ false → Neither (plain .answer)
+  neither : RightlyPooled w s window pool → bad ≡ false → Neither (plain .answer)
   unfolding closeCall closeProcess
-  neither h sound =
-      let q = parts h in
+  neither right sound =
       let P : Closed → Type 0 = λ c. Neither (c .answer) in
-      rw (q .0, q .1, or-false-e damaged (noShare pool i) sound .0)
+      rw (lengths-i w s window (right .0), unfit-parts w s window pool i sound .0)
       (by-test P (notOpen (processCount s) (closedMask s) p) (K .back 41) _ (λ _. other 41 (inl refl)) λ _.
       by-test P (namedBy p (pendingEvents w s)) (K .back 42) _ (λ _. other 42 (inr refl)) λ _ n by e.
       let z : _≡_ {A = ℕ} 0 1 = cc in
@@ -98,29 +80,26 @@ module _ (w p : ℕ) (s window pool : List ℕ) (i : ℕ) where
   abbrev Right : Type 0
   Right = RightlyPooled w s window pool
 
-  abbrev Unfit : Type 0
-  Unfit = (damaged ≡ true) ⊎ Shareless pool i
-
-  judged : Judged K pool i wrong bad plain Right Unfit
+  judged : Judged K pool i wrong bad plain Right (Unfit w s window pool i)
   judged = record {
     lengths = (right-e w s window pool, right-i w s window pool);
-    state = either damaged (noShare pool i) (Shareless pool i) (shareless pool i);
+    state = unfit-exact w s window pool i;
     pool-long = λ right. right .1;
-    member = λ sound. share-below pool i (or-false-e damaged (noShare pool i) sound .1);
+    member = λ sound. share-below pool i (unfit-parts w s window pool i sound .1);
     neither = neither;
-    settled = λ lengths sound. close-settled w p s window (good lengths sound);
+    settled = λ right sound. close-settled w p s window (good-watch w s window pool i right sound);
   }
 
   exact : SharedCloseExact w p s window pool i (byTests K pool i wrong bad plain)
   exact = record {
-    wrong-length = length-exact K pool i wrong bad plain Right Unfit judged;
-    no-share = state-exact K pool i wrong bad plain Right Unfit judged;
+    wrong-length = length-exact K pool i wrong bad plain Right (Unfit w s window pool i) judged;
+    no-share = state-exact K pool i wrong bad plain Right (Unfit w s window pool i) judged;
     else-plain = λ lengths sound share.
-        passes K pool i wrong bad plain Right Unfit judged lengths
-        (not-either damaged (Shareless pool i) sound share);
-    else-exactly = other-exact K pool i wrong bad plain Right Unfit judged;
+        passes K pool i wrong bad plain Right (Unfit w s window pool i) judged lengths
+        (not-either (badState w (roomOf w (length window)) s) (Shareless pool i) sound share);
+    else-exactly = other-exact K pool i wrong bad plain Right (Unfit w s window pool i) judged;
     refused-leaves = left;
-    pool-exact = pool-by K pool i wrong bad plain Right Unfit judged;
+    pool-exact = pool-by K pool i wrong bad plain Right (Unfit w s window pool i) judged;
     told = told;
   }
 

@@ -9,7 +9,8 @@ use lib.Dec.{leb, eqb}
 use lib.ListN.{length}
 use borrow.Author.Tests.{eqb-true, eq-eqb, leb-true, le-leb, leb-false}
 use Rattle.clocks.specs.stored.BoundedLaws.{or-false-e}
-use Rattle.refusals.specs.Refusals.{badRecordLength, badWindowLength}
+use Rattle.refusals.specs.Refusals.{badRecordLength, badWindowLength, roomOf, badState}
+use Rattle.refusals.specs.FaultLaws.{Good, tests-good}
 use Rattle.answers.specs.Answer.{Answer, turnedBack}
 use Rattle.pool.specs.Pool.{shareAt, badPoolLength, noShare}
 use Rattle.pool.specs.PoolLaws.{brought-length, kept-own, other-bytes, length-right}
@@ -18,7 +19,7 @@ use Rattle.call_open.specs.OpenTheorem.{lengths-i, lengths-e}
 use Rattle.call_take.specs.Take.{Taken}
 use Rattle.call_close.specs.Close.{Closed}
 use Rattle.call_shared.specs.Shared.{Shared, poolAfter}
-use Rattle.call_shared.specs.SharedExact.{Shareless, RightlyPooled, PoolExact}
+use Rattle.call_shared.specs.SharedExact.{Shareless, RightlyPooled, Unfit, PoolExact}
 use Rattle.call_shared.specs.SettledLaws.{Settled}
 
 -- ---- Kinds of calls
@@ -57,7 +58,7 @@ closes s window = record {
 -- ---- The tests, by what they ask for
 
 -- One of two tests.
-pub either : (a b : Bool) (B : Type 0) → (b ≡ true) ↔ B → ((a || b) ≡ true) ↔ ((a ≡ true) ⊎ B)
+either : (a b : Bool) (B : Type 0) → (b ≡ true) ↔ B → ((a || b) ≡ true) ↔ ((a ≡ true) ⊎ B)
 either true b B t = (λ _. inl refl, λ _. refl)
 either false b B t = (λ h. inr (t .0 h), ⊎-elim (λ h. absurd (true≢false (sym h))) (λ x. t .1 x))
 
@@ -106,6 +107,21 @@ module _ (w : ℕ) (s window pool : List ℕ) where
       let parts = or-false-e (a || b) (badPoolLength (length pool)) (or-assoc a b (badPoolLength (length pool)) ∙ h) in
       (lengths-e w s window (parts .0), length-right (length pool) (parts .1))
 
+  -- 34 of take and close: the state, or the number.
+  module _ (i : ℕ) where
+    abbrev pub unfit : Bool
+    unfit = badState w (roomOf w (length window)) s || noShare pool i
+
+    pub unfit-exact : (unfit ≡ true) ↔ Unfit w s window pool i
+    unfit-exact = either (badState w (roomOf w (length window)) s) (noShare pool i) (Shareless pool i) (shareless pool i)
+
+    pub unfit-parts : unfit ≡ false → (badState w (roomOf w (length window)) s ≡ false) × (noShare pool i ≡ false)
+    unfit-parts h = or-false-e (badState w (roomOf w (length window)) s) (noShare pool i) h
+
+    pub good-watch : RightlyPooled w s window pool → unfit ≡ false → Good w s (length window)
+    good-watch right h =
+        tests-good w s (length window) (lengths-i w s window (right .0)) (unfit-parts h .0)
+
 -- ---- The pool after a call that is not refused
 
 pub settled-exact : (pool : List ℕ) (i : ℕ) (a : Answer) (s : List ℕ) → Settled a s → length pool ≡ 32 → i < 8
@@ -148,8 +164,8 @@ module _ {A : Type 0} (K : Kind A) (pool : List ℕ) (i : ℕ) where
     pub state : (bad ≡ true) ↔ Unfit
     pub pool-long : Right → length pool ≡ 32
     pub member : bad ≡ false → i < 8
-    pub neither : wrong ≡ false → bad ≡ false → Neither (K .answer x)
-    pub settled : wrong ≡ false → bad ≡ false → Settled (K .answer x) (K .bytes x)
+    pub neither : Right → bad ≡ false → Neither (K .answer x)
+    pub settled : Right → bad ≡ false → Settled (K .answer x) (K .bytes x)
 
   -- Turned back by one number, it is not by another.
   other-number : (m n : ℕ) → K .answer (K .back m) ≡ turnedBack n 0 → m ≡ n
@@ -161,7 +177,7 @@ module _ {A : Type 0} (K : Kind A) (pool : List ℕ) (i : ℕ) where
   length-exact false true x Right Unfit j =
       (λ e. absurd (omega (arith, other-number 34 6 e)), λ f. absurd (f (j .lengths .0 refl)))
   length-exact false false x Right Unfit j =
-      (λ e. absurd (j .neither refl refl 6 (inl refl) e), λ f. absurd (f (j .lengths .0 refl)))
+      (λ e. absurd (j .neither (j .lengths .0 refl) refl 6 (inl refl) e), λ f. absurd (f (j .lengths .0 refl)))
 
   pub state-exact : (wrong bad : Bool) (x : A) (Right Unfit : Type 0) → Judged wrong bad x Right Unfit
       → (K .answer (byTests wrong bad x .call) ≡ turnedBack 34 0) ↔ (Right × Unfit)
@@ -169,7 +185,7 @@ module _ {A : Type 0} (K : Kind A) (pool : List ℕ) (i : ℕ) where
       (λ e. absurd (omega (arith, other-number 6 34 e)), λ h. absurd (true≢false (j .lengths .1 (h .0))))
   state-exact false true x Right Unfit j = (λ _. (j .lengths .0 refl, j .state .0 refl), λ _. K .refuses 34)
   state-exact false false x Right Unfit j =
-      (λ e. absurd (j .neither refl refl 34 (inr refl) e), λ h. absurd (true≢false (sym (j .state .1 (h .1)))))
+      (λ e. absurd (j .neither (j .lengths .0 refl) refl 34 (inr refl) e), λ h. absurd (true≢false (sym (j .state .1 (h .1)))))
 
   pub passes : (wrong bad : Bool) (x : A) (Right Unfit : Type 0) → Judged wrong bad x Right Unfit
       → Right → (Unfit → ⊥) → byTests wrong bad x .call ≡ x
@@ -193,4 +209,5 @@ module _ {A : Type 0} (K : Kind A) (pool : List ℕ) (i : ℕ) where
   pool-by true bad x Right Unfit j = back-exact pool i _ 6 _ (K .refuses 6)
   pool-by false true x Right Unfit j = back-exact pool i _ 34 _ (K .refuses 34)
   pool-by false false x Right Unfit j =
-      settled-exact pool i _ _ (j .settled refl refl) (j .pool-long (j .lengths .0 refl)) (j .member refl)
+      let right = j .lengths .0 refl in
+      settled-exact pool i _ _ (j .settled right refl) (j .pool-long right) (j .member refl)

@@ -58,9 +58,9 @@ module _ (w : ℕ) (text : List ℕ) (k : ℕ) (labels s window pool : List ℕ)
   abbrev bad : Bool
   bad = noShare pool i
 
-  neither : wrong ≡ false → bad ≡ false → Neither (plain .answer)
+  neither : RightlyPooled w s window pool → bad ≡ false → Neither (plain .answer)
   neither right share n (inl e) q =
-      open-exact w text k labels s window .wrong-length .0 (rw e at q) (right-e w s window pool right .0)
+      open-exact w text k labels s window .wrong-length .0 (rw e at q) (right .0)
   neither right share n (inr e) q = never-34 n 0 e (replies-tell w text k labels s window .turned-by n 0 q)
 
   back-told : (n : ℕ) → (n ≡ 6) ⊎ ((n ≡ 34) ⊎ ((n ≡ 5) ⊎ (n ≡ 9))) → 0 < n → n < 256 → SharedOpenTold w (K .back n)

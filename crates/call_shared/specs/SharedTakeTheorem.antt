@@ -14,18 +14,17 @@ use Rattle.frontiers.specs.declared.Frontier.{Frontier}
 use Rattle.frontiers.specs.Bytes.{frontiers}
 use Rattle.records.specs.Record.{keptCount}
 use Rattle.refusals.specs.Refusals.{badRecordLength, badWindowLength, roomOf, badState}
-use Rattle.refusals.specs.FaultLaws.{Good, tests-good}
 use Rattle.trial.specs.Trial.{Decision, undecided, false-clock, chosen, trial}
 use Rattle.answers.specs.Answer.{turnedBack, stateOf}
 use Rattle.answers.specs.Turns.{by-test}
-use Rattle.pool.specs.Pool.{badPoolLength, noShare, allowance}
+use Rattle.pool.specs.Pool.{badPoolLength, allowance}
 use Rattle.call_take.specs.Take.{Taken, badLengths, decided, takeWithin, allowedOf, takeCapped}
 use Rattle.call_take.specs.TakeReplies.{TakeTold}
 use Rattle.call_take.specs.TakeReplyLaws.{turned-told, replies-tell}
 use Rattle.call_shared.specs.Shared.{Shared, sharedTake}
-use Rattle.call_shared.specs.SharedExact.{Shareless, TakeLengths, SharedTakeExact, SharedTakeIsExact}
+use Rattle.call_shared.specs.SharedExact.{Shareless, TakeLengths, SharedTakeExact, SharedTakeIsExact, Unfit}
 use Rattle.call_shared.specs.SettledLaws.{take-settled}
-use Rattle.call_shared.specs.SharedLaws.{Kind, takes, either, not-either, shareless, share-below, right-i, right-e, Neither, turned, went, byTests, Judged, length-exact, state-exact, passes, other-exact, pool-by}
+use Rattle.call_shared.specs.SharedLaws.{Kind, takes, not-either, share-below, right-i, right-e, unfit, unfit-exact, unfit-parts, good-watch, Neither, turned, went, byTests, Judged, length-exact, state-exact, passes, other-exact, pool-by}
 
 -- What a decision leads to is neither 6 nor 34.
 decided-neither : (w : ℕ) (s window : List ℕ) (fs : List Frontier) (d : Decision) → Neither (decided w s window fs d .answer)
@@ -50,11 +49,8 @@ module _ (w : ℕ) (s window scratch pool : List ℕ) (i : ℕ) where
   abbrev wrong : Bool
   wrong = badLengths w (length s) (length window) (length scratch) || badPoolLength (length pool)
 
-  abbrev damaged : Bool
-  damaged = badState w (roomOf w (length window)) s
-
   abbrev bad : Bool
-  bad = damaged || noShare pool i
+  bad = unfit w s window pool i
 
   -- ---- The tests, by what they ask for
 
@@ -83,18 +79,13 @@ module _ (w : ℕ) (s window scratch pool : List ℕ) (i : ℕ) where
 
   -- ---- What the plain take is then
 
-  good : wrong ≡ false → bad ≡ false → Good w s (length window)
-  good h sound =
-      let p = parts h in
-      tests-good w s (length window) (rw (p .0, p .1)) (or-false-e damaged (noShare pool i) sound .0)
-
-  neither : wrong ≡ false → bad ≡ false → Neither (plain .answer)
+  neither : TakeLengths w s window scratch pool → bad ≡ false → Neither (plain .answer)
   unfolding takeCapped takeWithin
-  neither h sound n by q =
-      let lent = or-false-e (badLengths w (length s) (length window) (length scratch)) (badPoolLength (length pool)) h in
+  neither x sound n by q =
+      let wrong-none = or-false-e (badLengths w (length s) (length window) (length scratch)) _ (right .1 x) .0 in
       let fs = frontiers w window (keptCount s) in
       let goes : plain ≡ decided w s window fs (trial w s (allowedOf w (allowance pool i) window) fs) =
-      rw (lent .0, or-false-e damaged (noShare pool i) sound .0) in
+      rw (wrong-none, unfit-parts w s window pool i sound .0) in
       decided-neither w s window fs _ n by (rw goes at q)
 
   told : Bytes s → TakeTold w (byTests K pool i wrong bad plain .call)
@@ -114,31 +105,32 @@ module _ (w : ℕ) (s window scratch pool : List ℕ) (i : ℕ) where
   left =
       by-test Left wrong (turned K pool i 6) _ (λ _ n by q. (refl, refl, refl)) λ lengths.
       by-test Left bad (turned K pool i 34) (went K pool i plain) (λ _ n by q. (refl, refl, refl)) λ sound n by q.
-      absurd (neither lengths sound n by q)
+      absurd (neither (right .0 lengths) sound n by q)
 
-  abbrev Unfit : Type 0
-  Unfit = (damaged ≡ true) ⊎ Shareless pool i
+  abbrev Right : Type 0
+  Right = TakeLengths w s window scratch pool
 
-  judged : Judged K pool i wrong bad plain (TakeLengths w s window scratch pool) Unfit
+  judged : Judged K pool i wrong bad plain Right (Unfit w s window pool i)
   judged = record {
     lengths = right;
-    state = either damaged (noShare pool i) (Shareless pool i) (shareless pool i);
+    state = unfit-exact w s window pool i;
     pool-long = λ x. x .0 .1;
-    member = λ sound. share-below pool i (or-false-e damaged (noShare pool i) sound .1);
+    member = λ sound. share-below pool i (unfit-parts w s window pool i sound .1);
     neither = neither;
-    settled = λ lengths sound. take-settled w (allowance pool i) s window scratch (good lengths sound);
+    settled = λ x sound.
+        take-settled w (allowance pool i) s window scratch (good-watch w s window pool i (x .0) sound);
   }
 
   exact : SharedTakeExact w s window scratch pool i (byTests K pool i wrong bad plain)
   exact = record {
-    wrong-length = length-exact K pool i wrong bad plain (TakeLengths w s window scratch pool) Unfit judged;
-    no-share = state-exact K pool i wrong bad plain (TakeLengths w s window scratch pool) Unfit judged;
+    wrong-length = length-exact K pool i wrong bad plain Right (Unfit w s window pool i) judged;
+    no-share = state-exact K pool i wrong bad plain Right (Unfit w s window pool i) judged;
     else-plain = λ lengths sound share.
-        passes K pool i wrong bad plain (TakeLengths w s window scratch pool) Unfit judged lengths
-        (not-either damaged (Shareless pool i) sound share);
-    else-exactly = other-exact K pool i wrong bad plain (TakeLengths w s window scratch pool) Unfit judged;
+        passes K pool i wrong bad plain Right (Unfit w s window pool i) judged lengths
+        (not-either (badState w (roomOf w (length window)) s) (Shareless pool i) sound share);
+    else-exactly = other-exact K pool i wrong bad plain Right (Unfit w s window pool i) judged;
     unfit-leaves = left;
-    pool-exact = pool-by K pool i wrong bad plain (TakeLengths w s window scratch pool) Unfit judged;
+    pool-exact = pool-by K pool i wrong bad plain Right (Unfit w s window pool i) judged;
     told = told;
   }
 

@@ -1,20 +1,17 @@
 -- Turned back, or closed and the pool brought up to date: the laws `close-turned`, `close-passed` and `close-settled`.
 use Rattle.call_shared.proofs.closing.close.Tie as tie
-use Prim.Native.Nat.{_≤_, _<_}
+use Prim.Native.Nat.{_≤_}
 use native.Mathlib.Omega.{arith}
-use mathlib.Core.Path.{_≡_, sym, ap, _∙_}
+use mathlib.Core.Path.{_≡_, sym, _∙_}
 use lib.ListN.{length}
 use borrow.Author.Needs.{needs}
 use denote.Ref.{now}
 use Rattle.refusals.specs.RefusalCode.{watchFault}
-use Rattle.refusals.specs.FaultLaws.{Good}
 use Rattle.answers.specs.Answer.{replyWord}
 use Rattle.call_close.specs.Close.{closeCall}
-use Rattle.call_shared.specs.Shared.{sharedClose}
-use Rattle.call_shared.specs.SharedLaws.{closes, went}
-use Rattle.call_shared.specs.SharedCode.{sharedFault, poolBy}
-use Rattle.call_shared.specs.SettledLaws.{Settled, settled-pool, settled-few, close-settled}
-use Rattle.call_shared.proofs.CallSteps.{close-turned, close-passed}
+use Rattle.call_shared.specs.SharedCode.{sharedFault}
+use Rattle.call_shared.specs.SettledLaws.{Made, made-pool, made-few, close-settled}
+use Rattle.call_shared.proofs.CallSteps.{ClosePassed, close-turned, close-passed}
 use Rattle.call_shared.proofs.closing.close.Statement.{statement}
 
 -- ---- Places in the walk: the start, where nothing turns the call back, and after the plain call
@@ -36,26 +33,26 @@ closed c = c .before .before .before .before .before .before
 number-is : (c : tie.After-shared-fault) → let a = start c .args in
     c .shared-fault .result
     ≡ sharedFault (watchFault (a .w) (now (a .«record»)) (length (now (a .window)))) (now (a .pool)) (a .number)
-number-is c =
-    let a = start c .args in
-    rw (← (watched c .watch-fault .ensures)) (c .shared-fault .ensures)
+number-is c = rw (← (watched c .watch-fault .ensures)) (c .shared-fault .ensures)
 
 known : (c : tie.Else1) → let a = start (c .before) .args in
-    (length (now (a .pool)) ≡ 32) × (a .number < 8) × Good (a .w) (now (a .«record»)) (length (now (a .window)))
-    × (sharedClose (a .w) (a .process) (now (a .«record»)) (now (a .window)) (now (a .pool)) (a .number)
-    ≡ went (closes (now (a .«record»)) (now (a .window))) (now (a .pool)) (a .number)
-    (closeCall (a .w) (a .process) (now (a .«record»)) (now (a .window))))
+    ClosePassed (a .w) (a .process) (now (a .«record»)) (now (a .window)) (now (a .pool)) (a .number)
 known c =
     let a = start (c .before) .args in
     close-passed (a .w) (a .process) (now (a .«record»)) (now (a .window)) (now (a .pool)) (a .number)
     (sym (number-is (c .before)) ∙ c .if1 .left)
 
-settled : (c : tie.After-close) → let a = start (passed c .before) .args in
+made : (c : tie.After-close) → let a = start (passed c .before) .args in
     let call = closeCall (a .w) (a .process) (now (a .«record»)) (now (a .window)) in
-    Settled (call .answer) (call .bytes)
-settled c =
+    Made (call .answer) (call .bytes) (c .close .result) (c .close .last .1 .1 .0)
+made c =
     let a = start (passed c .before) .args in
-    close-settled (a .w) (a .process) (now (a .«record»)) (now (a .window)) (known (passed c) .2)
+    record {
+      settled =
+          close-settled (a .w) (a .process) (now (a .«record»)) (now (a .window)) (known (passed c) .good);
+      told = c .close .ensures .0;
+      left = c .close .ensures .1 .0;
+    }
 
 record-stays : (c : tie.After-close)
     → length (c .close .last .1 .1 .0) ≡ length (now (start (passed c .before) .args .«record»))
@@ -92,11 +89,8 @@ settle-pool-requires : tie.Need-settle-pool-requires
 settle-pool-requires c κs =
     let d = closed c in
     let k = known (passed d) in
-    let e = d .close .ensures in
-    let a = start (passed d .before) .args in
-    let call = closeCall (a .w) (a .process) (now (a .«record»)) (now (a .window)) in
-    let long : 8 ≤ length (d .close .last .1 .1 .0) = omega (arith, record-stays d, k .2 .record-long) in
-    (k .0, (k .1, (long, λ z. rw (e .1 .0) (settled-few (call .answer) (call .bytes) (settled d) (d .close .result) (e .0) z))))
+    let long : 8 ≤ length (d .close .last .1 .1 .0) = omega (arith, record-stays d, k .good .record-long) in
+    (k .pool-long, (omega (arith, k .member), (long, made-few _ _ _ _ (made d))))
 
 same-length-3 : tie.Need-same-length-3
 same-length-3 c = search needs
@@ -112,11 +106,10 @@ returns-2 c =
     let s = c .before .before in
     let d = closed (s .before) in
     let a = start (passed d .before) .args in
+    let whole = known (passed d) .whole in
+    let pool = made-pool _ _ _ _ (made d) (now (a .pool)) (a .number) in
     let e = d .close .ensures in
-    let call = closeCall (a .w) (a .process) (now (a .«record»)) (now (a .window)) in
-    let whole = known (passed d) .3 in
-    let pool = settled-pool (call .answer) (call .bytes) (settled d) (d .close .result) (e .0) (now (a .pool)) (a .number) in
-    (rw whole (e .0), (rw whole (e .1 .0), (rw whole (e .1 .1), rw whole (s .settle-pool .ensures ∙ ap (poolBy (now (a .pool)) (a .number) (d .close .result)) (e .1 .0) ∙ pool))))
+    (rw whole (e .0), (rw whole (e .1 .0), (rw whole (e .1 .1), rw whole (s .settle-pool .ensures ∙ pool))))
 
 pub close-spec : {M : Type 1} → statement M
 close-spec =

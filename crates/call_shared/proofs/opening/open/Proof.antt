@@ -1,20 +1,17 @@
 -- Turned back, or opened and the pool brought up to date: the laws `open-turned`, `open-passed` and `open-settled`.
 use Rattle.call_shared.proofs.opening.open.Tie as tie
-use Prim.Native.Nat.{_≤_, _<_}
+use Prim.Native.Nat.{_≤_}
 use native.Mathlib.Omega.{arith}
-use mathlib.Core.Path.{_≡_, sym, ap, _∙_}
+use mathlib.Core.Path.{_≡_, sym, _∙_}
 use lib.ListN.{length}
 use borrow.Author.Needs.{needs}
 use denote.Ref.{now}
-use Rattle.records.specs.Record.{recordLength}
 use Rattle.answers.specs.Answer.{replyWord}
 use Rattle.call_open.specs.Open.{openCall}
 use Rattle.call_open.specs.OpenCode.{openFault}
-use Rattle.call_shared.specs.Shared.{sharedOpen}
-use Rattle.call_shared.specs.SharedLaws.{opens, went}
-use Rattle.call_shared.specs.SharedCode.{sharedFault, poolBy}
-use Rattle.call_shared.specs.SettledLaws.{Settled, settled-pool, settled-few, open-settled}
-use Rattle.call_shared.proofs.CallSteps.{open-turned, open-passed}
+use Rattle.call_shared.specs.SharedCode.{sharedFault}
+use Rattle.call_shared.specs.SettledLaws.{Made, made-pool, made-few, open-settled}
+use Rattle.call_shared.proofs.CallSteps.{OpenPassed, open-turned, open-passed}
 use Rattle.call_shared.proofs.opening.open.Statement.{statement}
 
 -- ---- Places in the walk: the start, where nothing turns the call back, and after the plain call
@@ -36,26 +33,26 @@ opened c = c .before .before .before .before .before .before
 number-is : (c : tie.After-shared-fault) → let a = start c .args in
     c .shared-fault .result
     ≡ sharedFault (openFault (a .w) (a .k) (a .labels) (length (now (a .«record»))) (length (now (a .window)))) (now (a .pool)) (a .number)
-number-is c =
-    let a = start c .args in
-    rw (← (judged c .open-fault .ensures)) (c .shared-fault .ensures)
+number-is c = rw (← (judged c .open-fault .ensures)) (c .shared-fault .ensures)
 
 known : (c : tie.Else1) → let a = start (c .before) .args in
-    (length (now (a .pool)) ≡ 32) × (a .number < 8) × (length (now (a .«record»)) ≡ recordLength (a .w))
-    × (sharedOpen (a .w) (now (a .rule)) (a .k) (a .labels) (now (a .«record»)) (now (a .window)) (now (a .pool)) (a .number)
-    ≡ went (opens (now (a .«record»)) (now (a .window))) (now (a .pool)) (a .number)
-    (openCall (a .w) (now (a .rule)) (a .k) (a .labels) (now (a .«record»)) (now (a .window))))
+    OpenPassed (a .w) (now (a .rule)) (a .k) (a .labels) (now (a .«record»)) (now (a .window)) (now (a .pool)) (a .number)
 known c =
     let a = start (c .before) .args in
     open-passed (a .w) (now (a .rule)) (a .k) (a .labels) (now (a .«record»)) (now (a .window)) (now (a .pool)) (a .number)
     (sym (number-is (c .before)) ∙ c .if1 .left)
 
-settled : (c : tie.After-open) → let a = start (passed c .before) .args in
+made : (c : tie.After-open) → let a = start (passed c .before) .args in
     let call = openCall (a .w) (now (a .rule)) (a .k) (a .labels) (now (a .«record»)) (now (a .window)) in
-    Settled (call .answer) (call .bytes)
-settled c =
+    Made (call .answer) (call .bytes) (c .«open» .result) (c .«open» .last .1 .1 .1 .1 .0)
+made c =
     let a = start (passed c .before) .args in
-    open-settled (a .w) (now (a .rule)) (a .k) (a .labels) (now (a .«record»)) (now (a .window))
+    record {
+      settled =
+          open-settled (a .w) (now (a .rule)) (a .k) (a .labels) (now (a .«record»)) (now (a .window));
+      told = c .«open» .ensures .0;
+      left = c .«open» .ensures .1 .0;
+    }
 
 record-stays : (c : tie.After-open)
     → length (c .«open» .last .1 .1 .1 .1 .0) ≡ length (now (start (passed c .before) .args .«record»))
@@ -89,11 +86,8 @@ settle-pool-requires : tie.Need-settle-pool-requires
 settle-pool-requires c κs =
     let d = opened c in
     let k = known (passed d) in
-    let e = d .«open» .ensures in
-    let a = start (passed d .before) .args in
-    let call = openCall (a .w) (now (a .rule)) (a .k) (a .labels) (now (a .«record»)) (now (a .window)) in
-    let long : 8 ≤ length (d .«open» .last .1 .1 .1 .1 .0) = omega (arith, record-stays d, k .2) in
-    (k .0, (k .1, (long, λ z. rw (e .1 .0) (settled-few (call .answer) (call .bytes) (settled d) (d .«open» .result) (e .0) z))))
+    let long : 8 ≤ length (d .«open» .last .1 .1 .1 .1 .0) = omega (arith, record-stays d, k .long) in
+    (k .pool-long, (omega (arith, k .member), (long, made-few _ _ _ _ (made d))))
 
 same-length-2 : tie.Need-same-length-2
 same-length-2 c = search needs
@@ -109,11 +103,10 @@ returns-2 c =
     let s = c .before .before in
     let d = opened (s .before) in
     let a = start (passed d .before) .args in
+    let whole = known (passed d) .whole in
+    let pool = made-pool _ _ _ _ (made d) (now (a .pool)) (a .number) in
     let e = d .«open» .ensures in
-    let call = openCall (a .w) (now (a .rule)) (a .k) (a .labels) (now (a .«record»)) (now (a .window)) in
-    let whole = known (passed d) .3 in
-    let pool = settled-pool (call .answer) (call .bytes) (settled d) (d .«open» .result) (e .0) (now (a .pool)) (a .number) in
-    (rw whole (e .0), (rw whole (e .1 .0), (rw whole (e .1 .1), rw whole (s .settle-pool .ensures ∙ ap (poolBy (now (a .pool)) (a .number) (d .«open» .result)) (e .1 .0) ∙ pool))))
+    (rw whole (e .0), (rw whole (e .1 .0), (rw whole (e .1 .1), rw whole (s .settle-pool .ensures ∙ pool))))
 
 pub open-spec : {M : Type 1} → statement M
 open-spec =

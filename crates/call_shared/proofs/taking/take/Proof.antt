@@ -12,8 +12,8 @@ use Rattle.answers.specs.Answer.{replyWord}
 use Rattle.pool.specs.Pool.{allowance}
 use Rattle.call_take.specs.Take.{Taken, takeWithin, takeCapped}
 use Rattle.call_take.specs.TakeCode.{takeFault}
-use Rattle.call_shared.specs.SharedCode.{sharedFault, poolBy}
-use Rattle.call_shared.specs.SettledLaws.{Settled, settled-pool, settled-few, take-settled}
+use Rattle.call_shared.specs.SharedCode.{sharedFault}
+use Rattle.call_shared.specs.SettledLaws.{Made, made-pool, made-few, take-settled}
 use Rattle.call_shared.proofs.CallSteps.{TakePassed, allowed-room, take-turned, take-passed}
 use Rattle.call_shared.proofs.taking.take.Statement.{statement}
 
@@ -77,13 +77,18 @@ plain-take c =
       e .1 .1 .1 ∙ ap (λ (t : Taken). t .scratch) same,
     )
 
-settled : (c : tie.After-take-within) → let a = start (passed (allowed c) .before) .args in
-    let t = takeCapped (a .w) (allowance (now (a .pool)) (a .number)) (now (a .«record»)) (now (a .window)) (now (a .scratch)) in
-    Settled (t .answer) (t .bytes)
-settled c =
+made : (c : tie.After-take-within) → let a = start (passed (allowed c) .before) .args in
+    let call = takeCapped (a .w) (allowance (now (a .pool)) (a .number)) (now (a .«record»)) (now (a .window)) (now (a .scratch)) in
+    Made (call .answer) (call .bytes) (c .take-within .result) (c .take-within .last .1 .1 .0)
+made c =
     let a = start (passed (allowed c) .before) .args in
-    take-settled (a .w) (allowance (now (a .pool)) (a .number)) (now (a .«record»)) (now (a .window)) (now (a .scratch))
-    (known (passed (allowed c)) .good)
+    record {
+      settled =
+          take-settled (a .w) (allowance (now (a .pool)) (a .number)) (now (a .«record»)) (now (a .window)) (now (a .scratch))
+          (known (passed (allowed c)) .good);
+      told = plain-take c .0;
+      left = plain-take c .1;
+    }
 
 record-stays : (c : tie.After-take-within)
     → length (c .take-within .last .1 .1 .0) ≡ length (now (start (passed (allowed c) .before) .args .«record»))
@@ -114,7 +119,7 @@ returns c =
     (rw whole (omega arith), (rw whole, (rw whole, (rw whole, rw whole))))
 
 allowance-requires : tie.Need-allowance-requires
-allowance-requires c κs = let k = known (c .before) in (k .pool-long, k .member)
+allowance-requires c κs = let k = known (c .before) in (k .pool-long, omega (arith, k .member))
 
 room-of-requires : tie.Need-room-of-requires
 room-of-requires c κs = search needs
@@ -136,11 +141,8 @@ settle-pool-requires : tie.Need-settle-pool-requires
 settle-pool-requires c κs =
     let d = taken c in
     let k = known (passed (allowed d)) in
-    let a = start (passed (allowed d) .before) .args in
-    let t = takeCapped (a .w) (allowance (now (a .pool)) (a .number)) (now (a .«record»)) (now (a .window)) (now (a .scratch)) in
-    let e = plain-take d in
     let long : 8 ≤ length (d .take-within .last .1 .1 .0) = omega (arith, record-stays d, k .good .record-long) in
-    (k .pool-long, (k .member, (long, λ z. rw (e .1) (settled-few (t .answer) (t .bytes) (settled d) (d .take-within .result) (e .0) z))))
+    (k .pool-long, (omega (arith, k .member), (long, made-few _ _ _ _ (made d))))
 
 same-length-3 : tie.Need-same-length-3
 same-length-3 c = search needs
@@ -159,11 +161,10 @@ returns-2 c =
     let s = c .before .before in
     let d = taken (s .before) in
     let a = start (passed (allowed d) .before) .args in
-    let t = takeCapped (a .w) (allowance (now (a .pool)) (a .number)) (now (a .«record»)) (now (a .window)) (now (a .scratch)) in
-    let e = plain-take d in
     let whole = known (passed (allowed d)) .whole in
-    let pool = settled-pool (t .answer) (t .bytes) (settled d) (d .take-within .result) (e .0) (now (a .pool)) (a .number) in
-    (rw whole (e .0), (rw whole (e .1), (rw whole (e .2), (rw whole (e .3), rw whole (s .settle-pool .ensures ∙ ap (poolBy (now (a .pool)) (a .number) (d .take-within .result)) (e .1) ∙ pool)))))
+    let pool = made-pool _ _ _ _ (made d) (now (a .pool)) (a .number) in
+    let e = plain-take d in
+    (rw whole (e .0), (rw whole (e .1), (rw whole (e .2), (rw whole (e .3), rw whole (s .settle-pool .ensures ∙ pool)))))
 
 pub take-spec : {M : Type 1} → statement M
 take-spec =
