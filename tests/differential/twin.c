@@ -162,7 +162,7 @@ uint64_t twin_take(struct twin *t, struct source *s, size_t scratch_length) {
     uint64_t reply = call_take(t->form, t->record.bytes, t->record.length, t->window.bytes, t->window.length,
                                t->scratch.bytes, scratch_length);
     uint64_t expected = model_take(&t->model, t->record_bytes, t->record.length, t->window_bytes, t->window_length, t->scratch_bytes,
-                                   scratch_length);
+                                   scratch_length, ROOM);
     compare_replies(tally(t->form, TAKE, reply), expected);
     compare_watch(t);
     compare_bytes("scratch", t->scratch.bytes, t->scratch_bytes, scratch_length);
