@@ -1,0 +1,264 @@
+/* Runs of up to eight watches on one pool: any calls of any of them in any order. Shares are mostly small and what is
+ * unpromised little, so that the watches are in each other's way. */
+#include <stdlib.h>
+#include <string.h>
+
+#include "pool.h"
+
+/* ---- shares ---- */
+
+/* Small ones, and mostly one that promises the rest but for a few frontiers. */
+unsigned random_shares(struct source *s, uint16_t *shares) {
+    unsigned n = chance(s, 60) ? between(s, 2, 4) : between(s, 1, SHARES), most = chance(s, 70) ? 6 : 40;
+    unsigned sum = 0, rest = 0;
+    for (unsigned i = 0; i < n; i++) shares[i] = (uint16_t)between(s, 1, most), sum += shares[i];
+    switch (below(s, 6)) {
+    case 0: rest = 0; break;
+    case 1: rest = 1; break;
+    case 2: case 3: rest = between(s, 2, 12); break;
+    case 4: rest = between(s, 10, 60); break;
+    default: return n;
+    }
+    shares[below(s, n)] += (uint16_t)(ROOM - rest - sum);
+    return n;
+}
+
+struct run *run_new(void) {
+    struct run *r = calloc(1, sizeof *r);
+    if (r == NULL) abort();
+    for (unsigned i = 0; i < SHARES; i++) twin_new(&r->sharer[i].twin);
+    return r;
+}
+
+void run_begins(struct run *r, struct source *s, struct twin *t, const uint16_t *shares, unsigned n) {
+    for (unsigned i = 0; i < SHARES; i++) {
+        struct sharer *w = &r->sharer[i];
+        w->twin.form = &wide_form;
+        w->open = w->pool_full = false;
+        fill_junk(s, w->twin.record_bytes, wide_form.record); /* not opened yet */
+    }
+    r->n = n;
+    memcpy(r->shares, shares, n * sizeof *shares);
+    fill_junk(s, r->pool.bytes, POOL_MOST);
+    pool_lend(&r->pool, s, POOL);
+    if (pool_set(&r->pool, s, t, shares, n) != 0) differs("the shares are refused");
+}
+
+/* ---- what holds after each call of a run ---- */
+
+/* By the library's own bytes. */
+static void check_run(const struct run *r) {
+    const uint8_t *pool = r->pool.lent.bytes;
+    unsigned sum = 0;
+    for (unsigned i = 0; i < r->n; i++) {
+        const struct sharer *w = &r->sharer[i];
+        unsigned kept_frontiers = w->open ? get_kept(w->twin.record.bytes) : 0;
+        if (kept_of(pool, i) != kept_frontiers) differs("the pool says %u of watch %u, and its record %u",
+                                                       kept_of(pool, i), i, kept_frontiers);
+        sum += kept_frontiers > r->shares[i] ? kept_frontiers : r->shares[i];
+    }
+    if (sum > ROOM) differs("kept and promised are %u frontiers", sum);
+}
+
+/* ---- opens ---- */
+
+/* With a window that is mostly longer than what the pool gives. */
+void random_opening(struct source *s, struct opening *o, bool refused) {
+    struct shape shape = {.k = chance(s, 85) ? between(s, 2, 5) : between(s, 1, 8), .most = 250};
+    shape.n = between(s, 4, 16);
+    shape.joint = chance(s, 70) ? 5 : 40;
+    shape.messages = random_messages(s);
+    if (chance(s, 30)) shape.ending = between(s, 10, 40);
+    o->k = shape.k;
+    o->labels = random_labels(s, (1u << shape.k) - 1);
+    o->length = random_rule(s, shape.k, between(s, 1, 20), o->text);
+    o->room = chance(s, 20) ? between(s, 1, 12) : chance(s, 95) ? between(s, 12, 80) : ROOM;
+    o->execution = random_execution(s, shape);
+    if (chance(s, 40)) shuffle(s, o->execution.event, o->execution.n, chance(s, 30));
+    if (!refused) return;
+    unsigned way = below(s, 4);
+    if (way == 0) o->k = chance(s, 50) ? 0 : random_process(s, PROCESSES) + 9;
+    else if (way == 1) o->labels |= (uint64_t)1 << (8 * o->k + below(s, 64 - 8 * (unsigned)o->k));
+    else o->length = spoiled_rule(s, shape.k, o->text);
+}
+
+/* An accepted one begins anew: in a window of junk, or in the one that it has. */
+uint64_t open_sharer(struct run *r, struct source *s, unsigned i, const struct opening *o, uint64_t number) {
+    struct sharer *w = &r->sharer[i];
+    struct twin *t = &w->twin;
+    size_t length = w->open ? t->window_length : wide_form.frontier * o->room;
+    if (!w->open) fill_junk(s, t->window_bytes, length);
+    if (!w->open) twin_lend(t, s, wide_form.record, length);
+    uint64_t reply = twin_shared_open(t, &r->pool, o->text, o->length, o->k, o->labels, number);
+    if (reply % 256 != 0) return reply;
+    memset(t->window_bytes + length, 0, WINDOW_MOST - length);
+    w->open = true;
+    w->next = 0;
+    w->pool_full = false;
+    w->execution = o->execution;
+    return reply;
+}
+
+static void try_open(struct source *s, struct run *r, unsigned i, bool refused) {
+    struct opening o;
+    random_opening(s, &o, refused);
+    open_sharer(r, s, i, &o, i);
+}
+
+/* ---- calls that are refused for what they are lent ---- */
+
+/* A word that is no number with a share: not below 8, of which only some bits are, or of an unused place. */
+static uint64_t wrong_number(struct source *s, const struct run *r, unsigned i) {
+    static const unsigned widths[] = {3, 8, 16, 32, 63};
+    switch (below(s, 4)) {
+    case 0: return SHARES + below(s, 3);
+    case 1: return chance(s, 50) ? UINT64_MAX - below(s, 3) : ((uint64_t)1 << 32) * between(s, 1, 5);
+    case 2: if (r->n < SHARES) return between(s, r->n, SHARES - 1); /* else as below */
+    /* fall through */
+    default: return i + ((uint64_t)1 << widths[below(s, 5)]);
+    }
+}
+
+/* Any of open, take and close, with lengths of which some are wrong, or a number that is, or both. */
+static void refused_shared(struct source *s, struct run *r, unsigned i) {
+    struct twin *t = &r->sharer[i].twin;
+    size_t window = t->window_length, scratch = window;
+    bool lengths = chance(s, 60);
+    uint64_t number = lengths && chance(s, 70) ? i : wrong_number(s, r, i);
+    unsigned wrong = lengths ? between(s, 1, 15) : 0, call = below(s, 4);
+    if (call >= 2) wrong &= 11; /* these are lent no scratch */
+    if (lengths && wrong == 0) wrong = 8;
+    size_t record = wrong & 1 ? wrong_record(s, &wide_form) : wide_form.record;
+    size_t lent = wrong & 2 ? wrong_window(s, &wide_form, window) : window;
+    scratch = wrong & 4 ? wide_form.frontier * between(s, 1, 9) + below(s, 2) : lent;
+    if (wrong == 4 && scratch == lent) scratch++;
+    twin_lend(t, s, record, lent);
+    pool_lend(&r->pool, s, wrong & 8 ? wrong_pool(s) : POOL);
+    if (call < 2) twin_shared_take(t, &r->pool, s, scratch, number);
+    if (call == 2) twin_shared_close(t, &r->pool, random_process(s, t->model.k), number);
+    if (call == 3) {
+        struct opening o;
+        random_opening(s, &o, chance(s, 50));
+        twin_shared_open(t, &r->pool, o.text, o.length, o.k, o.labels, number);
+    }
+    twin_lend(t, s, wide_form.record, window);
+    pool_lend(&r->pool, s, POOL);
+}
+
+/* ---- what makes a pool stale ---- */
+
+/* A plain call on a watch that shares, or a shared one with another's number. */
+static void make_stale(struct source *s, struct run *r, unsigned i) {
+    struct twin *t = &r->sharer[i].twin;
+    uint64_t other = below(s, r->n), process = random_process(s, t->model.k);
+    if (other != i) tally_sharing(ANOTHERS_NUMBER);
+    switch (below(s, 6)) {
+    case 0: twin_take(t, s, t->window_length); break;
+    case 1: twin_close(t, process); break;
+    case 2: twin_shared_take(t, &r->pool, s, t->window_length, other); break;
+    case 3: twin_shared_close(t, &r->pool, process, other); break;
+    default: break;
+    }
+}
+
+/* Numbers of any size, shares too: more than 1,024 in all, more kept than there is, as much as two bytes hold. */
+static void junk_pool(struct source *s, struct run *r) {
+    static const unsigned often[] = {0, 1, 2, 5, 255, 256, 1023, 1024, 1025, 32768, 65534, 65535};
+    bool shares = chance(s, 25);
+    for (unsigned i = 0; i < 2 * SHARES; i++) {
+        unsigned value = chance(s, 50) ? often[below(s, 12)] : below(s, chance(s, 50) ? 30 : 65536);
+        if ((i < SHARES && !shares) || chance(s, 60)) continue;
+        r->pool.bytes[2 * i] = (uint8_t)value, r->pool.bytes[2 * i + 1] = (uint8_t)(value >> 8);
+    }
+    pool_lend(&r->pool, s, POOL);
+}
+
+/* Back to the shares, with numbers as they are or small ones. */
+static void mend_pool(struct source *s, struct run *r) {
+    for (unsigned i = 0; i < SHARES; i++) {
+        unsigned share = i < r->n ? r->shares[i] : 0, kept_frontiers = i < r->n ? below(s, 12) : 0;
+        if (r->sharer[i].open && chance(s, 50)) kept_frontiers = get_kept(r->sharer[i].twin.record_bytes);
+        r->pool.bytes[2 * i] = (uint8_t)share, r->pool.bytes[2 * i + 1] = (uint8_t)(share >> 8);
+        r->pool.bytes[16 + 2 * i] = (uint8_t)kept_frontiers, r->pool.bytes[17 + 2 * i] = (uint8_t)(kept_frontiers >> 8);
+    }
+    pool_lend(&r->pool, s, POOL);
+}
+
+/* ---- steps ---- */
+
+static void take_step(struct source *s, struct run *r, unsigned i, bool strict) {
+    struct sharer *w = &r->sharer[i];
+    struct twin *t = &w->twin;
+    uint64_t reply = twin_shared_take(t, &r->pool, s, t->window_length, i);
+    if (strict && w->pool_full && reply != 0 && reply % 256 == 0) tally_sharing(FITS_LATER);
+    w->pool_full = reply == 36 && lent_would_do(t);
+    if (reply == 36 && twin_room(t) < ROOM && chance(s, 40)) {
+        size_t longer = twin_room(t) + between(s, 1, 30);
+        twin_lend(t, s, wide_form.record, wide_form.frontier * (longer < ROOM ? longer : ROOM));
+    }
+}
+
+static void offer_step(struct source *s, struct sharer *w) {
+    const struct execution *x = &w->execution;
+    unsigned k = w->twin.model.k;
+    if (x->n > 0 && chance(s, 15)) offer_forgetful(s, &w->twin, x);
+    else if (chance(s, 8)) twin_offer(&w->twin, random_sent(s, k, wide_form.most));
+    else if (w->next < x->n) twin_offer(&w->twin, x->event[w->next++]);
+    else if (x->n > 0) twin_offer(&w->twin, x->event[below(s, x->n)]);
+    w->pool_full = false;
+}
+
+static void close_step(struct source *s, struct run *r, unsigned i) {
+    struct sharer *w = &r->sharer[i];
+    uint64_t finished = finished_process(s, &w->twin, &w->execution), any = random_process(s, w->twin.model.k);
+    twin_shared_close(&w->twin, &r->pool, chance(s, 50) ? finished : any, i);
+    w->pool_full = false;
+}
+
+/* Some other watch waits for frontiers, and this one is above its share. */
+static bool in_the_way(const struct run *r, unsigned i) {
+    const struct sharer *w = &r->sharer[i];
+    if (!w->open || get_kept(w->twin.record_bytes) <= r->shares[i]) return false;
+    for (unsigned j = 0; j < r->n; j++)
+        if (j != i && r->sharer[j].pool_full) return true;
+    return false;
+}
+
+void run_step(struct run *r, struct source *s, unsigned i, bool strict) {
+    struct sharer *w = &r->sharer[i];
+    struct twin *t = &w->twin;
+    unsigned action = below(s, 100);
+    if (!strict && chance(s, 12)) {
+        if (chance(s, 40)) junk_pool(s, r);
+        else mend_pool(s, r);
+    }
+    if (!w->open) try_open(s, r, i, chance(s, 15));
+    else if (!strict && chance(s, 10)) make_stale(s, r, i);
+    else if (in_the_way(r, i) && chance(s, 30)) {
+        if (chance(s, 50)) close_step(s, r, i);
+        else try_open(s, r, i, false);
+    } else if (w->pool_full && chance(s, 60)) take_step(s, r, i, strict);
+    else if (action < 38) offer_step(s, w);
+    else if (action < 76) take_step(s, r, i, strict);
+    else if (action < 82) close_step(s, r, i);
+    else if (action < 85) twin_find(t, below(s, t->model.rule.lines + 1));
+    else if (action < 87 && can_print(t->form)) twin_page(t, s, random_page(s, get_kept(t->record_bytes)));
+    else if (action < 90) try_open(s, r, i, chance(s, 60));
+    else refused_shared(s, r, i);
+    if (strict) check_run(r);
+}
+
+void try_shares(struct source *s, struct twin *t) {
+    static struct run *r;
+    uint16_t shares[SHARES];
+    if (!can_share()) return;
+    if (r == NULL) r = run_new();
+    unsigned n = random_shares(s, shares);
+    bool strict = WATCHES || chance(s, 60);
+    run_begins(r, s, t, shares, n);
+    for (unsigned steps = between(s, 10, 40) + 16 * n; steps > 0; steps--) run_step(r, s, below(s, n), strict);
+    for (unsigned i = 0; i < SHARES; i++) {
+        t->calls += r->sharer[i].twin.calls;
+        r->sharer[i].twin.calls = 0;
+    }
+}
