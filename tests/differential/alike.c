@@ -94,9 +94,9 @@ static bool passes_share(const struct run *r, unsigned i) {
 /* The two runs side by side. Of others that are busy and others that are not one can tell the most. */
 static void go(struct source *s, struct run *a, struct run *b, unsigned i, const struct opening *o) {
     struct source first = {draw(s)}, second = {draw(s)};
-    unsigned busy_a = below(s, 6), busy_b = chance(s, 40) ? 0 : below(s, 6), next = 0;
+    unsigned busy_a = below(s, 6), busy_b = chance(s, 60) ? 0 : below(s, 6), next = 0;
     note("the others, first run\n");
-    if (chance(s, 60)) others_go_on(a, &first, i, 20 * a->n);
+    if (chance(s, 80)) others_go_on(a, &first, i, 20 * a->n);
     for (unsigned n = between(s, 10, CALLS_MOST); n > 0; n--) {
         struct own_call c;
         random_own(s, &c, o, &next);

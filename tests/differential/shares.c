@@ -198,11 +198,14 @@ static void take_step(struct source *s, struct run *r, unsigned i, bool strict) 
     }
 }
 
-static void offer_step(struct source *s, struct sharer *w) {
+static void offer_step(struct source *s, struct run *r, unsigned i, bool strict) {
+    struct sharer *w = &r->sharer[i];
     const struct execution *x = &w->execution;
     unsigned k = w->twin.model.k;
-    if (x->n > 0 && chance(s, 15)) offer_forgetful(s, &w->twin, x);
-    else if (chance(s, 8)) twin_offer(&w->twin, random_sent(s, k, wide_form.most));
+    if (x->n > 0 && chance(s, 15)) {
+        offer_forgetful(s, &w->twin, x);
+        if (chance(s, 60)) take_step(s, r, i, strict);
+    } else if (chance(s, 8)) twin_offer(&w->twin, random_sent(s, k, wide_form.most));
     else if (w->next < x->n) twin_offer(&w->twin, x->event[w->next++]);
     else if (x->n > 0) twin_offer(&w->twin, x->event[below(s, x->n)]);
     w->pool_full = false;
@@ -228,7 +231,7 @@ void run_step(struct run *r, struct source *s, unsigned i, bool strict) {
     struct sharer *w = &r->sharer[i];
     struct twin *t = &w->twin;
     unsigned action = below(s, 100);
-    if (!strict && chance(s, 12)) {
+    if (!strict && chance(s, 25)) {
         if (chance(s, 40)) junk_pool(s, r);
         else mend_pool(s, r);
     }
@@ -238,7 +241,7 @@ void run_step(struct run *r, struct source *s, unsigned i, bool strict) {
         if (chance(s, 50)) close_step(s, r, i);
         else try_open(s, r, i, false);
     } else if (w->pool_full && chance(s, 60)) take_step(s, r, i, strict);
-    else if (action < 38) offer_step(s, w);
+    else if (action < 38) offer_step(s, r, i, strict);
     else if (action < 76) take_step(s, r, i, strict);
     else if (action < 82) close_step(s, r, i);
     else if (action < 85) twin_find(t, below(s, t->model.rule.lines + 1));
@@ -254,7 +257,7 @@ void try_shares(struct source *s, struct twin *t) {
     if (!can_share()) return;
     if (r == NULL) r = run_new();
     unsigned n = random_shares(s, shares);
-    bool strict = WATCHES || chance(s, 60);
+    bool strict = WATCHES || chance(s, 50);
     run_begins(r, s, t, shares, n);
     for (unsigned steps = between(s, 10, 40) + 16 * n; steps > 0; steps--) run_step(r, s, below(s, n), strict);
     for (unsigned i = 0; i < SHARES; i++) {
