@@ -13,7 +13,10 @@ static void check_brought_up(void) {
     lay_kept(2, 77); /* nothing ready is no refusal */
     CHECK_REPLY(shared_take(s, 2), NOTHING_READY);
     CHECK(watch32_share_kept(pool.bytes, 2) == 3);
-    lay_kept(2, 0xffff);
+    lay_kept(2, 0);
+    CHECK_REPLY(shared_take(s, 2), NOTHING_READY);
+    CHECK(watch32_share_kept(pool.bytes, 2) == 3);
+    lay_kept(2, 2);
     CHECK_REPLY(shared_close(s, 1, 2), closed(3)); /* drops nothing */
     CHECK(watch32_share_kept(pool.bytes, 2) == 3);
     lay_kept(2, 0x0103);
@@ -30,14 +33,14 @@ static void check_left(void) {
     CHECK_REPLY(SET(2, 1022), 0);
     open_number(0, 9);
     grow(0, 2);
-    lay_kept(0, 1);
+    lay_kept(0, 6);
     CHECK_REPLY(next_take(0), refused(36));
     CHECK_REPLY(shared_close(s, 1, 0), refused(42));
     CHECK_REPLY(shared_close(s, 2, 0), refused(41));
     CHECK_REPLY(shared_open(s, RULE, 9, 0, 0), refused(5));
     CHECK_REPLY(shared_open(s, RULE, 2, (uint64_t)1 << 63, 0), refused(9));
     CHECK_REPLY(shared_open(s, "(at 9 0)", 2, 0, 0), refused_at(4, 4));
-    CHECK(watch32_share_kept(pool.bytes, 0) == 1);
+    CHECK(watch32_share_kept(pool.bytes, 0) == 6);
     open_number(0, 9);
     grow(0, 2);
     offer(s, 1, 1, 1, 0, 0, 0);
@@ -224,7 +227,6 @@ static void check_plain(void) {
 
 void test_pool(void) {
     sharers_new();
-    lend_pool(POOL);
     check_brought_up();
     check_left();
     check_unpromised();

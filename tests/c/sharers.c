@@ -6,7 +6,8 @@ struct subject sharers[SHARERS];
 static struct lent list;
 
 void sharers_new(void) {
-    pool = lent_new(2 * POOL), list = lent_new(2 * POOL);
+    pool = lent_new(2 * POOL), list = lent_new(2 * LIST_MOST);
+    lend_pool(POOL);
     for (unsigned i = 0; i < SHARERS; i++) sharers[i] = subject_wide();
 }
 

@@ -9,7 +9,7 @@
 
 #define RULE "(ep (at 0 0))"
 
-enum { POOL = 32, SHARERS = 8 };
+enum { POOL = 32, SHARERS = 8, LIST_MOST = 65544 };
 
 extern struct lent pool;
 extern struct subject sharers[SHARERS];
@@ -24,6 +24,7 @@ void lend_pool(size_t length);
 void lay_share(unsigned number, unsigned share);
 void lay_kept(unsigned number, unsigned kept);
 
+/* At most LIST_MOST shares. */
 uint64_t set(const uint16_t *shares, size_t n);
 #define SET(...) set((const uint16_t[]){__VA_ARGS__}, sizeof((const uint16_t[]){__VA_ARGS__}) / sizeof(uint16_t))
 

@@ -7,7 +7,6 @@
 static void check_bytes(void) {
     static const uint8_t three[POOL] = {0x2c, 0x01, 0x02, 0x00, 0x02, 0x01};
     CHECK(WATCH32_POOL_BYTES == 32 && WATCH32_SHARES == 8 && WATCH_BAD_SHARES == 49);
-    lend_pool(POOL);
     memset(pool.bytes, 0xee, POOL);
     CHECK_REPLY(SET(300, 2, 258), 0);
     CHECK(memcmp(pool.bytes, three, POOL) == 0);
@@ -44,6 +43,14 @@ static void check_bad_shares(void) {
     CHECK_REPLY(SET(1025), refused(49));
     CHECK_REPLY(SET(65535), refused(49));
     CHECK_REPLY(SET(1, 0, 0, 0, 0, 0, 0, 0), refused(49));
+}
+
+/* So many shares that a part of the number's bits says one or eight. */
+static void check_many(void) {
+    static const size_t numbers[] = {9, 16, 255, 256, 257, 264, 1024, 65536, 65537, LIST_MOST};
+    static uint16_t ones[LIST_MOST];
+    for (size_t i = 0; i < LIST_MOST; i++) ones[i] = 1;
+    for (size_t i = 0; i < sizeof numbers / sizeof numbers[0]; i++) CHECK_REPLY(set(ones, numbers[i]), refused(49));
 }
 
 /* Sums that are small in 16 bits. */
@@ -106,12 +113,19 @@ static void check_order(void) {
     CHECK_REPLY(shared_open(s, RULE, 2, (uint64_t)1 << 63, 0), refused(9));
     CHECK_REPLY(shared_open(s, "(", 2, 0, 0), refused_at(1, 1));
     CHECK_REPLY(shared_close(s, 7, 1), refused(34));
+    CHECK_REPLY(shared_close(s, UINT64_MAX, 1), refused(34));
     CHECK_REPLY(shared_close(s, 0, 1), refused(34));
     CHECK_REPLY(shared_close(s, 7, 0), refused(41));
+    CHECK_REPLY(shared_close(s, UINT64_MAX, 0), refused(41));
     CHECK_REPLY(shared_close(s, 0, 0), refused(42));
-    s->record.bytes[0] = 9; /* the record's own 34, before 41 */
+    s->record.bytes[0] = 9; /* the record's own 34, before 41; a stale number stays with it */
+    lay_kept(0, 7);
     CHECK_REPLY(shared_close(s, 7, 0), refused(34));
     CHECK_REPLY(shared_take(s, 0), refused(34));
+    lend_pool(31);
+    CHECK_REPLY(shared_close(s, 7, 0), refused(6));
+    CHECK_REPLY(shared_take(s, 0), refused(6));
+    lend_pool(POOL);
     CHECK_REPLY(shared_open(s, RULE, 2, 0, 0), state(0, 1)); /* which open does not look at */
 }
 
@@ -153,6 +167,7 @@ void test_shares(void) {
     sharers_new();
     check_bytes();
     check_bad_shares();
+    check_many();
     check_large_sums();
     check_set_lengths();
     check_numbers();

@@ -151,7 +151,7 @@ static void lend_any(struct source *s, const struct twin *t, struct bytes *b) {
     memcpy(record, t->record_bytes, wide_form.record);
     memcpy(window, t->window_bytes, length < t->window_length ? length : t->window_length);
     struct laid laid = {&wide_form, record, window, (unsigned)room};
-    if (!WATCHES && chance(s, 70)) damage(s, &laid);
+    if (chance(s, 70)) damage(s, &laid);
     lay_pool(s, pool);
     lend(&b->record, chance(s, 96) ? wide_form.record : wrong_record(s, &wide_form), before_end(s));
     lend(&b->window, chance(s, 96) ? length : wrong_window(s, &wide_form, length), before_end(s));
@@ -191,6 +191,7 @@ void try_pools(struct source *s, struct twin *t) {
     struct shape shape = {.k = between(s, 1, 8), .most = 300, .joint = 30};
     if (!can_share()) return;
     try_settings(s, t);
+    if (WATCHES) return;
     shape.n = between(s, 1, 10);
     shape.messages = random_messages(s);
     start_of_form(s, t, &wide_form, shape.k, between(s, 1, 60));
