@@ -17,7 +17,7 @@ struct own_call {
     struct source source;
 };
 
-/* It is opened with a long window mostly, so that nothing but its share is in the way. */
+/* Its events and takes, now and then a call that is refused, seldom an open anew. */
 static void random_own(struct source *s, struct own_call *c, const struct opening *o, unsigned *next) {
     const struct execution *x = &o->execution;
     unsigned action = below(s, 100), k = (unsigned)o->k;
@@ -113,8 +113,20 @@ static void go(struct source *s, struct run *a, struct run *b, unsigned i, const
         if (last) return;
         compare_replies(reply, other);
         compare_own(a, b, i, &c);
+        if (memcmp(a->pool.bytes, b->pool.bytes, POOL) != 0) tally_sharing(ALIKE);
         if (c.kind == OWN_OPEN) next = 0;
     }
+}
+
+/* A larger share for the one, so that it comes far within it; what is unpromised stays as it is, if it was little. */
+static void raise_share(struct source *s, uint16_t *shares, unsigned n, unsigned own) {
+    uint16_t more = (uint16_t)between(s, 4, 40);
+    unsigned largest = own;
+    for (unsigned i = 0; i < n; i++)
+        if (shares[i] > shares[largest]) largest = i;
+    if (largest == own) return;
+    if (shares[largest] > 2 * more) shares[largest] -= more;
+    shares[own] += more;
 }
 
 void try_alike(struct source *s, struct twin *t) {
@@ -125,7 +137,7 @@ void try_alike(struct source *s, struct twin *t) {
     if (a == NULL) a = run_new(), b = run_new();
     unsigned n = random_shares(s, shares), own = below(s, n);
     random_opening(s, &o, false);
-    if (chance(s, 50)) shares[own] = (uint16_t)(shares[own] < 1000 ? shares[own] : 1000);
+    if (chance(s, 50)) raise_share(s, shares, n, own);
     run_begins(a, s, t, shares, n);
     run_begins(b, s, t, shares, n);
     go(s, a, b, own, &o);

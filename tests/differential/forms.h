@@ -77,6 +77,7 @@ enum sharing {
     STALE_35, STALE_36, STALE_CLOSE, STALE_OPEN, /* a refusal leaves a stale number */
     NUMBER_BEYOND, NUMBER_UNUSED,                /* 34: not below 8; without a share */
     ANOTHERS_NUMBER, /* a call that is lent the number of another watch */
+    ALIKE,           /* a call of a watch, the same beside other calls of the others */
     NOT_ALIKE,       /* a take that would pass the share, and is answered otherwise beside other calls of the others */
     SHARINGS
 };
