@@ -171,39 +171,49 @@ static void check_any_pool(void) {
 
 /* ---- what others do ---- */
 
-enum { OWN_CALLS = 12 };
+/* What a call of watch 1 answered, and all bytes of its own afterwards, those of the pool too. */
+struct own {
+    uint64_t reply;
+    uint8_t record[WATCH32_RECORD_BYTES], window[WATCH32_WINDOW_BYTES(8)], share[2], kept[2];
+};
+enum { OWN_CALLS = 10 };
 
-/* Watch 1's own calls, none a take that would pass its share of 4: what each answered, and all bytes of its own after
- * each, those of the pool too. */
-static void own_calls(int others, uint64_t *replies, uint8_t *bytes) {
+/* Its calls, none a take that would pass its share of 4: three events, one of them sent again, and a close. */
+static uint64_t own_call(struct subject *s, unsigned i) {
+    static const unsigned offered[] = {1, 2, 3, 3};
+    if (i == 8) return shared_close(s, 0, 1);
+    return i % 2 == 0 && i < 8 ? offer(s, 2, 0, offered[i / 2], 0, 0, 0) : shared_take(s, 1);
+}
+
+/* Beside others that do nothing (0); beside one that grows until nothing unpromised is left (1); beside one that has
+ * all of it at once, gives it back, and another that is opened then (2). */
+static void run_beside(int others, struct own *own) {
     struct subject *s = &sharers[1];
     CHECK_REPLY(SET(6, 4, 1000), 0);
-    if (others >= 1) open_number(0, 1024);
+    if (others > 0) open_number(0, 1024);
     open_number(1, 8);
     for (unsigned i = 0; i < OWN_CALLS; i++) {
-        if (others == 1) grow(0, i < 10 ? 6 + i : 16);
-        if (others == 2 && i == 3) grow(0, 6 + 14);
-        if (others == 2 && i == 6) shrink(0);
+        if (others == 1) grow(0, 6 + 2 * i < 20 ? 6 + 2 * i : 20);
+        if (others == 2 && i == 1) check_most(0, 6 + 14);
+        if (others == 2 && i == 6) CHECK_REPLY(shared_open(&sharers[0], RULE, 2, 0, 0), state(0, 1));
         if (others == 2 && i == 7) open_number(2, 1024), grow(2, 50);
-        if (i % 2 == 0 && i < 8) replies[i] = offer(s, 2, 0, i / 2 + (i < 6), 0, 0, 0);
-        else if (i == 8) replies[i] = shared_close(s, 0, 1);
-        else replies[i] = shared_take(s, 1);
-        memcpy(bytes + 4096 * i, s->record.bytes, WATCH32_RECORD_BYTES);
-        memcpy(bytes + 4096 * i + 2024, s->window.bytes, WATCH32_WINDOW_BYTES(8));
-        memcpy(bytes + 4096 * i + 2024 + 448, pool.bytes + 2, 2), memcpy(bytes + 4096 * i + 2474, pool.bytes + 18, 2);
+        own[i].reply = own_call(s, i);
+        memcpy(own[i].record, s->record.bytes, sizeof own[i].record);
+        memcpy(own[i].window, s->window.bytes, sizeof own[i].window);
+        memcpy(own[i].share, pool.bytes + 2, 2), memcpy(own[i].kept, pool.bytes + 18, 2);
     }
 }
 
 static void check_alike(void) {
-    static uint8_t alone[4096 * OWN_CALLS], beside[4096 * OWN_CALLS];
-    uint64_t replies[OWN_CALLS], others[OWN_CALLS];
-    own_calls(0, replies, alone);
-    CHECK_REPLY(replies[1], state(0, 2));
-    CHECK_REPLY(replies[5], state(0, 4));
-    CHECK_REPLY(replies[8], closed(1));
-    for (int way = 1; way <= 2; way++) {
-        own_calls(way, others, beside);
-        CHECK(memcmp(replies, others, sizeof replies) == 0 && memcmp(alone, beside, sizeof alone) == 0);
+    static struct own alone[OWN_CALLS], beside[OWN_CALLS];
+    run_beside(0, alone);
+    CHECK_REPLY(alone[1].reply, state(0, 2));
+    CHECK_REPLY(alone[5].reply, state(0, 4));
+    CHECK_REPLY(alone[6].reply, refused(31));
+    CHECK_REPLY(alone[8].reply, closed(1));
+    for (int others = 1; others <= 2; others++) {
+        run_beside(others, beside);
+        CHECK(memcmp(alone, beside, sizeof alone) == 0);
     }
 }
 

@@ -153,10 +153,14 @@ static void lend_any(struct source *s, const struct twin *t, struct bytes *b) {
     struct laid laid = {&wide_form, record, window, (unsigned)room};
     if (chance(s, 70)) damage(s, &laid);
     lay_pool(s, pool);
-    lend(&b->record, chance(s, 96) ? wide_form.record : wrong_record(s, &wide_form), before_end(s));
-    lend(&b->window, chance(s, 96) ? length : wrong_window(s, &wide_form, length), before_end(s));
-    lend(&b->scratch, chance(s, 96) ? b->window.length : length + 1, before_end(s));
-    lend(&b->pool, chance(s, 92) ? POOL : wrong_pool(s), before_end(s));
+    size_t record_length = chance(s, 96) ? wide_form.record : wrong_record(s, &wide_form);
+    size_t window_length = chance(s, 96) ? length : wrong_window(s, &wide_form, length);
+    size_t scratch_length = chance(s, 96) ? window_length : length + 1;
+    size_t pool_length = chance(s, 92) ? POOL : wrong_pool(s);
+    lend(&b->record, record_length, before_end(s));
+    lend(&b->window, window_length, before_end(s));
+    lend(&b->scratch, scratch_length, before_end(s));
+    lend(&b->pool, pool_length, before_end(s));
     memcpy(b->record.bytes, record, b->record.length < sizeof record ? b->record.length : sizeof record);
     memcpy(b->window.bytes, window, b->window.length);
     memcpy(b->pool.bytes, pool, b->pool.length);

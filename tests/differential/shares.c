@@ -77,25 +77,31 @@ void random_opening(struct source *s, struct opening *o, bool refused) {
     if (chance(s, 40)) shuffle(s, o->execution.event, o->execution.n, chance(s, 30));
     if (!refused) return;
     unsigned way = below(s, 4);
+    if (way == 1 && shape.k == PROCESSES) way = 0;
     if (way == 0) o->k = chance(s, 50) ? 0 : random_process(s, PROCESSES) + 9;
     else if (way == 1) o->labels |= (uint64_t)1 << (8 * o->k + below(s, 64 - 8 * (unsigned)o->k));
     else o->length = spoiled_rule(s, shape.k, o->text);
+}
+
+static void sharer_begins(struct sharer *w, const struct opening *o) {
+    struct twin *t = &w->twin;
+    memset(t->window_bytes + t->window_length, 0, WINDOW_MOST - t->window_length);
+    w->open = true;
+    w->next = 0;
+    w->pool_full = false;
+    w->execution = o->execution;
 }
 
 /* An accepted one begins anew: in a window of junk, or in the one that it has. */
 uint64_t open_sharer(struct run *r, struct source *s, unsigned i, const struct opening *o, uint64_t number) {
     struct sharer *w = &r->sharer[i];
     struct twin *t = &w->twin;
-    size_t length = w->open ? t->window_length : wide_form.frontier * o->room;
-    if (!w->open) fill_junk(s, t->window_bytes, length);
-    if (!w->open) twin_lend(t, s, wide_form.record, length);
+    if (!w->open) {
+        fill_junk(s, t->window_bytes, wide_form.frontier * o->room);
+        twin_lend(t, s, wide_form.record, wide_form.frontier * o->room);
+    }
     uint64_t reply = twin_shared_open(t, &r->pool, o->text, o->length, o->k, o->labels, number);
-    if (reply % 256 != 0) return reply;
-    memset(t->window_bytes + length, 0, WINDOW_MOST - length);
-    w->open = true;
-    w->next = 0;
-    w->pool_full = false;
-    w->execution = o->execution;
+    if (reply % 256 == 0) sharer_begins(w, o);
     return reply;
 }
 
@@ -119,22 +125,32 @@ static uint64_t wrong_number(struct source *s, const struct run *r, unsigned i) 
     }
 }
 
-/* Any of open, take and close, with lengths of which some are wrong, or a number that is, or both. */
+/* One of the lengths is wrong or more. Beside another wrong one, the window may be too short for what is kept. */
+static struct lengths choose_wrong(struct source *s, const struct twin *t, bool take, size_t *pool) {
+    unsigned wrong = between(s, 1, take ? 15 : 7), kept_frontiers = get_kept(t->record_bytes);
+    struct lengths l = {wide_form.record, t->window_length, 0};
+    size_t off = below(s, 2), others = wide_form.frontier * between(s, 1, 9);
+    *pool = wrong & 1 ? wrong_pool(s) : POOL;
+    if (wrong & 2) l.record = wrong_record(s, &wide_form);
+    if (wrong & 4) l.window = wrong_window(s, &wide_form, l.window);
+    else if (kept_frontiers > 1 && chance(s, 20)) l.window = wide_form.frontier * between(s, 1, kept_frontiers - 1);
+    l.scratch = wrong & 8 ? others + off : l.window;
+    if (wrong == 8 && l.scratch == l.window) l.scratch++;
+    return l;
+}
+
+/* Any of open, take and close, with lengths that are wrong, or a number that is, or both. */
 static void refused_shared(struct source *s, struct run *r, unsigned i) {
     struct twin *t = &r->sharer[i].twin;
-    size_t window = t->window_length, scratch = window;
+    size_t window = t->window_length, pool = POOL;
     bool lengths = chance(s, 60);
     uint64_t number = lengths && chance(s, 70) ? i : wrong_number(s, r, i);
-    unsigned wrong = lengths ? between(s, 1, 15) : 0, call = below(s, 4);
-    if (call >= 2) wrong &= 11; /* these are lent no scratch */
-    if (lengths && wrong == 0) wrong = 8;
-    size_t record = wrong & 1 ? wrong_record(s, &wide_form) : wide_form.record;
-    size_t lent = wrong & 2 ? wrong_window(s, &wide_form, window) : window;
-    scratch = wrong & 4 ? wide_form.frontier * between(s, 1, 9) + below(s, 2) : lent;
-    if (wrong == 4 && scratch == lent) scratch++;
-    twin_lend(t, s, record, lent);
-    pool_lend(&r->pool, s, wrong & 8 ? wrong_pool(s) : POOL);
-    if (call < 2) twin_shared_take(t, &r->pool, s, scratch, number);
+    unsigned call = below(s, 4);
+    struct lengths l = {wide_form.record, window, window};
+    if (lengths) l = choose_wrong(s, t, call < 2, &pool);
+    twin_lend(t, s, l.record, l.window);
+    pool_lend(&r->pool, s, pool);
+    if (call < 2) twin_shared_take(t, &r->pool, s, l.scratch, number);
     if (call == 2) twin_shared_close(t, &r->pool, random_process(s, t->model.k), number);
     if (call == 3) {
         struct opening o;
@@ -145,19 +161,36 @@ static void refused_shared(struct source *s, struct run *r, unsigned i) {
     pool_lend(&r->pool, s, POOL);
 }
 
+/* A take or close that is lent a window of a right length, but too short for what is kept. */
+static void short_window(struct source *s, struct run *r, unsigned i) {
+    struct twin *t = &r->sharer[i].twin;
+    size_t window = t->window_length;
+    unsigned kept_frontiers = get_kept(t->record_bytes);
+    if (kept_frontiers < 2) return;
+    twin_lend(t, s, wide_form.record, wide_form.frontier * between(s, 1, kept_frontiers - 1));
+    if (chance(s, 70)) twin_shared_take(t, &r->pool, s, t->window_length, i);
+    else twin_shared_close(t, &r->pool, random_process(s, t->model.k), i);
+    twin_lend(t, s, wide_form.record, window);
+}
+
 /* ---- what makes a pool stale ---- */
 
 /* A plain call on a watch that shares, or a shared one with another's number. */
 static void make_stale(struct source *s, struct run *r, unsigned i) {
-    struct twin *t = &r->sharer[i].twin;
+    struct sharer *w = &r->sharer[i];
+    struct twin *t = &w->twin;
     uint64_t other = below(s, r->n), process = random_process(s, t->model.k);
-    if (other != i) tally_sharing(ANOTHERS_NUMBER);
-    switch (below(s, 6)) {
-    case 0: twin_take(t, s, t->window_length); break;
-    case 1: twin_close(t, process); break;
-    case 2: twin_shared_take(t, &r->pool, s, t->window_length, other); break;
-    case 3: twin_shared_close(t, &r->pool, process, other); break;
-    default: break;
+    unsigned way = below(s, 8);
+    struct opening o;
+    if (way >= 6) random_opening(s, &o, chance(s, 20));
+    if (other != i && way % 2 == 1) tally_sharing(ANOTHERS_NUMBER);
+    switch (way) {
+    case 0: case 2: twin_take(t, s, t->window_length); break;
+    case 1: case 3: twin_shared_take(t, &r->pool, s, t->window_length, other); break;
+    case 4: twin_close(t, process); break;
+    case 5: twin_shared_close(t, &r->pool, process, other); break;
+    case 6: if (twin_open(t, o.text, o.length, o.k, o.labels) % 256 == 0) sharer_begins(w, &o); break;
+    default: open_sharer(r, s, i, &o, other);
     }
 }
 
@@ -247,6 +280,7 @@ void run_step(struct run *r, struct source *s, unsigned i, bool strict) {
     else if (action < 85) twin_find(t, below(s, t->model.rule.lines + 1));
     else if (action < 87 && can_print(t->form)) twin_page(t, s, random_page(s, get_kept(t->record_bytes)));
     else if (action < 90) try_open(s, r, i, chance(s, 60));
+    else if (action < 92) short_window(s, r, i);
     else refused_shared(s, r, i);
     if (strict) check_run(r);
 }
