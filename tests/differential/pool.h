@@ -46,8 +46,11 @@ struct run *run_new(void);
 void run_begins(struct run *r, struct source *s, struct twin *t, const uint16_t *shares, unsigned n);
 unsigned random_shares(struct source *s, uint16_t *shares); /* that are not refused; returns how many */
 
+/* By the library's own bytes: the kept numbers are the records', and what is kept or promised is no more than 1,024. */
+void run_check(const struct run *r);
+
 /* What a watch of a run does: mostly its next step, now and then a call that is refused. Strict: none that would make
- * the pool stale, and after each call the kept numbers are the records', and with the shares no more than 1,024. */
+ * the pool stale, and after each call the run is checked. */
 void run_step(struct run *r, struct source *s, unsigned i, bool strict);
 
 /* A rule and an execution for a watch that is opened with them. */
@@ -58,6 +61,7 @@ struct opening {
     struct execution execution;
 };
 void random_opening(struct source *s, struct opening *o, bool refused);
+void sharer_begins(struct sharer *w, const struct opening *o); /* it was opened so */
 uint64_t open_sharer(struct run *r, struct source *s, unsigned i, const struct opening *o, uint64_t number);
 
 #endif

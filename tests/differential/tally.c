@@ -81,7 +81,8 @@ static const char *const sharing_names[SHARINGS] = {
     "36 beside an idle share", "36 by the lent bytes alone", "fits after another keeps less",
     "nothing ready on a stale number", "35 on a stale number", "36 on a stale number",
     "refused close on a stale number", "refused open on a stale number", "a number not below 8",
-    "a number without a share", "another watch's number", "alike beside other calls", "answered otherwise beside other calls"};
+    "a number without a share", "another watch's number", "alike beside other calls",
+    "answered otherwise beside other calls"};
 static unsigned long shared[SHARINGS];
 
 void tally_sharing(enum sharing what) {
