@@ -169,6 +169,30 @@ static void check_any_pool(void) {
     CHECK_REPLY(next_take(0), refused(36));
 }
 
+/* Above what the pool allows by now, as no calls with one pool alone leave it. What keeps less may still be too much;
+ * an open, a close and a take of nothing ask for no frontiers. */
+static void check_above(void) {
+    struct subject *s = &sharers[0];
+    CHECK_REPLY(SET(3, 5, 1010), 0);
+    open_number(0, 1024);
+    grow(0, 9);
+    lay_kept(1, 5 + 6);
+    CHECK_REPLY(shared_take(s, 0), NOTHING_READY);
+    offer(s, 1, 1, 6, 0, 0, 0); /* it would keep (0 8), (1 6), (1 7), (1 8) */
+    CHECK_REPLY(shared_take(s, 0), refused(36));
+    lay_kept(1, 5 + 5);
+    CHECK_REPLY(shared_take(s, 0), state(0, 4));
+    open_number(0, 1024);
+    lay_kept(1, 0);
+    grow(0, 9);
+    lay_kept(1, 65535);
+    CHECK_REPLY(shared_close(s, 1, 0), closed(9));
+    CHECK_REPLY(shared_open(s, RULE, 2, 0, 0), state(0, 1));
+    CHECK_REPLY(SET(1, 1023), 0);
+    lay_kept(1, 65535);
+    open_number(0, 1);
+}
+
 /* ---- what others do ---- */
 
 /* What a call of watch 1 answered, and all bytes of its own afterwards, those of the pool too. */
@@ -246,6 +270,7 @@ void test_pool(void) {
     check_next_fits();
     check_full();
     check_any_pool();
+    check_above();
     check_alike();
     check_plain();
     sharers_free();
