@@ -67,7 +67,7 @@ bench: target/bench_calls
 	target/bench_calls
 
 PLAIN = bench/plain.c bench/plain_rule.c bench/plain_step.c bench/plain_wide.c bench/plain_step_wide.c \
-    bench/plain_page.c bench/plain_busiest.c
+    bench/plain_page.c bench/plain_busiest.c bench/plain_shares.c
 
 target/bench_calls: bench/calls.c $(PLAIN) bench/plain.h bench/plain_inner.h bench/plain_refused.h include/watch.h $(LIBRARY)
 	$(CC) -O2 -std=c11 -Wall -Wextra -Werror -pedantic bench/calls.c $(PLAIN) $(LIBRARY) -o $@

@@ -18,7 +18,8 @@
 
 enum { ROUNDS = 301, WINDOW = WATCH32_FRONTIER_BYTES * WATCH_ROOM };
 
-/* One side: its calls, its watch, where a move of it goes, its page, its list of events, a digest of its replies. */
+/* One side: its calls, its watch, where a move of it goes, its page, its list of events, the pool in which it is number
+ * 0, a digest of its replies. */
 struct side {
     uint64_t (*open)(const uint8_t *, size_t, uint64_t, uint64_t, uint8_t *, size_t, uint8_t *, size_t);
     uint64_t (*offer)(uint64_t, uint64_t, uint64_t, uint64_t, uint8_t *, size_t);
@@ -29,10 +30,16 @@ struct side {
     uint64_t (*move)(const uint8_t *, size_t, const uint8_t *, size_t, uint8_t *, size_t, uint8_t *, size_t);
     uint64_t (*page)(const uint8_t *, size_t, const uint8_t *, size_t, uint8_t *, size_t);
     uint64_t (*busiest)(uint64_t, uint64_t, uint8_t *, size_t);
+    uint64_t (*set_shares)(const uint16_t *, size_t, uint8_t *, size_t);
+    uint64_t (*shared_open)(const uint8_t *, size_t, uint64_t, uint64_t, uint8_t *, size_t, uint8_t *, size_t,
+                            uint8_t *, size_t, uint64_t);
+    uint64_t (*shared_take)(uint8_t *, size_t, uint8_t *, size_t, uint8_t *, size_t, uint8_t *, size_t, uint64_t);
+    uint64_t (*shared_close)(uint64_t, uint8_t *, size_t, uint8_t *, size_t, uint8_t *, size_t, uint64_t);
     uint8_t record[WATCH32_RECORD_BYTES], window[WINDOW], scratch[WINDOW];
     uint8_t to_record[WATCH32_RECORD_BYTES], to_window[WINDOW];
     uint8_t rows[WATCH32_PAGE_BYTES(WATCH_ROOM)];
     uint8_t events[WATCH32_EVENTS_BYTES(WATCH32_DAY_EVENTS)];
+    uint8_t pool[WATCH32_POOL_BYTES];
     uint64_t digest;
     double times[ROUNDS];
 };
@@ -43,7 +50,7 @@ static struct side proved, plain;
 static struct {
     bool wide; /* the form: of the record's bytes and of a frontier's */
     size_t record_length, frontier;
-    uint8_t record[WATCH32_RECORD_BYTES], window[WINDOW];
+    uint8_t record[WATCH32_RECORD_BYTES], window[WINDOW], pool[WATCH32_POOL_BYTES];
     size_t length; /* of the window that is lent */
     unsigned k;
     const char *rule;
@@ -63,6 +70,10 @@ static void choose_form(bool wide) {
     proved.move = wide ? watch_narrow : watch_widen, plain.move = wide ? plain32_move : plain_move;
     proved.page = watch32_page, plain.page = plain32_page;
     proved.busiest = watch32_busiest, plain.busiest = plain32_busiest;
+    proved.set_shares = watch32_set_shares, plain.set_shares = plain32_set_shares;
+    proved.shared_open = watch32_shared_open, plain.shared_open = plain32_shared_open;
+    proved.shared_take = watch32_shared_take, plain.shared_take = plain32_shared_take;
+    proved.shared_close = watch32_shared_close, plain.shared_close = plain32_shared_close;
 }
 
 /* The bytes of so many frontiers. */
@@ -117,6 +128,7 @@ typedef void work(struct side *s);
 static void start_over(struct side *s) {
     memcpy(s->record, saved.record, sizeof saved.record);
     memcpy(s->window, saved.window, saved.length);
+    memcpy(s->pool, saved.pool, sizeof saved.pool);
     s->digest = 0;
 }
 
@@ -144,7 +156,8 @@ static void compare_sides(const char *name) {
         memcmp(proved.to_record, plain.to_record, sizeof plain.to_record) == 0 &&
         memcmp(proved.to_window, plain.to_window, sizeof plain.to_window) == 0 &&
         memcmp(proved.rows, plain.rows, sizeof plain.rows) == 0 &&
-        memcmp(proved.events, plain.events, sizeof plain.events) == 0)
+        memcmp(proved.events, plain.events, sizeof plain.events) == 0 &&
+        memcmp(proved.pool, plain.pool, sizeof plain.pool) == 0)
         return;
     printf("the two sides differ after: %s\n", name);
     exit(1);
@@ -358,11 +371,11 @@ static void measure_close(const char *name, unsigned process) {
 }
 
 /* Only process 1 has events: process 0 keeps every frontier, and process 1 only the last. */
-static void fill_alone(void) {
+static void fill_alone(uint32_t frontiers) {
     saved.k = 2, saved.rule = RULE_8, saved.length = room_for(WATCH_ROOM);
     start_over(&plain);
     open_watch(&plain);
-    for (uint32_t n = 0; watch_kept(plain.record) < WATCH_ROOM; n++) {
+    for (uint32_t n = 0; watch_kept(plain.record) < frontiers; n++) {
         offer_next(&plain, 1, (uint32_t[8]){0, n});
         take_event(&plain);
     }
@@ -386,9 +399,9 @@ static void closes(void) {
         snprintf(name, sizeof name, "close, %u processes, of %u frontiers", k, watch_kept(plain.record));
         measure_close(name, last_not_named(k));
     }
-    fill_alone();
+    fill_alone(WATCH_ROOM);
     measure_close("close, of 1,024 frontiers all but one dropped", 0);
-    fill_alone();
+    fill_alone(WATCH_ROOM);
     measure_close("close, of 1,024 frontiers none dropped", 1);
 }
 
@@ -405,7 +418,7 @@ static void one_move(struct side *s) {
 static void moves(void) {
     for (unsigned wide = 0; wide < 2; wide++) {
         choose_form(wide);
-        fill_alone();
+        fill_alone(WATCH_ROOM);
         save(&plain);
         measure(wide ? "narrow, room 1024" : "widen, room 1024", one_move, 1, ROUNDS);
         saved.length = room_for(16);
@@ -476,6 +489,87 @@ static void days(void) {
     measure_day("a hundred busiest days refused: 46, 8 processes, 65,535 events", 8, 65535, 100);
 }
 
+/* ---- watches that share ---- */
+
+/* Shares of eight watches, of which the first is the one at work; the others keep one frontier each. */
+static const uint16_t *shares;
+
+static void lay_pool(const uint16_t *of_eight) {
+    shares = of_eight;
+    plain.set_shares(shares, WATCH32_SHARES, saved.pool, sizeof saved.pool);
+    for (unsigned i = 0; i < WATCH32_SHARES; i++) saved.pool[16 + 2 * i] = 1;
+}
+
+static void one_shared_take(struct side *s) {
+    seen(s, s->shared_take(s->record, saved.record_length, s->window, saved.length, s->scratch, saved.length, s->pool,
+                           sizeof s->pool, 0));
+}
+
+static void shared_nothing(struct side *s) {
+    for (unsigned i = 0; i < FINDS; i++) one_shared_take(s);
+}
+
+static void one_shared_close(struct side *s) {
+    seen(s, s->shared_close(to_close, s->record, saved.record_length, s->window, saved.length, s->pool, sizeof s->pool,
+                            0));
+}
+
+static void shared_opens(struct side *s) {
+    for (unsigned i = 0; i < OPENS; i++)
+        seen(s, s->shared_open((const uint8_t *)saved.rule, strlen(saved.rule), saved.k, 0, s->record,
+                               saved.record_length, s->window, saved.length, s->pool, sizeof s->pool, 0));
+}
+
+static void hundred_settings(struct side *s) {
+    for (unsigned i = 0; i < 100; i++) seen(s, s->set_shares(shares, WATCH32_SHARES, s->pool, sizeof s->pool));
+}
+
+/* The same bytes by both calls, one row below the other. */
+static void measure_both(const char *name, work *single, work *shared, unsigned units, unsigned rounds) {
+    heading = "by itself: ";
+    measure(name, single, units, rounds);
+    heading = "sharing: ";
+    measure(name, shared, units, rounds);
+}
+
+/* The last take before the share ends, within which the nearly full windows are. */
+static void shared_wide(unsigned k, const char *rule, const char *lines) {
+    char name[80];
+    heading = "by itself: ";
+    wide(k, rule, lines, false);
+    heading = "sharing: ";
+    snprintf(name, sizeof name, "take, %u processes, %s lines, nearly full", k, lines);
+    measure(name, one_shared_take, 1, ROUNDS);
+}
+
+static void sharing(void) {
+    static const uint16_t large[WATCH32_SHARES] = {1017, 1, 1, 1, 1, 1, 1, 1};
+    static const uint16_t small[WATCH32_SHARES] = {16, 144, 144, 144, 144, 144, 144, 144};
+    choose_form(true);
+    lay_pool(large);
+    shared_wide(4, RULE_8, "8");
+    shared_wide(8, RULE_8, "8");
+    saved.k = 2, saved.rule = RULE_8, saved.length = room_for(16);
+    start_over(&plain);
+    open_watch(&plain);
+    save(&plain);
+    measure_both("take, nothing ready, 8 lines, room 16", nothing_ready, shared_nothing, FINDS, 151);
+    saved.rule = RULE_64;
+    measure_both("open, 64 lines, room 16", open_often, shared_opens, OPENS, 151);
+    fill_alone(large[0]);
+    offer_next(&plain, 1, (uint32_t[8]){0, large[0] - 1u});
+    save(&plain);
+    measure("take, it would pass the share, and nothing is unpromised", one_shared_take, 1, ROUNDS);
+    fill_alone(WATCH_ROOM);
+    to_close = 0;
+    save(&plain);
+    measure_both("close, of 1,024 frontiers all but one dropped", one_close, one_shared_close, 1, ROUNDS);
+    heading = "";
+    lay_pool(small);
+    lay_count(saved.record + 4, 0); /* no watch is at work here */
+    measure("a hundred settings of eight shares", hundred_settings, 1, ROUNDS);
+}
+
 /* The dearest lines of each kind. */
 static void wide_form(void) {
     choose_form(true);
@@ -516,5 +610,6 @@ int main(void) {
     moves();
     pages();
     days();
+    sharing();
     return 0;
 }

@@ -123,13 +123,14 @@ uint64_t plain32_offer(uint64_t mask, uint64_t c01, uint64_t c23, uint64_t c45, 
     return accepted(0, held + 1);
 }
 
-uint64_t PLAIN(take)(uint8_t *record, size_t record_len, uint8_t *window, size_t window_len,
-                    uint8_t *scratch, size_t scratch_len) {
+uint64_t PLAIN(take_within)(uint8_t *record, size_t record_len, uint8_t *window, size_t window_len,
+                            uint8_t *scratch, size_t scratch_len, size_t allowed) {
     struct step s;
     uint64_t answer = 0;
     size_t room = window_len / FRONTIER;
     if (record_len != RECORD || wrong_window(window_len) || scratch_len != window_len) return 6;
     if (damaged(record, room)) return 34;
+    if (allowed > room) allowed = room;
     struct counts taken = load(record + TAKEN_AT);
     for (unsigned i = 0; i < record[2]; i++) {
         const uint8_t *event = record + PENDING_AT + EVENT * i;
@@ -140,7 +141,7 @@ uint64_t PLAIN(take)(uint8_t *record, size_t record_len, uint8_t *window, size_t
             break;
         }
         PLAIN(mark)(&s, event, record, window);
-        if (s.staying + s.grown > 0 && s.staying + s.grown <= room) {
+        if (s.staying + s.grown > 0 && s.staying + s.grown <= allowed) {
             answer = take_event(&s, i, record, window, scratch);
             break;
         }
@@ -148,6 +149,11 @@ uint64_t PLAIN(take)(uint8_t *record, size_t record_len, uint8_t *window, size_t
     }
     memset(scratch, 0, scratch_len);
     return answer;
+}
+
+uint64_t PLAIN(take)(uint8_t *record, size_t record_len, uint8_t *window, size_t window_len,
+                    uint8_t *scratch, size_t scratch_len) {
+    return PLAIN(take_within)(record, record_len, window, window_len, scratch, scratch_len, ROOM);
 }
 
 uint64_t PLAIN(find)(uint64_t line, const uint8_t *record, size_t record_len, const uint8_t *window, size_t window_len) {

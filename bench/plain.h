@@ -36,4 +36,13 @@ uint64_t plain32_page(const uint8_t *record, size_t record_len, const uint8_t *w
 
 uint64_t plain32_busiest(uint64_t k, uint64_t n, uint8_t *events, size_t events_len);
 
+uint64_t plain32_set_shares(const uint16_t *shares, size_t n, uint8_t *pool, size_t pool_len);
+uint64_t plain32_shared_open(const uint8_t *rule, size_t rule_len, uint64_t k, uint64_t start_labels,
+                             uint8_t *record, size_t record_len, uint8_t *window, size_t window_len,
+                             uint8_t *pool, size_t pool_len, uint64_t number);
+uint64_t plain32_shared_take(uint8_t *record, size_t record_len, uint8_t *window, size_t window_len,
+                             uint8_t *scratch, size_t scratch_len, uint8_t *pool, size_t pool_len, uint64_t number);
+uint64_t plain32_shared_close(uint64_t process, uint8_t *record, size_t record_len, uint8_t *window, size_t window_len,
+                              uint8_t *pool, size_t pool_len, uint64_t number);
+
 #endif

@@ -86,6 +86,10 @@ struct plain_rule plain_read_rule(const uint8_t *text, size_t length, unsigned k
 /* The lines' truth at one cut. Any and all: what some, and what each, of the preceding cuts has; both 0 if nothing precedes. */
 uint64_t PLAIN(judge)(const uint8_t *table, unsigned lines, uint64_t labels, uint64_t any, uint64_t all);
 
+/* As take, but a window of over so many frontiers does not fit. */
+uint64_t PLAIN(take_within)(uint8_t *record, size_t record_len, uint8_t *window, size_t window_len,
+                            uint8_t *scratch, size_t scratch_len, size_t allowed);
+
 /* The step of a window for one event. */
 struct step {
     uint8_t mask;

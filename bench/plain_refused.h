@@ -4,11 +4,11 @@
 
 #include "plain_inner.h"
 
-static bool wrong_window(size_t length) {
+static inline bool wrong_window(size_t length) {
     return length < FRONTIER || length > FRONTIER * ROOM || length % FRONTIER != 0;
 }
 
-static bool bad_line(const uint8_t *line, unsigned i, unsigned k) {
+static inline bool bad_line(const uint8_t *line, unsigned i, unsigned k) {
     unsigned a = line[1], b = line[2];
     switch (line[0]) {
     case 0: return a >= k || b > 7;
@@ -18,7 +18,7 @@ static bool bad_line(const uint8_t *line, unsigned i, unsigned k) {
     }
 }
 
-static bool damaged(const uint8_t *record, size_t room) {
+static inline bool damaged(const uint8_t *record, size_t room) {
     unsigned k = record[0], lines = record[1];
     uint32_t kept = load_kept(record);
     if (k - 1 >= PROCESSES || lines - 1 >= LINES || record[2] > PENDING || kept - 1 >= room) return true;

@@ -39,6 +39,15 @@ static void try_case(uint64_t seed, uint64_t number) {
     } else if (number % 40 == 16) {
         case_begins(seed, number, "busiest days");
         try_days(&s, &one);
+    } else if (number % 40 == 9) {
+        case_begins(seed, number, "watches that share");
+        try_shares(&s, &one);
+    } else if (number % 40 == 19) {
+        case_begins(seed, number, "alike beside others");
+        try_alike(&s, &one);
+    } else if (number % 40 == 33) {
+        case_begins(seed, number, "pools of any bytes");
+        try_pools(&s, &one);
     } else if (number % 40 == 2) {
         case_begins(seed, number, "refused calls");
         try_refused(&s, &one);

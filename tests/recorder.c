@@ -1,7 +1,8 @@
 /* Stands around the calls of the library and writes down each reply and, as the call left them, all bytes that were
  * lent for writing, to the file that RECORDING names. Linked with --wrap for each call: whoever makes the calls knows
  * nothing of it. With OLD_FORM_ALONE the old form's calls only, with WITHOUT_PAGE all but the page, with
- * WITHOUT_BUSIEST all but the busiest day: then the others may be missing. */
+ * WITHOUT_BUSIEST all but the busiest day, with WITHOUT_SHARES all but those with a pool: then the others may be
+ * missing. */
 #include <stdio.h>
 #include <stdlib.h>
 
@@ -153,6 +154,54 @@ extern __typeof__(watch32_busiest) __real_watch32_busiest, __wrap_watch32_busies
 uint64_t __wrap_watch32_busiest(uint64_t k, uint64_t n, uint8_t *events, size_t events_len) {
     uint64_t reply = __real_watch32_busiest(k, n, events, events_len);
     put(events, events_len);
+    return put_reply(reply);
+}
+
+#endif
+
+#if !defined(OLD_FORM_ALONE) && !defined(WITHOUT_SHARES)
+
+extern __typeof__(watch32_set_shares) __real_watch32_set_shares, __wrap_watch32_set_shares;
+extern __typeof__(watch32_shared_open) __real_watch32_shared_open, __wrap_watch32_shared_open;
+extern __typeof__(watch32_shared_take) __real_watch32_shared_take, __wrap_watch32_shared_take;
+extern __typeof__(watch32_shared_close) __real_watch32_shared_close, __wrap_watch32_shared_close;
+
+uint64_t __wrap_watch32_set_shares(const uint16_t *shares, size_t n, uint8_t *pool, size_t pool_len) {
+    uint64_t reply = __real_watch32_set_shares(shares, n, pool, pool_len);
+    put(pool, pool_len);
+    return put_reply(reply);
+}
+
+uint64_t __wrap_watch32_shared_open(const uint8_t *rule, size_t rule_len, uint64_t k, uint64_t start_labels,
+                                    uint8_t *record, size_t record_len, uint8_t *window, size_t window_len,
+                                    uint8_t *pool, size_t pool_len, uint64_t number) {
+    uint64_t reply = __real_watch32_shared_open(rule, rule_len, k, start_labels, record, record_len, window, window_len,
+                                                pool, pool_len, number);
+    put(record, record_len);
+    put(window, window_len);
+    put(pool, pool_len);
+    return put_reply(reply);
+}
+
+uint64_t __wrap_watch32_shared_take(uint8_t *record, size_t record_len, uint8_t *window, size_t window_len,
+                                    uint8_t *scratch, size_t scratch_len, uint8_t *pool, size_t pool_len,
+                                    uint64_t number) {
+    uint64_t reply = __real_watch32_shared_take(record, record_len, window, window_len, scratch, scratch_len, pool,
+                                                pool_len, number);
+    put(record, record_len);
+    put(window, window_len);
+    put(scratch, scratch_len);
+    put(pool, pool_len);
+    return put_reply(reply);
+}
+
+uint64_t __wrap_watch32_shared_close(uint64_t process, uint8_t *record, size_t record_len, uint8_t *window,
+                                     size_t window_len, uint8_t *pool, size_t pool_len, uint64_t number) {
+    uint64_t reply = __real_watch32_shared_close(process, record, record_len, window, window_len, pool, pool_len,
+                                                 number);
+    put(record, record_len);
+    put(window, window_len);
+    put(pool, pool_len);
     return put_reply(reply);
 }
 

@@ -30,6 +30,8 @@ int main(void) {
     run("tests/c/moves.c", test_moves);
     run("tests/c/page.c", test_page);
     run("tests/c/busiest.c", test_busiest);
+    run("tests/c/shares.c", test_shares);
+    run("tests/c/pool.c", test_pool);
     run("tests/c/stack.c", test_stack);
     if (failures != 0) {
         printf("calls: %lu of %lu checks do not hold\n", failures, checks);

@@ -87,6 +87,28 @@ static void do_busiest(void) {
     answer = watch32_busiest(2, 1023, day, sizeof day);
 }
 
+static uint8_t pool[WATCH32_POOL_BYTES];
+
+static void do_set_shares(void) {
+    static const uint16_t shares[WATCH32_SHARES] = {1, 1, 1, 1, 1, 1, 1, 1};
+    answer = watch32_set_shares(shares, WATCH32_SHARES, pool, sizeof pool);
+}
+
+static void do_shared_open(void) {
+    answer = watch32_shared_open((const uint8_t *)deepest, sizeof deepest - 1, 2, 0, wide->record.bytes,
+                                 wide->record.length, wide->window.bytes, wide->window.length, pool, sizeof pool, 7);
+}
+
+static void do_shared_take(void) {
+    answer = watch32_shared_take(wide->record.bytes, wide->record.length, wide->window.bytes, wide->window.length,
+                                 wide->scratch.bytes, wide->scratch.length, pool, sizeof pool, 7);
+}
+
+static void do_shared_close(void) {
+    answer = watch32_shared_close(0, wide->record.bytes, wide->record.length, wide->window.bytes, wide->window.length,
+                                  pool, sizeof pool, 7);
+}
+
 /* How deep the call went into the painted stack. */
 static size_t depth(void (*call)(void)) {
     uint8_t *stack = malloc(STACK);
@@ -112,16 +134,21 @@ static size_t used(void (*call)(void)) {
     return bytes;
 }
 
+/* To 300 frontiers. */
+static void grow(struct subject *s) {
+    for (unsigned n = 1; n < 300; n++) {
+        offer(s, 2, 0, n, 0, 0, 0);
+        try_take(s);
+    }
+}
+
 /* The five calls of one form, on a window that grows to 301 frontiers. */
 static void measure(struct subject *s, const char *name, void (*const call[5])(void)) {
     size_t bytes[5];
     lend_room(s, WATCH_ROOM);
     bytes[0] = used(call[0]);
     CHECK(watch_number(answer) == 0 && watch_lines(s->record.bytes) == 54);
-    for (unsigned n = 1; n < 300; n++) {
-        offer(s, 2, 0, n, 0, 0, 0);
-        try_take(s);
-    }
+    grow(s);
     bytes[1] = used(call[1]);
     CHECK_REPLY(answer, held(1));
     bytes[2] = used(call[2]);
@@ -134,6 +161,22 @@ static void measure(struct subject *s, const char *name, void (*const call[5])(v
            bytes[3], bytes[4]);
 }
 
+/* The same with a pool. The first of its takes puts right what plain ones left stale. */
+static void measure_shared(struct subject *s) {
+    size_t set = used(do_set_shares);
+    CHECK_REPLY(answer, 0);
+    lend_room(s, WATCH_ROOM);
+    size_t open = used(do_shared_open);
+    CHECK(watch_number(answer) == 0 && watch32_share_kept(pool, 7) == 1);
+    grow(s);
+    do_wide_offer();
+    size_t take = used(do_shared_take);
+    CHECK(watch_number(answer) == 0 && watch_value(answer) == 301 && watch32_share_kept(pool, 7) == 301);
+    size_t close = used(do_shared_close);
+    CHECK_REPLY(answer, closed(1));
+    printf("stack with a pool: set shares %zu, open %zu, take %zu, close %zu bytes\n", set, open, take, close);
+}
+
 void test_stack(void) {
     struct subject old = subject_new(), new = subject_wide();
     at_work = &old, wide = &new;
@@ -141,6 +184,7 @@ void test_stack(void) {
     measure(&old, "", (void (*const[])(void)){do_open, do_offer, do_take, do_find, do_close});
     measure(&new, " of the wide form", (void (*const[])(void)){do_wide_open, do_wide_offer, do_wide_take, do_wide_find,
                                                                 do_wide_close});
+    measure_shared(&new);
     size_t there = used(do_widen);
     CHECK_REPLY(answer, 0);
     size_t back = used(do_narrow);

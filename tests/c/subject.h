@@ -65,6 +65,8 @@ void test_wide(void);
 void test_moves(void);
 void test_page(void);
 void test_busiest(void);
+void test_shares(void);
+void test_pool(void);
 void test_stack(void);
 
 #endif

@@ -96,8 +96,8 @@ static bool order_decides(const struct twin *t) {
     bool any_ready;
     in_turn(t->model.pending, t->model.pending_number, turns);
     for (unsigned i = 0; i < PENDING; i++) places[i] = i;
-    return take_stops(&t->model, turns, t->window_length, &any_ready) !=
-           take_stops(&t->model, places, t->window_length, &any_ready);
+    return take_stops(&t->model, turns, twin_room(t), &any_ready) !=
+           take_stops(&t->model, places, twin_room(t), &any_ready);
 }
 
 /* Takes until nothing is ready; at 36 it ends, or the window gets longer. */

@@ -132,6 +132,52 @@ uint64_t call_busiest(uint64_t k, uint64_t n, uint8_t *events, size_t events_len
 
 #endif
 
+#if defined(OLD_FORM_ALONE) || defined(WITHOUT_SHARES)
+
+bool can_share(void) {
+    return false;
+}
+
+#define SHARED(name, arguments) (abort(), 0)
+
+#else
+
+bool can_share(void) {
+    return true;
+}
+
+#define SHARED(name, arguments) watch32_##name arguments
+
+#endif
+
+uint64_t call_set_shares(const uint16_t *shares, size_t n, uint8_t *pool, size_t pool_len) {
+    (void)shares, (void)n, (void)pool, (void)pool_len;
+    return SHARED(set_shares, (shares, n, pool, pool_len));
+}
+
+uint64_t call_shared_open(const uint8_t *rule, size_t rule_len, uint64_t k, uint64_t labels, uint8_t *record,
+                          size_t record_len, uint8_t *window, size_t window_len, uint8_t *pool, size_t pool_len,
+                          uint64_t number) {
+    (void)rule, (void)rule_len, (void)k, (void)labels, (void)record, (void)record_len, (void)window, (void)window_len;
+    (void)pool, (void)pool_len, (void)number;
+    return SHARED(shared_open, (rule, rule_len, k, labels, record, record_len, window, window_len, pool, pool_len,
+                                number));
+}
+
+uint64_t call_shared_take(uint8_t *record, size_t record_len, uint8_t *window, size_t window_len, uint8_t *scratch,
+                          size_t scratch_len, uint8_t *pool, size_t pool_len, uint64_t number) {
+    (void)record, (void)record_len, (void)window, (void)window_len, (void)scratch, (void)scratch_len;
+    (void)pool, (void)pool_len, (void)number;
+    return SHARED(shared_take, (record, record_len, window, window_len, scratch, scratch_len, pool, pool_len, number));
+}
+
+uint64_t call_shared_close(uint64_t process, uint8_t *record, size_t record_len, uint8_t *window, size_t window_len,
+                           uint8_t *pool, size_t pool_len, uint64_t number) {
+    (void)process, (void)record, (void)record_len, (void)window, (void)window_len;
+    (void)pool, (void)pool_len, (void)number;
+    return SHARED(shared_close, (process, record, record_len, window, window_len, pool, pool_len, number));
+}
+
 uint64_t call_open(const struct layout *form, const uint8_t *rule, size_t rule_len, uint64_t k, uint64_t labels,
                    uint8_t *record, size_t record_len, uint8_t *window, size_t window_len) {
     return CALL(form, open, (rule, rule_len, k, labels, record, record_len, window, window_len));

@@ -9,7 +9,8 @@ enum { ACCEPTED = 256, YES, NO, REPEATED, NOTHING_READY, FOUND, NOT_FOUND, OUTCO
 
 static const char *const names[2][CALLS] = {
     {"open", "offer", "take", "find", "close", "widen", "page", "busiest"},
-    {"wide open", "wide offer", "wide take", "wide find", "wide close", "narrow", "page", "busiest"}};
+    {"wide open", "wide offer", "wide take", "wide find", "wide close", "narrow", "page", "busiest", "set shares",
+     "shared open", "shared take", "shared close"}};
 static const char *const words[] = {"accepted", "yes", "no", "again", "nothing ready", "found", "none"};
 
 /* Each answer that each call can give, up to the first 0. Of the moves narrow alone gives 43. */
@@ -22,6 +23,10 @@ static const unsigned answers_of[CALLS][12] = {
     [MOVE] = {ACCEPTED, 6, 34, 43},
     [PAGE] = {ACCEPTED, 6, 34, 44},
     [DAY] = {ACCEPTED, 6, 45, 46},
+    [SET] = {ACCEPTED, 6, 49},
+    [SHARED_OPEN] = {YES, NO, 1, 2, 3, 4, 5, 6, 9, 34},
+    [SHARED_TAKE] = {YES, NO, NOTHING_READY, 6, 34, 35, 36},
+    [SHARED_CLOSE] = {ACCEPTED, 6, 34, 41, 42},
 };
 
 /* Of the calls that stand in a list and are refused for the lengths that they are lent. */
@@ -39,8 +44,8 @@ static unsigned long days_taken, others_taken;
 static unsigned outcome(enum call call, uint64_t reply) {
     if (watch_number(reply) != 0) return watch_number(reply);
     switch (call) {
-    case TAKE: return reply == 0 ? NOTHING_READY : watch_flag(reply) ? YES : NO;
-    case OPEN: return watch_flag(reply) ? YES : NO;
+    case TAKE: case SHARED_TAKE: return reply == 0 ? NOTHING_READY : watch_flag(reply) ? YES : NO;
+    case OPEN: case SHARED_OPEN: return watch_flag(reply) ? YES : NO;
     case OFFER: return watch_again(reply) ? REPEATED : ACCEPTED;
     case FIND: return reply == 0 ? NOT_FOUND : FOUND;
     default: return ACCEPTED;
@@ -71,12 +76,26 @@ void tally_taken_day(bool busiest) {
     else others_taken++;
 }
 
+static const char *const sharing_names[SHARINGS] = {
+    "within its share with nothing else left", "above its share", "the last that is unpromised", "36 by the pool alone",
+    "36 beside an idle share", "36 by the lent bytes alone", "fits after another keeps less",
+    "nothing ready on a stale number", "35 on a stale number", "36 on a stale number",
+    "refused close on a stale number", "refused open on a stale number", "a number not below 8",
+    "a number without a share", "another watch's number", "alike beside other calls",
+    "answered otherwise beside other calls"};
+static unsigned long shared[SHARINGS];
+
+void tally_sharing(enum sharing what) {
+    shared[what]++;
+}
+
 /* ---- at the end ---- */
 
 /* With the library that there is. */
 static bool has(unsigned wide, enum call call) {
     if (call == PAGE) return can_print(wide ? &wide_form : &narrow_form);
     if (call == DAY) return wide && can_generate();
+    if (call >= SET) return wide && can_share();
     return call == MOVE ? both_forms() : !wide || both_forms();
 }
 
@@ -110,6 +129,11 @@ void print_tally(void) {
             if (has(wide, call)) print_answers(wide, call);
         if (has(wide, OPEN)) print_in_list(wide);
     }
+    if (can_share()) {
+        printf("  watches that share");
+        for (unsigned i = 0; i < SHARINGS; i++) printf(", %s: %lu", sharing_names[i], shared[i]);
+        printf("\n");
+    }
     printf("  a watch took %lu days, shared otherwise %lu; at most %u frontiers kept\n", days_taken, others_taken,
            most_kept);
 }
@@ -140,6 +164,11 @@ bool everything_came_up(void) {
             if (has(wide, call)) all &= all_answered(wide, call);
         if (!has(wide, TAKE) || tallies[wide].decided != 0) continue;
         printf("differential: never came up: %s, decided by the order of the hold\n", names[wide][TAKE]);
+        all = false;
+    }
+    for (unsigned i = 0; can_share() && i < SHARINGS; i++) {
+        if (shared[i] != 0) continue;
+        printf("differential: never came up, of watches that share: %s\n", sharing_names[i]);
         all = false;
     }
     return all;

@@ -89,8 +89,7 @@ void twin_free(struct twin *t) {
     lent_free(&t->page);
 }
 
-/* Most buffers end at the forbidden page, some stand at an odd place. */
-static size_t before_end(struct source *s) {
+size_t before_end(struct source *s) {
     return chance(s, 75) ? 0 : below(s, 8);
 }
 
@@ -110,7 +109,7 @@ size_t twin_room(const struct twin *t) {
     return t->window_length / t->form->frontier;
 }
 
-static void compare_watch(struct twin *t) {
+void compare_watch(struct twin *t) {
     size_t known = least(t->record.length, t->form->record); /* what a record that is too long has more is 0 */
     compare_bytes("record", t->record.bytes, t->record_bytes, known);
     compare_bytes("window", t->window.bytes, t->window_bytes, t->window.length);
@@ -162,7 +161,7 @@ uint64_t twin_take(struct twin *t, struct source *s, size_t scratch_length) {
     uint64_t reply = call_take(t->form, t->record.bytes, t->record.length, t->window.bytes, t->window.length,
                                t->scratch.bytes, scratch_length);
     uint64_t expected = model_take(&t->model, t->record_bytes, t->record.length, t->window_bytes, t->window_length, t->scratch_bytes,
-                                   scratch_length);
+                                   scratch_length, ROOM);
     compare_replies(tally(t->form, TAKE, reply), expected);
     compare_watch(t);
     compare_bytes("scratch", t->scratch.bytes, t->scratch_bytes, scratch_length);

@@ -46,6 +46,12 @@ void twin_begin_late(struct twin *t, struct source *s, const unsigned *begin);
 void twin_forward(struct twin *t, struct sent e);
 void twin_catch_up(struct twin *t);
 
+/* After each call: record and window are the model's, and nothing around them changed. */
+void compare_watch(struct twin *t);
+
+/* Most buffers end at the forbidden page, some stand at an odd place. */
+size_t before_end(struct source *s);
+
 /* What is being tried, for the message when something differs. */
 void case_begins(uint64_t seed, uint64_t number, const char *kind);
 void note(const char *format, ...);
@@ -78,9 +84,18 @@ void try_orders(struct source *s, struct twin *t, struct twin *other, bool large
 void try_moves(struct source *s, struct twin *t);
 void try_pages(struct source *s, struct twin *t); /* of the wide form, with counts of every number of digits */
 void try_days(struct source *s, struct twin *t);  /* busiest ones, and watches that take them */
+void try_shares(struct source *s, struct twin *t); /* up to eight watches on one pool */
+void try_alike(struct source *s, struct twin *t);  /* a watch beside others that do one thing or another */
+void try_pools(struct source *s, struct twin *t);  /* of any bytes, and settings of any shares */
 
 /* Opens a watch of k processes in this form, with room for so many frontiers: any rule, any labels. */
 void start_of_form(struct source *s, struct twin *t, const struct layout *form, unsigned k, size_t room);
+
+/* One of the execution's events with a clock that forgets, mostly one that could come next. */
+void offer_forgetful(struct source *s, struct twin *t, const struct execution *x);
+
+/* One that is open and of which nothing more is to come in the execution; any if there is none. */
+uint64_t finished_process(struct source *s, const struct twin *t, const struct execution *x);
 
 /* Lengths that a call is not to be lent. */
 struct lengths {

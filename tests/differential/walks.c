@@ -72,8 +72,7 @@ static void random_offer(struct source *s, struct twin *t, const struct executio
     twin_offer(t, e);
 }
 
-/* One that is open and of which nothing more is to come in the execution; any if there is none. */
-static uint64_t finished_process(struct source *s, const struct twin *t, const struct execution *x) {
+uint64_t finished_process(struct source *s, const struct twin *t, const struct execution *x) {
     unsigned last[PROCESSES] = {0}, found = 0;
     uint64_t process = below(s, x->k);
     for (unsigned i = 0; i < x->n; i++)
@@ -101,15 +100,18 @@ static bool next_up(const struct twin *t, const struct sent *e) {
     return true;
 }
 
-/* One of the execution's events with a clock that forgets, mostly one that could come next: then 35 is near, and the
- * true one may be accepted after it. */
-static void forgetful_offer(struct source *s, struct twin *t, const struct execution *x) {
+/* Then 35 is near, and the true one may be accepted after it. */
+void offer_forgetful(struct source *s, struct twin *t, const struct execution *x) {
     const struct sent *e = &x->event[below(s, x->n)];
     unsigned found = 0;
     bool any = chance(s, 15);
     for (unsigned i = 0; i < x->n && !any; i++)
         if (next_up(t, &x->event[i]) && below(s, ++found) == 0) e = &x->event[i];
     twin_offer(t, forgetful(s, x, *e));
+}
+
+static void forgetful_offer(struct source *s, struct twin *t, const struct execution *x) {
+    offer_forgetful(s, t, x);
     if (chance(s, 60)) twin_take(t, s, t->window_length);
 }
 

@@ -128,17 +128,17 @@ static void leave(struct model *m, unsigned place) {
     for (unsigned i = place; i < m->pending_number; i++) m->pending[i] = m->pending[i + 1];
 }
 
-static bool true_by_taken(const struct model *m, const struct event *e) {
+bool true_by_taken(const struct model *m, const struct event *e) {
     struct cuts all = all_cuts(&m->history);
     bool found = true_clock(&all, e, open_processes(m));
     free_cuts(&all);
     return found;
 }
 
-static bool fits(const struct model *m, const struct event *e, size_t window_len) {
+size_t kept_after(const struct model *m, const struct event *e) {
     struct history longer = m->history;
     append(&longer, e);
-    return frontiers(&longer, open_processes(m)) <= window_len / m->form->frontier;
+    return frontiers(&longer, open_processes(m));
 }
 
 static bool wrong_lengths(const struct model *m, size_t record_len, size_t window_len) {
@@ -150,26 +150,27 @@ static bool too_short(const struct model *m, size_t window_len) {
     return frontiers(&m->history, open_processes(m)) > window_len / m->form->frontier;
 }
 
-unsigned take_stops(const struct model *m, const unsigned *places, size_t window_len, bool *any_ready) {
+unsigned take_stops(const struct model *m, const unsigned *places, size_t most, bool *any_ready) {
     *any_ready = false;
     for (unsigned i = 0; i < m->pending_number; i++) {
         const struct event *e = &m->pending[places[i]];
         if (!ready(e, m->history.taken)) continue;
         *any_ready = true;
-        if (!true_by_taken(m, e) || fits(m, e, window_len)) return places[i];
+        if (!true_by_taken(m, e) || kept_after(m, e) <= most) return places[i];
     }
     return PENDING;
 }
 
 uint64_t model_take(struct model *m, uint8_t *record, size_t record_len, uint8_t *window, size_t window_len,
-                    uint8_t *scratch, size_t scratch_len) {
+                    uint8_t *scratch, size_t scratch_len, size_t most) {
     if (wrong_lengths(m, record_len, window_len) || scratch_len != window_len) return refused(6);
     if (too_short(m, window_len)) return refused(34);
     unsigned places[PENDING];
     bool any_ready;
+    size_t room = window_len / m->form->frontier;
     memset(scratch, 0, scratch_len);
     in_turn(m->pending, m->pending_number, places);
-    unsigned place = take_stops(m, places, window_len, &any_ready);
+    unsigned place = take_stops(m, places, most < room ? most : room, &any_ready);
     if (place == PENDING) return any_ready ? refused(36) : 0;
     struct event e = m->pending[place];
     bool taken = true_by_taken(m, &e);

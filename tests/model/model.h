@@ -157,21 +157,26 @@ struct words {
 struct event event_of(const struct layout *form, const struct words *w);
 unsigned refused_event(const struct layout *form, uint64_t k, const struct words *w); /* 7, 8, 9 or 0 */
 
-/* As the five calls, with the model of the watch that the lent bytes belong to. Of the kept frontiers that have
- * the line model_find answers the one that stands first in the window: flag 1, its number from 0 as value. The word is
- * 0 exactly if none has it. model_close answers the frontiers kept, and no truth. */
+/* As the five calls, with the model of the watch that the lent bytes belong to. A window that model_take leaves has at
+ * most so many frontiers; ROOM is what a watch by itself may keep. Of the kept frontiers that have the line model_find
+ * answers the one that stands first in the window: flag 1, its number from 0 as value. The word is 0 exactly if none
+ * has it. model_close answers the frontiers kept, and no truth. */
 uint64_t model_open(struct model *m, const struct layout *form, const uint8_t *rule, size_t rule_len, uint64_t k,
                     uint64_t start_labels, uint8_t *record, size_t record_len, uint8_t *window, size_t window_len);
 uint64_t model_offer(struct model *m, const struct words *w, uint8_t *record, size_t record_len);
 uint64_t model_take(struct model *m, uint8_t *record, size_t record_len, uint8_t *window, size_t window_len,
-                    uint8_t *scratch, size_t scratch_len);
+                    uint8_t *scratch, size_t scratch_len, size_t most);
 uint64_t model_find(const struct model *m, uint64_t line, size_t record_len, size_t window_len);
 uint64_t model_close(struct model *m, uint64_t process, uint8_t *record, size_t record_len, uint8_t *window,
                      size_t window_len);
 
-/* Where a take that is lent a window of this length stops that tries the pending events in this order: at the place of
- * the first ready one that has a false clock or fits. PENDING: at none. Ready: whether any was. */
-unsigned take_stops(const struct model *m, const unsigned *places, size_t window_len, bool *any_ready);
+/* Where a take stops that may leave so many frontiers and tries the pending events in this order: at the place of the
+ * first ready one that has a false clock or fits. PENDING: at none. Ready: whether any was. */
+unsigned take_stops(const struct model *m, const unsigned *places, size_t most, bool *any_ready);
+
+/* Of an event that is ready: whether its clock is true, and then how many frontiers are kept once it is taken. */
+bool true_by_taken(const struct model *m, const struct event *e);
+size_t kept_after(const struct model *m, const struct event *e);
 
 /* A move to the other form: there the watch is laid down anew. The first two lengths are of the form that it has. */
 uint64_t model_move(struct model *m, size_t record_len, size_t window_len, uint8_t *to_record, size_t to_record_len,
@@ -180,6 +185,35 @@ uint64_t model_move(struct model *m, size_t record_len, size_t window_len, uint8
 /* Prints the kept frontiers of a watch in the wide form. Writes the rows alone, and those only if it answers their
  * number. */
 uint64_t model_page(const struct model *m, size_t record_len, size_t window_len, uint8_t *page, size_t page_len);
+
+/* ---- a pool ---- */
+
+enum { POOL = 32, SHARES = 8 };
+
+/* Of any bytes: the share of a number below SHARES, and how many frontiers its watch keeps. */
+unsigned share_of(const uint8_t *pool, unsigned number);
+unsigned kept_of(const uint8_t *pool, unsigned number);
+
+/* 34: not below SHARES, or without a share. */
+bool no_share(const uint8_t *pool, uint64_t number);
+
+/* A window of so many frontiers passes the share by no more than the pool has left for this number. */
+bool pool_allows(const uint8_t *pool, unsigned number, size_t frontiers);
+
+/* Some pending event is ready, has a true clock, and would leave more frontiers than the share, fitting or not. */
+bool would_pass_share(const struct model *m, size_t share);
+
+/* Writes the pool, and only if it is not refused. */
+uint64_t model_set_shares(const uint16_t *shares, size_t n, uint8_t *pool, size_t pool_len);
+
+/* As open, take and close of a watch in the wide form, with the pool of any bytes. */
+uint64_t model_shared_open(struct model *m, const uint8_t *rule, size_t rule_len, uint64_t k, uint64_t start_labels,
+                           uint8_t *record, size_t record_len, uint8_t *window, size_t window_len, uint8_t *pool,
+                           size_t pool_len, uint64_t number);
+uint64_t model_shared_take(struct model *m, uint8_t *record, size_t record_len, uint8_t *window, size_t window_len,
+                           uint8_t *scratch, size_t scratch_len, uint8_t *pool, size_t pool_len, uint64_t number);
+uint64_t model_shared_close(struct model *m, uint64_t process, uint8_t *record, size_t record_len, uint8_t *window,
+                            size_t window_len, uint8_t *pool, size_t pool_len, uint64_t number);
 
 /* ---- the busiest day ---- */
 
@@ -232,6 +266,14 @@ uint64_t bytes_move(const struct layout *form, const uint8_t *record, size_t rec
 /* The same page of any bytes in the wide form, which is exact: reply and rows. */
 uint64_t bytes_page(const uint8_t *record, size_t record_len, const uint8_t *window, size_t window_len, uint8_t *page,
                     size_t page_len);
+
+/* A shared call on any bytes in the wide form. The reply of close and what it writes are exact, the pool too. Of take
+ * what is possible; what it does to the pool is told by its reply and the record that it leaves. */
+uint64_t bytes_shared_close(uint64_t process, uint8_t *record, size_t record_len, uint8_t *window, size_t window_len,
+                            uint8_t *pool, size_t pool_len, uint64_t number);
+struct possible bytes_shared_take(const uint8_t *record, size_t record_len, const uint8_t *window, size_t window_len,
+                                  size_t scratch_len, const uint8_t *pool, size_t pool_len, uint64_t number);
+void bytes_bring_up(uint8_t *pool, uint64_t number, uint64_t reply, const uint8_t *record);
 
 bool bytes_damaged(const struct layout *form, const uint8_t *record, size_t room); /* 34 */
 uint32_t get_kept(const uint8_t *record); /* all four bytes, whatever they say */

@@ -118,7 +118,8 @@ static uint64_t offer(struct run *run) {
 /* Until nothing is ready or 36. */
 static void take_all(struct run *run) {
     for (;;) {
-        uint64_t reply = model_take(&run->model, run->record, RECORD, run->window, run->window_length, run->scratch, run->window_length);
+        uint64_t reply = model_take(&run->model, run->record, RECORD, run->window, run->window_length,
+                                    run->scratch, run->window_length, ROOM);
         if (nothing_ready(reply)) return;
         if (number_of(reply) == 0) print_state(run, reply);
         else print_refused(run, number_of(reply), 0);
