@@ -17,9 +17,9 @@ use Rattle.call_close.specs.CloseCases.{Case, close-case, turned, accepted}
 use Rattle.call_close.specs.CloseReplies.{CloseTold}
 use Rattle.call_close.specs.CloseReplyLaws.{turned-told, replies-tell}
 use Rattle.call_shared.specs.Shared.{Shared, sharedClose}
-use Rattle.call_shared.specs.SharedExact.{Shareless, RightLengths, SharedCloseExact, SharedCloseIsExact}
+use Rattle.call_shared.specs.SharedExact.{Shareless, RightlyPooled, SharedCloseExact, SharedCloseIsExact, Unfit}
 use Rattle.call_shared.specs.SettledLaws.{close-settled}
-use Rattle.call_shared.specs.SharedLaws.{Kind, closes, not-either, share-below, wrongLengths, right-i, right-e, unfit, Unfit, unfit-exact, unfit-parts, good-watch, Neither, went, byTests, Judged, length-exact, state-exact, passes, pool-by}
+use Rattle.call_shared.specs.SharedLaws.{Kind, closes, not-either, share-below, wrongLengths, right-i, right-e, unfit, unfit-exact, unfit-parts, good-watch, Neither, went, byTests, Judged, length-exact, state-exact, passes, other-exact, pool-by}
 use Rattle.call_shared.specs.SharedLaws as laws
 
 module _ (w p : ℕ) (s window pool : List ℕ) (i : ℕ) where
@@ -36,7 +36,7 @@ module _ (w p : ℕ) (s window pool : List ℕ) (i : ℕ) where
   bad = unfit w s window pool i
 
   -- 41, 42 or done.
-  neither : RightLengths w s window pool → bad ≡ false → Neither (plain .answer)
+  neither : RightlyPooled w s window pool → bad ≡ false → Neither (plain .answer)
   unfolding closeCall closeProcess
   neither right sound =
       let P : Closed → Type 0 = λ c. Neither (c .answer) in
@@ -78,7 +78,7 @@ module _ (w p : ℕ) (s window pool : List ℕ) (i : ℕ) where
       plain-left plain (close-case w p s window)
 
   abbrev Right : Type 0
-  Right = RightLengths w s window pool
+  Right = RightlyPooled w s window pool
 
   judged : Judged K pool i wrong bad plain Right (Unfit w s window pool i)
   judged = record {
@@ -97,6 +97,7 @@ module _ (w p : ℕ) (s window pool : List ℕ) (i : ℕ) where
     else-plain = λ lengths sound share.
         passes K pool i wrong bad plain Right (Unfit w s window pool i) judged lengths
         (not-either (badState w (roomOf w (length window)) s) (Shareless pool i) sound share);
+    else-exactly = other-exact K pool i wrong bad plain Right (Unfit w s window pool i) judged;
     refused-leaves = left;
     pool-exact = pool-by K pool i wrong bad plain Right (Unfit w s window pool i) judged;
     told = told;

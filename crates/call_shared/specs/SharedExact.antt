@@ -31,8 +31,12 @@ abbrev pub Shareless : (pool : List ℕ) (i : ℕ) → Type 0
 Shareless pool i = (mostMembers ≤ i) ⊎ (shareAt pool i ≡ 0)
 
 -- Record, window and pool have right lengths.
-abbrev pub RightLengths : (w : ℕ) (s window pool : List ℕ) → Type 0
-RightLengths w s window pool = RightBuffers w s window × (length pool ≡ poolLength)
+abbrev pub RightlyPooled : (w : ℕ) (s window pool : List ℕ) → Type 0
+RightlyPooled w s window pool = RightBuffers w s window × (length pool ≡ poolLength)
+
+-- What 34 asks of a take or a close: the record is none, or is with too short a window, or the watch has no share.
+abbrev pub Unfit : (w : ℕ) (s window pool : List ℕ) (i : ℕ) → Type 0
+Unfit w s window pool i = (badState w (roomOf w (length window)) s ≡ true) ⊎ Shareless pool i
 
 -- What a call of watch i that gives this answer, and leaves this record, makes of the pool.
 pub record PoolExact (pool : List ℕ) (i : ℕ) (a : Answer) (s after : List ℕ) : Type 0 where
@@ -57,10 +61,14 @@ pub record SharedOpenTold (w : ℕ) (o : Opened) : Type 0 where
 
 pub record SharedOpenExact (w : ℕ) (text : List ℕ) (k : ℕ) (labels s window pool : List ℕ) (i : ℕ)
     (r : Shared Opened) : Type 0 where
-  pub wrong-length : (r .call .answer ≡ turnedBack lengthNumber 0) ↔ (RightLengths w s window pool → ⊥)
-  pub no-share : (r .call .answer ≡ turnedBack stateNumber 0) ↔ (RightLengths w s window pool × Shareless pool i)
-  pub else-plain : RightLengths w s window pool → (Shareless pool i → ⊥)
+  pub wrong-length : (r .call .answer ≡ turnedBack lengthNumber 0) ↔ (RightlyPooled w s window pool → ⊥)
+  pub no-share : (r .call .answer ≡ turnedBack stateNumber 0) ↔ (RightlyPooled w s window pool × Shareless pool i)
+  -- else it is the plain open, and every other answer is the plain one's (call_open OpenExact)
+  pub else-plain : RightlyPooled w s window pool → (Shareless pool i → ⊥)
       → r .call ≡ openCall w text k labels s window
+  pub else-exactly : (a : Answer) → a ≢ turnedBack lengthNumber 0 → a ≢ turnedBack stateNumber 0
+      → (r .call .answer ≡ a)
+      ↔ (RightlyPooled w s window pool × (Shareless pool i → ⊥) × (openCall w text k labels s window .answer ≡ a))
   pub refused-leaves : (n place : ℕ) → r .call .answer ≡ turnedBack n place
       → (r .call .bytes ≡ s) × (r .call .window ≡ window)
   pub pool-exact : PoolExact pool i (r .call .answer) (r .call .bytes) (r .pool)
@@ -75,17 +83,20 @@ SharedOpenIsExact =
 
 -- Lengths as take asks for: the scratch is as long as the window.
 abbrev pub TakeLengths : (w : ℕ) (s window scratch pool : List ℕ) → Type 0
-TakeLengths w s window scratch pool = RightLengths w s window pool × (length scratch ≡ length window)
+TakeLengths w s window scratch pool = RightlyPooled w s window pool × (length scratch ≡ length window)
 
 pub record SharedTakeExact (w : ℕ) (s window scratch pool : List ℕ) (i : ℕ) (r : Shared Taken) : Type 0 where
   pub wrong-length : (r .call .answer ≡ turnedBack lengthNumber 0) ↔ (TakeLengths w s window scratch pool → ⊥)
   pub no-share : (r .call .answer ≡ turnedBack stateNumber 0)
-      ↔ (TakeLengths w s window scratch pool
-      × ((badState w (roomOf w (length window)) s ≡ true) ⊎ Shareless pool i))
-  -- a take under the cap that the pool allows
+      ↔ (TakeLengths w s window scratch pool × Unfit w s window pool i)
+  -- else it is a take under the cap that the pool allows, and so is every other answer
   pub else-plain : TakeLengths w s window scratch pool → badState w (roomOf w (length window)) s ≡ false
       → (Shareless pool i → ⊥)
       → r .call ≡ takeCapped w (allowance pool i) s window scratch
+  pub else-exactly : (a : Answer) → a ≢ turnedBack lengthNumber 0 → a ≢ turnedBack stateNumber 0
+      → (r .call .answer ≡ a)
+      ↔ (TakeLengths w s window scratch pool × (Unfit w s window pool i → ⊥)
+      × (takeCapped w (allowance pool i) s window scratch .answer ≡ a))
   pub unfit-leaves : (n : ℕ) → (n ≡ lengthNumber) ⊎ (n ≡ stateNumber) → r .call .answer ≡ turnedBack n 0
       → (r .call .bytes ≡ s) × (r .call .window ≡ window) × (r .call .scratch ≡ scratch)
   pub pool-exact : PoolExact pool i (r .call .answer) (r .call .bytes) (r .pool)
@@ -100,12 +111,16 @@ SharedTakeIsExact =
 -- ---- Close
 
 pub record SharedCloseExact (w p : ℕ) (s window pool : List ℕ) (i : ℕ) (r : Shared Closed) : Type 0 where
-  pub wrong-length : (r .call .answer ≡ turnedBack lengthNumber 0) ↔ (RightLengths w s window pool → ⊥)
+  pub wrong-length : (r .call .answer ≡ turnedBack lengthNumber 0) ↔ (RightlyPooled w s window pool → ⊥)
   pub no-share : (r .call .answer ≡ turnedBack stateNumber 0)
-      ↔ (RightLengths w s window pool × ((badState w (roomOf w (length window)) s ≡ true) ⊎ Shareless pool i))
-  pub else-plain : RightLengths w s window pool → badState w (roomOf w (length window)) s ≡ false
+      ↔ (RightlyPooled w s window pool × Unfit w s window pool i)
+  -- else it is the plain close, and every other answer is the plain one's
+  pub else-plain : RightlyPooled w s window pool → badState w (roomOf w (length window)) s ≡ false
       → (Shareless pool i → ⊥)
       → r .call ≡ closeCall w p s window
+  pub else-exactly : (a : Answer) → a ≢ turnedBack lengthNumber 0 → a ≢ turnedBack stateNumber 0
+      → (r .call .answer ≡ a)
+      ↔ (RightlyPooled w s window pool × (Unfit w s window pool i → ⊥) × (closeCall w p s window .answer ≡ a))
   pub refused-leaves : (n place : ℕ) → r .call .answer ≡ turnedBack n place
       → (r .call .bytes ≡ s) × (r .call .window ≡ window)
   pub pool-exact : PoolExact pool i (r .call .answer) (r .call .bytes) (r .pool)

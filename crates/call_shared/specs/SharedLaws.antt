@@ -4,7 +4,7 @@ use native.Mathlib.Omega.{arith}
 use mathlib.Core.Path.{_≡_, refl, sym, _∙_}
 use mathlib.Core.Bool.{Bool, true, false, true≢false, cond, _||_, or-assoc}
 use mathlib.Core.List.{List}
-use mathlib.Core.Logic.{_⊎_, inl, inr, ⊎-elim, _↔_}
+use mathlib.Core.Logic.{_⊎_, inl, inr, ⊎-elim, _↔_, _≢_}
 use lib.Dec.{leb, eqb}
 use lib.ListN.{length}
 use borrow.Author.Tests.{eqb-true, eq-eqb, leb-true, le-leb, leb-false}
@@ -19,7 +19,7 @@ use Rattle.call_open.specs.OpenTheorem.{lengths-i, lengths-e}
 use Rattle.call_take.specs.Take.{Taken}
 use Rattle.call_close.specs.Close.{Closed}
 use Rattle.call_shared.specs.Shared.{Shared, poolAfter}
-use Rattle.call_shared.specs.SharedExact.{Shareless, RightLengths, PoolExact}
+use Rattle.call_shared.specs.SharedExact.{Shareless, RightlyPooled, Unfit, PoolExact}
 use Rattle.call_shared.specs.SettledLaws.{Settled}
 
 -- ---- Kinds of calls
@@ -91,7 +91,7 @@ module _ (w : ℕ) (s window pool : List ℕ) where
   wrongLengths =
       badRecordLength w (length s) || (badWindowLength w (length window) || badPoolLength (length pool))
 
-  pub right-i : RightLengths w s window pool → wrongLengths ≡ false
+  pub right-i : RightlyPooled w s window pool → wrongLengths ≡ false
   unfolding badPoolLength
   right-i h =
       rw (
@@ -100,7 +100,7 @@ module _ (w : ℕ) (s window pool : List ℕ) where
         eq-eqb (length pool) 32 (h .1),
       )
 
-  pub right-e : wrongLengths ≡ false → RightLengths w s window pool
+  pub right-e : wrongLengths ≡ false → RightlyPooled w s window pool
   right-e h =
       let a = badRecordLength w (length s) in
       let b = badWindowLength w (length window) in
@@ -112,17 +112,14 @@ module _ (w : ℕ) (s window pool : List ℕ) where
     abbrev pub unfit : Bool
     unfit = badState w (roomOf w (length window)) s || noShare pool i
 
-    abbrev pub Unfit : Type 0
-    Unfit = (badState w (roomOf w (length window)) s ≡ true) ⊎ Shareless pool i
-
-    pub unfit-exact : (unfit ≡ true) ↔ Unfit
+    pub unfit-exact : (unfit ≡ true) ↔ Unfit w s window pool i
     unfit-exact =
         either (badState w (roomOf w (length window)) s) (noShare pool i) (Shareless pool i) (shareless pool i)
 
     pub unfit-parts : unfit ≡ false → (badState w (roomOf w (length window)) s ≡ false) × (noShare pool i ≡ false)
     unfit-parts h = or-false-e (badState w (roomOf w (length window)) s) (noShare pool i) h
 
-    pub good-watch : RightLengths w s window pool → unfit ≡ false → Good w s (length window)
+    pub good-watch : RightlyPooled w s window pool → unfit ≡ false → Good w s (length window)
     good-watch right h =
         tests-good w s (length window) (lengths-i w s window (right .0)) (unfit-parts h .0)
 
@@ -198,6 +195,17 @@ module _ {A : Type 0} (K : Kind A) (pool : List ℕ) (i : ℕ) where
   passes true bad x Right Unfit j r f = absurd (true≢false (j .lengths .1 r))
   passes false true x Right Unfit j r f = absurd (f (j .state .0 refl))
   passes false false x Right Unfit j r f = refl
+
+  -- Every other answer is the plain call's.
+  pub other-exact : (wrong bad : Bool) (x : A) (Right Unfit : Type 0) → Judged wrong bad x Right Unfit
+      → (a : Answer) → a ≢ turnedBack 6 0 → a ≢ turnedBack 34 0
+      → (K .answer (byTests wrong bad x .call) ≡ a) ↔ (Right × (Unfit → ⊥) × (K .answer x ≡ a))
+  other-exact true bad x Right Unfit j a n6 n34 =
+      (λ e. absurd (n6 (sym e ∙ K .refuses 6)), λ h. absurd (true≢false (j .lengths .1 (h .0))))
+  other-exact false true x Right Unfit j a n6 n34 =
+      (λ e. absurd (n34 (sym e ∙ K .refuses 34)), λ h. absurd (h .1 (j .state .0 refl)))
+  other-exact false false x Right Unfit j a n6 n34 =
+      (λ e. (j .lengths .0 refl, (λ u. true≢false (sym (j .state .1 u))), e), λ h. h .2)
 
   pub pool-by : (wrong bad : Bool) (x : A) (Right Unfit : Type 0) → Judged wrong bad x Right Unfit
       → let r = byTests wrong bad x in PoolExact pool i (K .answer (r .call)) (K .bytes (r .call)) (r .pool)

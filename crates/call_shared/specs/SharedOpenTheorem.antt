@@ -13,9 +13,9 @@ use Rattle.call_open.specs.Open.{Opened, openCall}
 use Rattle.call_open.specs.OpenReplyLaws.{turned-word, by-number, replies-tell}
 use Rattle.call_open.specs.OpenTheorem.{open-exact}
 use Rattle.call_shared.specs.Shared.{Shared, sharedOpen}
-use Rattle.call_shared.specs.SharedExact.{Shareless, RightLengths, SharedOpenTold, SharedOpenExact, SharedOpenIsExact}
+use Rattle.call_shared.specs.SharedExact.{Shareless, RightlyPooled, SharedOpenTold, SharedOpenExact, SharedOpenIsExact}
 use Rattle.call_shared.specs.SettledLaws.{open-settled}
-use Rattle.call_shared.specs.SharedLaws.{Kind, opens, shareless, share-below, wrongLengths, right-i, right-e, Neither, turned, went, byTests, Judged, length-exact, state-exact, passes, pool-by}
+use Rattle.call_shared.specs.SharedLaws.{Kind, opens, shareless, share-below, wrongLengths, right-i, right-e, Neither, turned, went, byTests, Judged, length-exact, state-exact, passes, other-exact, pool-by}
 
 -- ---- What turns it back, by its number and place
 
@@ -58,7 +58,7 @@ module _ (w : ℕ) (text : List ℕ) (k : ℕ) (labels s window pool : List ℕ)
   abbrev bad : Bool
   bad = noShare pool i
 
-  neither : RightLengths w s window pool → bad ≡ false → Neither (plain .answer)
+  neither : RightlyPooled w s window pool → bad ≡ false → Neither (plain .answer)
   neither right share n (inl e) q =
       open-exact w text k labels s window .wrong-length .0 (rw e at q) (right .0)
   neither right share n (inr e) q = never-34 n 0 e (replies-tell w text k labels s window .turned-by n 0 q)
@@ -88,7 +88,7 @@ module _ (w : ℕ) (text : List ℕ) (k : ℕ) (labels s window pool : List ℕ)
       open-exact w text k labels s window .refused-leaves
 
   abbrev Right : Type 0
-  Right = RightLengths w s window pool
+  Right = RightlyPooled w s window pool
 
   judged : Judged K pool i wrong bad plain Right (Shareless pool i)
   judged = record {
@@ -105,6 +105,7 @@ module _ (w : ℕ) (text : List ℕ) (k : ℕ) (labels s window pool : List ℕ)
     wrong-length = length-exact K pool i wrong bad plain Right (Shareless pool i) judged;
     no-share = state-exact K pool i wrong bad plain Right (Shareless pool i) judged;
     else-plain = passes K pool i wrong bad plain Right (Shareless pool i) judged;
+    else-exactly = other-exact K pool i wrong bad plain Right (Shareless pool i) judged;
     refused-leaves = left;
     pool-exact = pool-by K pool i wrong bad plain Right (Shareless pool i) judged;
     told = told;

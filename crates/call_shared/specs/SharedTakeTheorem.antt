@@ -22,9 +22,9 @@ use Rattle.call_take.specs.Take.{Taken, badLengths, decided, takeWithin, allowe
 use Rattle.call_take.specs.TakeReplies.{TakeTold}
 use Rattle.call_take.specs.TakeReplyLaws.{turned-told, replies-tell}
 use Rattle.call_shared.specs.Shared.{Shared, sharedTake}
-use Rattle.call_shared.specs.SharedExact.{Shareless, TakeLengths, SharedTakeExact, SharedTakeIsExact}
+use Rattle.call_shared.specs.SharedExact.{Shareless, TakeLengths, SharedTakeExact, SharedTakeIsExact, Unfit}
 use Rattle.call_shared.specs.SettledLaws.{take-settled}
-use Rattle.call_shared.specs.SharedLaws.{Kind, takes, not-either, share-below, right-i, right-e, unfit, Unfit, unfit-exact, unfit-parts, good-watch, Neither, turned, went, byTests, Judged, length-exact, state-exact, passes, pool-by}
+use Rattle.call_shared.specs.SharedLaws.{Kind, takes, not-either, share-below, right-i, right-e, unfit, unfit-exact, unfit-parts, good-watch, Neither, turned, went, byTests, Judged, length-exact, state-exact, passes, other-exact, pool-by}
 
 -- What a decision leads to is neither 6 nor 34.
 decided-neither : (w : ℕ) (s window : List ℕ) (fs : List Frontier) (d : Decision)
@@ -130,6 +130,7 @@ module _ (w : ℕ) (s window scratch pool : List ℕ) (i : ℕ) where
     else-plain = λ lengths sound share.
         passes K pool i wrong bad plain Right (Unfit w s window pool i) judged lengths
         (not-either (badState w (roomOf w (length window)) s) (Shareless pool i) sound share);
+    else-exactly = other-exact K pool i wrong bad plain Right (Unfit w s window pool i) judged;
     unfit-leaves = left;
     pool-exact = pool-by K pool i wrong bad plain Right (Unfit w s window pool i) judged;
     told = told;

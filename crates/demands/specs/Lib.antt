@@ -10,8 +10,6 @@ pub mod Verdict
 pub mod EveryList
 pub mod Earlier
 pub mod Written
--- One theorem to start from, made of all statements
-pub mod Theorem
 -- What is stated of every list, with no proofs: statements/X is proved in lists/X or forms/X
 pub mod statements
 -- The invariant of a watch that was written by calls only
@@ -21,4 +19,3 @@ pub mod bytes
 pub mod calls
 pub mod lists
 pub mod forms
-pub mod TheoremProved

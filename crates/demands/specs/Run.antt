@@ -12,7 +12,7 @@ use Rattle.call_find.specs.Find.{findCall}
 use Rattle.trial.specs.Trial.{Decision, undecided, false-clock, chosen, trial}
 use Rattle.call_take.specs.Take.{Taken, allowedOf, takeCapped}
 use Rattle.records.specs.Record.{keptCount, pendingAt, pendingEvents}
-use Rattle.call_close.specs.Close.{closing, closeCall}
+use Rattle.call_close.specs.Close.{Closed, closing, closeCall}
 use Rattle.call_open.specs.Open.{Opened}
 use Rattle.answers.specs.Answer.{Answer}
 use Rattle.call_offer.specs.Offer.{placeAmong, offeredEvent, offerCall}
@@ -129,6 +129,16 @@ afterTake w r d W = record {
   answers = r .answer ∷ W .answers;
 }
 
+-- The watch after a close, by what it answered and left.
+abbrev pub afterClose : (p : ℕ) (r : Closed) (W : Watch) → Watch
+afterClose p r W = record {
+  bytes = r .bytes;
+  window = r .window;
+  ledger = closedLedger p (W .ledger) (r .answer);
+  accepted = W .accepted;
+  answers = r .answer ∷ W .answers;
+}
+
 unfoldable pub after : (w : ℕ) (c : Call) (W : Watch) → Watch
 after w (offers mask clock labels) W =
     let r = offerCall w mask clock labels (W .bytes) in
@@ -144,15 +154,7 @@ after w (takes cap more scratch) W =
     let lent = W .window ++ replicate more 0 in
     afterTake w (takeCapped w cap (W .bytes) lent scratch) (trialOf w cap (W .bytes) lent) W
 after w (finds line) W = answeredBy (findCall w line (W .bytes) (W .window)) W
-after w (closes p) W =
-    let r = closeCall w p (W .bytes) (W .window) in
-    record {
-      bytes = r .bytes;
-      window = r .window;
-      ledger = closedLedger p (W .ledger) (r .answer);
-      accepted = W .accepted;
-      answers = r .answer ∷ W .answers;
-    }
+after w (closes p) W = afterClose p (closeCall w p (W .bytes) (W .window)) W
 after w (mislends m) W = answeredBy (answerTo w m) W
 
 -- The calls of a list, one after the other.

@@ -10,6 +10,7 @@ pub mod Delivery
 pub mod Examples
 pub mod TakeCases
 pub mod TakeAnswers
+pub mod Caps
 pub mod WindowExact
 pub mod OrderIndependent
 pub mod Looked

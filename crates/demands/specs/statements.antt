@@ -3,6 +3,7 @@ pub mod WindowExact
 pub mod Verdicts
 pub mod OrderIndependent
 pub mod TakeAnswers
+pub mod Caps
 pub mod Balance
 pub mod Find
 pub mod Mislent

@@ -37,6 +37,18 @@ unfolding sumBelow
 sum-plus zero f g = omega arith
 sum-plus (suc n) f g = omega (arith, sum-plus n f g)
 
+-- Values of 0 past the first m.
+pub sum-past : (n m : ℕ) (f : ℕ → ℕ) → m ≤ n → ((j : ℕ) → m ≤ j → f j ≡ 0) → sumBelow n f ≡ sumBelow m f
+unfolding sumBelow
+sum-past zero m f l past = let z : m ≡ 0 = omega arith in rw z
+sum-past (suc n) m f l past = go (ℕ-discrete m (suc n)) (λ fewer. sum-past n m f fewer past)
+  where
+    go : Dec (m ≡ suc n) → (m ≤ n → sumBelow n f ≡ sumBelow m f) → sumBelow (suc n) f ≡ sumBelow m f
+    go (yes e) before = rw e
+    go (no other) before =
+        let fewer : m ≤ n = omega (arith, other) in
+        omega (arith, before fewer, past n fewer)
+
 -- A sum is that of the others, and one value.
 pub sum-split : (n i : ℕ) (f : ℕ → ℕ) → i < n → sumBelow n f ≡ sumBelow n (λ j. cond (eqb j i) 0 (f j)) + f i
 unfolding sumBelow

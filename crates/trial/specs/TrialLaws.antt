@@ -157,7 +157,7 @@ tried-right w s valid allowed fs seen (i ∷ is) below =
     go true p true q false t rest = rw (p, q, t) (rest true)
 
 -- Every number in turn is that of a pending event.
-pending-below : (w : ℕ) (s : List ℕ) (i : ℕ) → List·Memᴰ i (inTurn (pendingEvents w s)) → i < pendingCount s
+pub pending-below : (w : ℕ) (s : List ℕ) (i : ℕ) → List·Memᴰ i (inTurn (pendingEvents w s)) → i < pendingCount s
 unfolding pendingEvents
 pending-below w s i m =
     let n = turn-below 9 0 0 (pendingEvents w s) i m in

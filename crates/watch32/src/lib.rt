@@ -1,5 +1,5 @@
 // The functions that C calls, on numbers and byte slices, for counts of four bytes (02 [6]): the five calls, the move
-// that writes a watch of this form, and the page.
+// that writes a watch of this form, the page, the busiest day, and the calls of watches that share a pool.
 
 ghost use mathlib.Core.Path.{_≡_};
 ghost use mathlib.Core.List.{[], _∷_};
@@ -12,6 +12,8 @@ ghost use Rattle.call_close.specs.Close.{closeCall};
 ghost use Rattle.call_move.specs.Move.{moveCall};
 ghost use Rattle.call_page.specs.Page.{pageCall};
 ghost use Rattle.call_busiest.specs.Busiest.{busiestCall};
+ghost use Rattle.call_shares.specs.Shares.{setShares};
+ghost use Rattle.call_shared.specs.Shared.{sharedOpen, sharedTake, sharedClose};
 ghost use Rattle.answers.specs.Answer.{replyWord};
 ghost use Rattle.answers.specs.Result.{resultWord};
 
@@ -128,4 +130,81 @@ pub extern "C" fn watch32_busiest(k: u64, n: u64, events: &mut [u8]) -> u64
     ensures events { λ r. ⌜ now (events .exit) ≡ busiestCall 4 k n (now (events .entry)) .events ⌝ }
 {
     call_busiest::busiest(4, k, n, events)
+}
+
+// Writes the shares of watches into a pool (02 [10]).
+#[no_mangle]
+pub extern "C" fn watch32_set_shares(shares: &[u16], pool: &mut [u8]) -> u64
+    ensures reply { λ r. ⌜ r ≡ resultWord (setShares (now (shares .entry)) (now (pool .entry)) .answer) ⌝ }
+    ensures pool { λ r. ⌜ now (pool .exit) ≡ setShares (now (shares .entry)) (now (pool .entry)) .pool ⌝ }
+{
+    call_shares::set_shares(shares, pool)
+}
+
+// Opens a watch that shares a pool, by its number there.
+#[no_mangle]
+pub extern "C" fn watch32_shared_open(
+    rule: &[u8],
+    k: u64,
+    labels: u64,
+    record: &mut [u8],
+    window: &mut [u8],
+    pool: &mut [u8],
+    number: u64,
+) -> u64
+    ensures reply { λ r. ⌜ r ≡ replyWord (sharedOpen 4 (now (rule .entry)) k (unpackLabels labels)
+        (now («record» .entry)) (now (window .entry)) (now (pool .entry)) number .call .answer) ⌝ }
+    ensures bytes { λ r. ⌜ now («record» .exit) ≡ sharedOpen 4 (now (rule .entry)) k (unpackLabels labels)
+        (now («record» .entry)) (now (window .entry)) (now (pool .entry)) number .call .bytes ⌝ }
+    ensures window { λ r. ⌜ now (window .exit) ≡ sharedOpen 4 (now (rule .entry)) k (unpackLabels labels)
+        (now («record» .entry)) (now (window .entry)) (now (pool .entry)) number .call .window ⌝ }
+    ensures pool { λ r. ⌜ now (pool .exit) ≡ sharedOpen 4 (now (rule .entry)) k (unpackLabels labels)
+        (now («record» .entry)) (now (window .entry)) (now (pool .entry)) number .pool ⌝ }
+{
+    let bytes = call_words::unpack_labels(labels);
+    call_shared::opening::open(4, rule, k, bytes, record, window, pool, number)
+}
+
+// Takes the first pending event that is decided on, of a watch that shares a pool.
+#[no_mangle]
+pub extern "C" fn watch32_shared_take(
+    record: &mut [u8],
+    window: &mut [u8],
+    scratch: &mut [u8],
+    pool: &mut [u8],
+    number: u64,
+) -> u64
+    ensures reply { λ r. ⌜ r ≡ replyWord (sharedTake 4 (now («record» .entry)) (now (window .entry))
+        (now (scratch .entry)) (now (pool .entry)) number .call .answer) ⌝ }
+    ensures bytes { λ r. ⌜ now («record» .exit) ≡ sharedTake 4 (now («record» .entry)) (now (window .entry))
+        (now (scratch .entry)) (now (pool .entry)) number .call .bytes ⌝ }
+    ensures window { λ r. ⌜ now (window .exit) ≡ sharedTake 4 (now («record» .entry)) (now (window .entry))
+        (now (scratch .entry)) (now (pool .entry)) number .call .window ⌝ }
+    ensures scratch { λ r. ⌜ now (scratch .exit) ≡ sharedTake 4 (now («record» .entry)) (now (window .entry))
+        (now (scratch .entry)) (now (pool .entry)) number .call .scratch ⌝ }
+    ensures pool { λ r. ⌜ now (pool .exit) ≡ sharedTake 4 (now («record» .entry)) (now (window .entry))
+        (now (scratch .entry)) (now (pool .entry)) number .pool ⌝ }
+{
+    call_shared::taking::take(4, record, window, scratch, pool, number)
+}
+
+// Closes a process of a watch that shares a pool.
+#[no_mangle]
+pub extern "C" fn watch32_shared_close(
+    process: u64,
+    record: &mut [u8],
+    window: &mut [u8],
+    pool: &mut [u8],
+    number: u64,
+) -> u64
+    ensures reply { λ r. ⌜ r ≡ replyWord (sharedClose 4 process (now («record» .entry)) (now (window .entry))
+        (now (pool .entry)) number .call .answer) ⌝ }
+    ensures bytes { λ r. ⌜ now («record» .exit) ≡ sharedClose 4 process (now («record» .entry)) (now (window .entry))
+        (now (pool .entry)) number .call .bytes ⌝ }
+    ensures window { λ r. ⌜ now (window .exit) ≡ sharedClose 4 process (now («record» .entry)) (now (window .entry))
+        (now (pool .entry)) number .call .window ⌝ }
+    ensures pool { λ r. ⌜ now (pool .exit) ≡ sharedClose 4 process (now («record» .entry)) (now (window .entry))
+        (now (pool .entry)) number .pool ⌝ }
+{
+    call_shared::closing::close(4, process, record, window, pool, number)
 }

@@ -9,6 +9,7 @@ use Rattle.demands.specs.Written.{movedTo, opens, moves}
 use Rattle.demands.specs.lists.WindowExact.{window-exact-of}
 use Rattle.demands.specs.lists.Offer.{offer-exact-of}
 use Rattle.demands.specs.lists.TakeAnswers.{take-exact-of}
+use Rattle.demands.specs.lists.Caps.{caps-alike-of}
 use Rattle.demands.specs.lists.Find.{find-exact-of}
 use Rattle.demands.specs.lists.Page.{page-shows-of}
 use Rattle.demands.specs.lists.Busiest.{busiest-kept-of}
@@ -20,6 +21,7 @@ use Rattle.demands.specs.lists.Balance.{balanced-of}
 use Rattle.demands.specs.lists.SoundRun.{Sound}
 use Rattle.demands.specs.lists.OrderIndependent.{alike-as-read}
 use Rattle.demands.specs.forms.Moves.{written-sound, every-watch, run-written, move-answers}
+use Rattle.demands.specs.statements.Caps.{CapsAreAlike}
 use Rattle.demands.specs.statements.Moves.{nextMove}
 use Rattle.demands.specs.statements.EveryWatch.{WatchExact, EveryWatchIsExact, ExactAfterAMove, OrderIndependentWithMoves}
 
@@ -28,6 +30,7 @@ exact-of w k f start Z S = record {
   window = window-exact-of w k f start Z S;
   offers = offer-exact-of w k f start Z S;
   takes = take-exact-of w k f start Z S;
+  caps = caps-alike-of w k f start Z S;
   finds = find-exact-of w k f start Z S;
   pages = page-shows-of w k f start Z S;
   busiest = busiest-kept-of w k f start Z S;
@@ -42,6 +45,9 @@ exact-of w k f start Z S = record {
 
 pub every-watch-exact : EveryWatchIsExact
 every-watch-exact = every-watch _ exact-of
+
+pub caps-alike : CapsAreAlike
+caps-alike = every-watch _ caps-alike-of
 
 pub exact-after-a-move : ExactAfterAMove
 exact-after-a-move v w pos pos′ text k labels eight s window a cs p t target q ds r =

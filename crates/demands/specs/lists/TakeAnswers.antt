@@ -214,7 +214,7 @@ module _ (w k : ℕ) (f : Formula) (start : Cut) (Z : Watch) (S : Sound w k f st
   lengths-right h =
       rw (eq-eqb (length (Z .bytes)) (recordLength w) long, h .0, eq-eqb (length scratch) (length lent) (h .1))
 
-  lengths-known : wrong ≡ false → RightLengths w Z more scratch
+  pub lengths-known : wrong ≡ false → RightLengths w Z more scratch
   unfolding badLengths badRecordLength
   lengths-known h =
       let b : Bool = badWindowLength w (length lent) in

@@ -16,6 +16,7 @@ use Rattle.demands.specs.Written.{Written, movedTo, OfEveryWatch}
 use Rattle.demands.specs.statements.WindowExact.{WindowExact}
 use Rattle.demands.specs.statements.Offer.{OfferExact}
 use Rattle.demands.specs.statements.TakeAnswers.{TakeExact}
+use Rattle.demands.specs.statements.Caps.{CapsAlike}
 use Rattle.demands.specs.statements.Find.{FindExact}
 use Rattle.demands.specs.statements.Page.{PageShows}
 use Rattle.demands.specs.statements.Busiest.{BusiestKept}
@@ -31,6 +32,7 @@ pub record WatchExact (w k : ℕ) (f : Formula) (start : Cut) (Z : Watch) : Type
   pub window : WindowExact w k f start Z
   pub offers : OfferExact w k f start Z
   pub takes : TakeExact w k f start Z
+  pub caps : CapsAlike w k f start Z
   pub finds : FindExact w k f start Z
   pub pages : PageShows w k f start Z
   pub busiest : BusiestKept w k f start Z

@@ -15,30 +15,39 @@ use Rattle.call_move.specs.MoveTheorem as moving
 use Rattle.call_page.specs.PageTheorem as paging
 use Rattle.call_busiest.specs.BusiestTheorem as day
 use Rattle.sharing_laws.specs.Best as sharing
-use Rattle.demands.specs.Theorem.{Theorem}
+use Rattle.call_take.specs.TakeCapsLaws.{caps-make-no-difference}
+use Rattle.call_shares.specs.SharesTheorem as shares
+use Rattle.call_shared.specs.SharedOpenTheorem.{shared-open-exact}
+use Rattle.call_shared.specs.SharedTakeTheorem.{shared-take-exact}
+use Rattle.call_shared.specs.SharedCloseTheorem.{shared-close-exact}
+use Rattle.call_shared.specs.SharedFitLaws.{allowed-exactly}
+use Rattle.pool_runs.specs.WithinTheorem.{never-over}
+use Rattle.pool_runs.specs.MembersTheorem.{every-member-exact, members-order-independent, member-and-plain-alike}
+use Rattle.pool_runs.specs.OthersTheorem.{others-make-no-difference}
+use Rattle.theorem.specs.Theorem.{Theorem}
 use Rattle.demands.specs.lists.Mislent.{mislent-exact}
 use Rattle.demands.specs.lists.WindowExact.{window-exact}
 use Rattle.demands.specs.lists.Offer.{offer-exact}
 use Rattle.demands.specs.lists.TakeAnswers.{take-exact}
 use Rattle.demands.specs.lists.VerdictsTrue.{verdicts-true}
 use Rattle.demands.specs.lists.OrderIndependent.{order-independent}
 use Rattle.demands.specs.lists.Balance.{answers-balanced}
 use Rattle.demands.specs.lists.Again.{again-exact}
 use Rattle.demands.specs.lists.WithoutAgains.{agains-make-no-difference}
 use Rattle.demands.specs.lists.Messages.{messages-exact}
 use Rattle.demands.specs.lists.Earlier.{earlier-lists-stand}
 use Rattle.demands.specs.lists.Find.{find-first}
 use Rattle.demands.specs.lists.Close.{close-exact}
 use Rattle.demands.specs.lists.Dropped.{dropped-for-good}
 use Rattle.demands.specs.lists.Page.{page-shows-kept}
 use Rattle.demands.specs.lists.DayListed.{day-is-listed}
 use Rattle.demands.specs.lists.Busiest.{busiest-kept}
 use Rattle.demands.specs.lists.BusiestTaken.{day-fits-its-window, day-is-taken}
 use Rattle.demands.specs.lists.BusiestRoom.{day-meets-no-36}
 use Rattle.demands.specs.lists.Examples.{starred}
-use Rattle.demands.specs.forms.EveryWatch.{every-watch-exact, exact-after-a-move, order-independent-with-moves}
+use Rattle.demands.specs.forms.EveryWatch.{every-watch-exact, caps-alike, exact-after-a-move, order-independent-with-moves}
 use Rattle.demands.specs.forms.BothForms.{both-forms-alike, moved-goes-on}
 use Rattle.demands.specs.forms.PagesAlike.{pages-alike}
 
 pub theorem : Theorem
 theorem = record {
@@ -90,5 +99,17 @@ theorem = record {
   day-fits = day-fits-its-window;
   day-taken = day-is-taken;
   day-no-36 = day-meets-no-36;
+  shares-exact = shares.shares-exact;
+  shared-open = shared-open-exact;
+  shared-take = shared-take-exact;
+  shared-close = shared-close-exact;
+  allowed-exactly = allowed-exactly;
+  caps-idle = caps-make-no-difference;
+  caps-alike = caps-alike;
+  never-over = never-over;
+  members-exact = every-member-exact;
+  members-order = members-order-independent;
+  member-and-plain = member-and-plain-alike;
+  others-idle = others-make-no-difference;
   examples = starred;
 }
