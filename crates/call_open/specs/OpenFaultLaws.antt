@@ -22,10 +22,13 @@ module _ (w : ℕ) (text : List ℕ) (k : ℕ) (labels s window : List ℕ) wher
   abbrev fault : ℕ
   fault = openFault w k labels (length s) (length window)
 
-  pub open-by : openCall w text k labels s window ≡ cond (eqb fault 0) (openRead w k labels s window (readRule text k)) (turned s window fault)
+  pub open-by : openCall w text k labels s window
+      ≡ cond (eqb fault 0) (openRead w k labels s window (readRule text k)) (turned s window fault)
   unfolding openCall openFault
   open-by =
-      chosen-by (turn (badRecordLength w (length s) || badWindowLength w (length window)) 6 (turn (badProcesses k) 5 (turn (badStart k labels) 9 end)))
+      chosen-by
+      (turn (badRecordLength w (length s) || badWindowLength w (length window)) 6
+      (turn (badProcesses k) 5 (turn (badStart k labels) 9 end)))
       (turned s window) (openRead w k labels s window (readRule text k)) (lit< tt, (lit< tt, (lit< tt, tt)))
 
   pub open-back : (n : ℕ) → n ≡ fault → (n ≡ 0 → ⊥) → openCall w text k labels s window ≡ turned s window n

@@ -49,7 +49,8 @@ module _ (w : ℕ) (text : List ℕ) (k : ℕ) (labels s window pool : List ℕ)
       → sharedOpen w text k labels s window pool i ≡ turned (opens s window) pool i n
   open-turned n e some =
       open-by
-      ∙ fault-turned (opens s window) pool i open-number opened (open-back w text k labels s window open-number refl) n e some
+      ∙ fault-turned (opens s window) pool i open-number opened
+      (open-back w text k labels s window open-number refl) n e some
 
   -- What is known where neither its own tests nor those of the plain open, but for the text, turn it back.
   pub record OpenPassed : Type 0 where

@@ -15,26 +15,32 @@ use Rattle.call_shared.specs.SharedLaws.{Kind, turned, went, share-below
 use Rattle.call_shared.specs.SharedCode.{sharedFault}
 
 module _ {A : Type 0} (K : Kind A) (pool : List ℕ) (i : ℕ) where
+  abbrev refused : ℕ → Shared A
+  refused n = turned K pool i n
+
+  abbrev done : A → Shared A
+  done x = went K pool i x
+
   -- A shared call by the number that the plain call is turned back with, and this call.
   abbrev pub byFault : ℕ → A → Shared A
-  byFault p x = cond (eqb p 6 || badPoolLength (length pool)) (turned K pool i 6) (cond (noShare pool i) (turned K pool i 34) (went K pool i x))
+  byFault p x = cond (eqb p 6 || badPoolLength (length pool)) (refused 6) (cond (noShare pool i) (refused 34) (done x))
 
-  went-back : (n : ℕ) → went K pool i (K .back n) ≡ turned K pool i n
+  went-back : (n : ℕ) → done (K .back n) ≡ refused n
   unfolding poolAfter
   went-back n = rw (K .refuses n)
 
   pub fault-turned : (p : ℕ) (x : A) → ((p ≡ 0 → ⊥) → x ≡ K .back p) → (n : ℕ) → n ≡ sharedFault p pool i → (n ≡ 0 → ⊥)
-      → byFault p x ≡ turned K pool i n
+      → byFault p x ≡ refused n
   unfolding sharedFault
   fault-turned p x plain n e some = go (eqb p 6 || badPoolLength (length pool)) (noShare pool i) e
     where
-      go : (a b : Bool) → n ≡ cond a 6 (cond b 34 p) → cond a (turned K pool i 6) (cond b (turned K pool i 34) (went K pool i x)) ≡ turned K pool i n
-      go true b f = ap (turned K pool i) (sym f)
-      go false true f = ap (turned K pool i) (sym f)
-      go false false f = ap (went K pool i) (plain (λ z. some (f ∙ z))) ∙ went-back p ∙ ap (turned K pool i) (sym f)
+      go : (a b : Bool) → n ≡ cond a 6 (cond b 34 p) → cond a (refused 6) (cond b (refused 34) (done x)) ≡ refused n
+      go true b f = ap refused (sym f)
+      go false true f = ap refused (sym f)
+      go false false f = ap done (plain (λ z. some (f ∙ z))) ∙ went-back p ∙ ap refused (sym f)
 
   pub fault-passed : (p : ℕ) (x : A) → sharedFault p pool i ≡ 0
-      → (p ≡ 0) × (length pool ≡ 32) × (i < 8) × (byFault p x ≡ went K pool i x)
+      → (p ≡ 0) × (length pool ≡ 32) × (i < 8) × (byFault p x ≡ done x)
   unfolding sharedFault
   fault-passed p x h =
       let wrong = eqb p 6 || badPoolLength (length pool) in
@@ -53,8 +59,8 @@ module _ {A : Type 0} (K : Kind A) (pool : List ℕ) (i : ℕ) where
 
   -- The plain 34 and that of the number are one refusal.
   pub two-by : (a b c d : Bool) (x : A) → let y = cond a (K .back 6) (cond c (K .back 34) x) in
-      cond (a || b) (turned K pool i 6) (cond (c || d) (turned K pool i 34) (went K pool i y))
-      ≡ cond (eqb (cond a 6 (cond c 34 0)) 6 || b) (turned K pool i 6) (cond d (turned K pool i 34) (went K pool i y))
+      cond (a || b) (refused 6) (cond (c || d) (refused 34) (done y))
+      ≡ cond (eqb (cond a 6 (cond c 34 0)) 6 || b) (refused 6) (cond d (refused 34) (done y))
   two-by true b c d x = refl
   two-by false true true d x = refl
   two-by false true false d x = refl
@@ -63,8 +69,8 @@ module _ {A : Type 0} (K : Kind A) (pool : List ℕ) (i : ℕ) where
   two-by false false false d x = refl
 
   pub three-by : (a b c d e : Bool) (x : A)
-      → cond (a || b) (turned K pool i 6) (cond d (turned K pool i 34) (went K pool i x))
-      ≡ cond (eqb (cond a 6 (cond c 5 (cond e 9 0))) 6 || b) (turned K pool i 6) (cond d (turned K pool i 34) (went K pool i x))
+      → cond (a || b) (refused 6) (cond d (refused 34) (done x))
+      ≡ cond (eqb (cond a 6 (cond c 5 (cond e 9 0))) 6 || b) (refused 6) (cond d (refused 34) (done x))
   three-by true b c d e x = refl
   three-by false b true d e x = refl
   three-by false b false d true x = refl

@@ -171,4 +171,5 @@ close-settled w p s window good = go (closeCall w p s window) (close-case w p s 
         let n = length (remaining w s closed (frontiers w window (keptCount s))) in
         let fit : n ≤ 1024 = omega (arith, few-remain w s closed window (keptCount s), good .kept) in
         let long : 8 ≤ length (set s 3 closed) = rw (length-set s 3 closed, good .record-long) (omega arith) in
-        rw q (record { numbered = tt; few = λ _. rw (number-put-same (set s 3 closed) 4 4 n long (omega arith)) (omega arith) })
+        let same = number-put-same (set s 3 closed) 4 4 n long (omega arith) in
+        rw q (record { numbered = tt; few = λ _. rw same (omega arith) })

@@ -113,7 +113,8 @@ module _ (w : ℕ) (s window pool : List ℕ) where
     unfit = badState w (roomOf w (length window)) s || noShare pool i
 
     pub unfit-exact : (unfit ≡ true) ↔ Unfit w s window pool i
-    unfit-exact = either (badState w (roomOf w (length window)) s) (noShare pool i) (Shareless pool i) (shareless pool i)
+    unfit-exact =
+        either (badState w (roomOf w (length window)) s) (noShare pool i) (Shareless pool i) (shareless pool i)
 
     pub unfit-parts : unfit ≡ false → (badState w (roomOf w (length window)) s ≡ false) × (noShare pool i ≡ false)
     unfit-parts h = or-false-e (badState w (roomOf w (length window)) s) (noShare pool i) h
@@ -184,8 +185,10 @@ module _ {A : Type 0} (K : Kind A) (pool : List ℕ) (i : ℕ) where
   state-exact true bad x Right Unfit j =
       (λ e. absurd (omega (arith, other-number 6 34 e)), λ h. absurd (true≢false (j .lengths .1 (h .0))))
   state-exact false true x Right Unfit j = (λ _. (j .lengths .0 refl, j .state .0 refl), λ _. K .refuses 34)
-  state-exact false false x Right Unfit j =
-      (λ e. absurd (j .neither (j .lengths .0 refl) refl 34 (inr refl) e), λ h. absurd (true≢false (sym (j .state .1 (h .1)))))
+  state-exact false false x Right Unfit j = (
+    λ e. absurd (j .neither (j .lengths .0 refl) refl 34 (inr refl) e),
+    λ h. absurd (true≢false (sym (j .state .1 (h .1)))),
+  )
 
   pub passes : (wrong bad : Bool) (x : A) (Right Unfit : Type 0) → Judged wrong bad x Right Unfit
       → Right → (Unfit → ⊥) → byTests wrong bad x .call ≡ x

@@ -27,7 +27,8 @@ use Rattle.call_shared.specs.SettledLaws.{take-settled}
 use Rattle.call_shared.specs.SharedLaws.{Kind, takes, not-either, share-below, right-i, right-e, unfit, unfit-exact, unfit-parts, good-watch, Neither, turned, went, byTests, Judged, length-exact, state-exact, passes, other-exact, pool-by}
 
 -- What a decision leads to is neither 6 nor 34.
-decided-neither : (w : ℕ) (s window : List ℕ) (fs : List Frontier) (d : Decision) → Neither (decided w s window fs d .answer)
+decided-neither : (w : ℕ) (s window : List ℕ) (fs : List Frontier) (d : Decision)
+    → Neither (decided w s window fs d .answer)
 unfolding decided stateOf
 decided-neither w s window fs (undecided true) n (inl e) q = let z : 36 ≡ n = cc in omega arith
 decided-neither w s window fs (undecided true) n (inr e) q = let z : 36 ≡ n = cc in omega arith
@@ -58,7 +59,7 @@ module _ (w : ℕ) (s window scratch pool : List ℕ) (i : ℕ) where
   parts : wrong ≡ false → (badRecordLength w (length s) ≡ false) × (badWindowLength w (length window) ≡ false)
       × (unlike ≡ false) × (badPoolLength (length pool) ≡ false)
   parts h =
-      let lent = or-false-e (badLengths w (length s) (length window) (length scratch)) (badPoolLength (length pool)) h in
+      let lent = or-false-e (badLengths w (length s) (length window) (length scratch)) _ h in
       let a = or-false-e (badRecordLength w (length s)) (badWindowLength w (length window) || unlike) (lent .0) in
       let b = or-false-e (badWindowLength w (length window)) unlike (a .1) in
       (a .0, b .0, b .1, lent .1)
@@ -69,7 +70,8 @@ module _ (w : ℕ) (s window scratch pool : List ℕ) (i : ℕ) where
       there : wrong ≡ false → TakeLengths w s window scratch pool
       there h =
           let p = parts h in
-          (right-e w s window pool (rw (p .0, p .1, p .3)), eqb-true (length scratch) (length window) (not-false _ (p .2)))
+          let same = eqb-true (length scratch) (length window) (not-false _ (p .2)) in
+          (right-e w s window pool (rw (p .0, p .1, p .3)), same)
 
       back : TakeLengths w s window scratch pool → wrong ≡ false
       back x =

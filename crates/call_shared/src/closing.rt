@@ -18,10 +18,14 @@ pub fn close(
     number: u64,
 ) -> u64
     requires { ⌜ Width w ⌝ }
-    ensures reply { λ r. ⌜ r ≡ replyWord (sharedClose w process (now («record» .entry)) (now (window .entry)) (now (pool .entry)) number .call .answer) ⌝ }
-    ensures bytes { λ r. ⌜ now («record» .exit) ≡ sharedClose w process (now («record» .entry)) (now (window .entry)) (now (pool .entry)) number .call .bytes ⌝ }
-    ensures window { λ r. ⌜ now (window .exit) ≡ sharedClose w process (now («record» .entry)) (now (window .entry)) (now (pool .entry)) number .call .window ⌝ }
-    ensures pool { λ r. ⌜ now (pool .exit) ≡ sharedClose w process (now («record» .entry)) (now (window .entry)) (now (pool .entry)) number .pool ⌝ }
+    ensures reply { λ r. ⌜ r ≡ replyWord (sharedClose w process (now («record» .entry)) (now (window .entry))
+        (now (pool .entry)) number .call .answer) ⌝ }
+    ensures bytes { λ r. ⌜ now («record» .exit) ≡ sharedClose w process (now («record» .entry)) (now (window .entry))
+        (now (pool .entry)) number .call .bytes ⌝ }
+    ensures window { λ r. ⌜ now (window .exit) ≡ sharedClose w process (now («record» .entry)) (now (window .entry))
+        (now (pool .entry)) number .call .window ⌝ }
+    ensures pool { λ r. ⌜ now (pool .exit) ≡ sharedClose w process (now («record» .entry)) (now (window .entry))
+        (now (pool .entry)) number .pool ⌝ }
 {
     let plain = watch_fault(w, record, window.len());
     let fault = shared_fault(plain, pool, number);

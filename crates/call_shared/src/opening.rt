@@ -20,10 +20,14 @@ pub fn open(
     number: u64,
 ) -> u64
     requires { ⌜ Width w ⌝ }
-    ensures reply { λ r. ⌜ r ≡ replyWord (sharedOpen w (now (rule .entry)) k labels (now («record» .entry)) (now (window .entry)) (now (pool .entry)) number .call .answer) ⌝ }
-    ensures bytes { λ r. ⌜ now («record» .exit) ≡ sharedOpen w (now (rule .entry)) k labels (now («record» .entry)) (now (window .entry)) (now (pool .entry)) number .call .bytes ⌝ }
-    ensures window { λ r. ⌜ now (window .exit) ≡ sharedOpen w (now (rule .entry)) k labels (now («record» .entry)) (now (window .entry)) (now (pool .entry)) number .call .window ⌝ }
-    ensures pool { λ r. ⌜ now (pool .exit) ≡ sharedOpen w (now (rule .entry)) k labels (now («record» .entry)) (now (window .entry)) (now (pool .entry)) number .pool ⌝ }
+    ensures reply { λ r. ⌜ r ≡ replyWord (sharedOpen w (now (rule .entry)) k labels
+        (now («record» .entry)) (now (window .entry)) (now (pool .entry)) number .call .answer) ⌝ }
+    ensures bytes { λ r. ⌜ now («record» .exit) ≡ sharedOpen w (now (rule .entry)) k labels
+        (now («record» .entry)) (now (window .entry)) (now (pool .entry)) number .call .bytes ⌝ }
+    ensures window { λ r. ⌜ now (window .exit) ≡ sharedOpen w (now (rule .entry)) k labels
+        (now («record» .entry)) (now (window .entry)) (now (pool .entry)) number .call .window ⌝ }
+    ensures pool { λ r. ⌜ now (pool .exit) ≡ sharedOpen w (now (rule .entry)) k labels
+        (now («record» .entry)) (now (window .entry)) (now (pool .entry)) number .pool ⌝ }
 {
     let plain = open_fault(w, k, labels, record.len(), window.len());
     let fault = shared_fault(plain, pool, number);

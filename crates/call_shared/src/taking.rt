@@ -28,11 +28,16 @@ pub fn take(
     number: u64,
 ) -> u64
     requires { ⌜ Width w ⌝ }
-    ensures reply { λ r. ⌜ r ≡ replyWord (sharedTake w (now («record» .entry)) (now (window .entry)) (now (scratch .entry)) (now (pool .entry)) number .call .answer) ⌝ }
-    ensures bytes { λ r. ⌜ now («record» .exit) ≡ sharedTake w (now («record» .entry)) (now (window .entry)) (now (scratch .entry)) (now (pool .entry)) number .call .bytes ⌝ }
-    ensures window { λ r. ⌜ now (window .exit) ≡ sharedTake w (now («record» .entry)) (now (window .entry)) (now (scratch .entry)) (now (pool .entry)) number .call .window ⌝ }
-    ensures scratch { λ r. ⌜ now (scratch .exit) ≡ sharedTake w (now («record» .entry)) (now (window .entry)) (now (scratch .entry)) (now (pool .entry)) number .call .scratch ⌝ }
-    ensures pool { λ r. ⌜ now (pool .exit) ≡ sharedTake w (now («record» .entry)) (now (window .entry)) (now (scratch .entry)) (now (pool .entry)) number .pool ⌝ }
+    ensures reply { λ r. ⌜ r ≡ replyWord (sharedTake w (now («record» .entry)) (now (window .entry))
+        (now (scratch .entry)) (now (pool .entry)) number .call .answer) ⌝ }
+    ensures bytes { λ r. ⌜ now («record» .exit) ≡ sharedTake w (now («record» .entry)) (now (window .entry))
+        (now (scratch .entry)) (now (pool .entry)) number .call .bytes ⌝ }
+    ensures window { λ r. ⌜ now (window .exit) ≡ sharedTake w (now («record» .entry)) (now (window .entry))
+        (now (scratch .entry)) (now (pool .entry)) number .call .window ⌝ }
+    ensures scratch { λ r. ⌜ now (scratch .exit) ≡ sharedTake w (now («record» .entry)) (now (window .entry))
+        (now (scratch .entry)) (now (pool .entry)) number .call .scratch ⌝ }
+    ensures pool { λ r. ⌜ now (pool .exit) ≡ sharedTake w (now («record» .entry)) (now (window .entry))
+        (now (scratch .entry)) (now (pool .entry)) number .pool ⌝ }
 {
     let plain = take_fault(w, record, window.len(), scratch.len());
     let fault = shared_fault(plain, pool, number);

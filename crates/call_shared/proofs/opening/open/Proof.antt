@@ -32,15 +32,17 @@ opened c = c .before .before .before .before .before .before
 
 number-is : (c : tie.After-shared-fault) → let a = start c .args in
     c .shared-fault .result
-    ≡ sharedFault (openFault (a .w) (a .k) (a .labels) (length (now (a .«record»))) (length (now (a .window)))) (now (a .pool)) (a .number)
+    ≡ sharedFault (openFault (a .w) (a .k) (a .labels) (length (now (a .«record»))) (length (now (a .window))))
+    (now (a .pool)) (a .number)
 number-is c = rw (← (judged c .open-fault .ensures)) (c .shared-fault .ensures)
 
 known : (c : tie.Else1) → let a = start (c .before) .args in
-    OpenPassed (a .w) (now (a .rule)) (a .k) (a .labels) (now (a .«record»)) (now (a .window)) (now (a .pool)) (a .number)
+    OpenPassed (a .w) (now (a .rule)) (a .k) (a .labels) (now (a .«record»)) (now (a .window)) (now (a .pool))
+    (a .number)
 known c =
     let a = start (c .before) .args in
-    open-passed (a .w) (now (a .rule)) (a .k) (a .labels) (now (a .«record»)) (now (a .window)) (now (a .pool)) (a .number)
-    (sym (number-is (c .before)) ∙ c .if1 .left)
+    open-passed (a .w) (now (a .rule)) (a .k) (a .labels) (now (a .«record»)) (now (a .window)) (now (a .pool))
+    (a .number) (sym (number-is (c .before)) ∙ c .if1 .left)
 
 made : (c : tie.After-open) → let a = start (passed c .before) .args in
     let call = openCall (a .w) (now (a .rule)) (a .k) (a .labels) (now (a .«record»)) (now (a .window)) in
@@ -75,8 +77,8 @@ returns c =
     let f = c .before in
     let a = start f .args in
     let whole =
-    open-turned (a .w) (now (a .rule)) (a .k) (a .labels) (now (a .«record»)) (now (a .window)) (now (a .pool)) (a .number)
-    (f .shared-fault .result) (number-is f) (c .if1 .taken) in
+    open-turned (a .w) (now (a .rule)) (a .k) (a .labels) (now (a .«record»)) (now (a .window)) (now (a .pool))
+    (a .number) (f .shared-fault .result) (number-is f) (c .if1 .taken) in
     (rw whole (omega arith), (rw whole, (rw whole, rw whole)))
 
 open-requires : tie.Need-open-requires

@@ -56,36 +56,38 @@ allowed-is c =
     rw (← (c .before .before .allowance .ensures .0), ← (c .before .room-of .ensures)) (c .smaller .ensures)
 
 -- What is taken is what the definition takes.
-same-take : (c : tie.After-take-within) → let a = start (passed (allowed c) .before) .args in
-    takeWithin (a .w) (allowed c .smaller .result) (now (a .«record»)) (now (a .window))
-    ≡ takeCapped (a .w) (allowance (now (a .pool)) (a .number)) (now (a .«record»)) (now (a .window)) (now (a .scratch))
-same-take c =
-    let a = start (passed (allowed c) .before) .args in
-    ap (λ (n : ℕ). takeWithin (a .w) n (now (a .«record»)) (now (a .window))) (allowed-is (allowed c))
-    ∙ sym (known (passed (allowed c)) .goes)
+abbrev plain : tie.After-smaller → Taken
+plain c =
+    let a = start (passed c .before) .args in
+    takeCapped (a .w) (allowance (now (a .pool)) (a .number)) (now (a .«record»)) (now (a .window)) (now (a .scratch))
 
-plain-take : (c : tie.After-take-within) → let a = start (passed (allowed c) .before) .args in
-    let t = takeCapped (a .w) (allowance (now (a .pool)) (a .number)) (now (a .«record»)) (now (a .window)) (now (a .scratch)) in
+same-take : (c : tie.After-smaller) → let a = start (passed c .before) .args in
+    takeWithin (a .w) (c .smaller .result) (now (a .«record»)) (now (a .window)) ≡ plain c
+same-take c =
+    let a = start (passed c .before) .args in
+    ap (λ (n : ℕ). takeWithin (a .w) n (now (a .«record»)) (now (a .window))) (allowed-is c)
+    ∙ sym (known (passed c) .goes)
+
+plain-take : (c : tie.After-take-within) → let t = plain (allowed c) in
     (c .take-within .result ≡ replyWord (t .answer)) × (c .take-within .last .1 .1 .0 ≡ t .bytes)
     × (c .take-within .last .1 .1 .1 .0 ≡ t .window) × (c .take-within .last .1 .1 .1 .1 .0 ≡ t .scratch)
 plain-take c =
     let e = c .take-within .ensures in
-    let same = same-take c in (
+    let same = same-take (allowed c) in (
       e .0 ∙ ap (λ (t : Taken). replyWord (t .answer)) same,
       e .1 .0 ∙ ap (λ (t : Taken). t .bytes) same,
       e .1 .1 .0 ∙ ap (λ (t : Taken). t .window) same,
       e .1 .1 .1 ∙ ap (λ (t : Taken). t .scratch) same,
     )
 
-made : (c : tie.After-take-within) → let a = start (passed (allowed c) .before) .args in
-    let call = takeCapped (a .w) (allowance (now (a .pool)) (a .number)) (now (a .«record»)) (now (a .window)) (now (a .scratch)) in
-    Made (call .answer) (call .bytes) (c .take-within .result) (c .take-within .last .1 .1 .0)
+made : (c : tie.After-take-within) → let t = plain (allowed c) in
+    Made (t .answer) (t .bytes) (c .take-within .result) (c .take-within .last .1 .1 .0)
 made c =
     let a = start (passed (allowed c) .before) .args in
+    let most = allowance (now (a .pool)) (a .number) in
+    let good = known (passed (allowed c)) .good in
     record {
-      settled =
-          take-settled (a .w) (allowance (now (a .pool)) (a .number)) (now (a .«record»)) (now (a .window)) (now (a .scratch))
-          (known (passed (allowed c)) .good);
+      settled = take-settled (a .w) most (now (a .«record»)) (now (a .window)) (now (a .scratch)) good;
       told = plain-take c .0;
       left = plain-take c .1;
     }
@@ -134,8 +136,13 @@ take-within-requires c κs =
     let k = known (passed d) in
     let g = k .good in
     let most = allowance (now (a .pool)) (a .number) in
-    let room = allowed-room (a .w) most (length (now (a .window))) (d .smaller .result) (allowed-is d) (k .few-room) in
-    (search needs, (g .record-long, ((g .processes, g .some-line, g .lines), (g .pending, ((g .kept, g .kept-within), (room, k .same))))))
+    let room = allowed-room (a .w) most (length (now (a .window))) (d .smaller .result) (allowed-is d) (k .few-room) in (
+      search needs,
+      (
+        g .record-long,
+        ((g .processes, g .some-line, g .lines), (g .pending, ((g .kept, g .kept-within), (room, k .same)))),
+      ),
+    )
 
 settle-pool-requires : tie.Need-settle-pool-requires
 settle-pool-requires c κs =
@@ -164,7 +171,8 @@ returns-2 c =
     let whole = known (passed (allowed d)) .whole in
     let pool = made-pool _ _ _ _ (made d) (now (a .pool)) (a .number) in
     let e = plain-take d in
-    (rw whole (e .0), (rw whole (e .1), (rw whole (e .2), (rw whole (e .3), rw whole (s .settle-pool .ensures ∙ pool)))))
+    let after = s .settle-pool .ensures ∙ pool in
+    (rw whole (e .0), (rw whole (e .1), (rw whole (e .2), (rw whole (e .3), rw whole after))))
 
 pub take-spec : {M : Type 1} → statement M
 take-spec =
