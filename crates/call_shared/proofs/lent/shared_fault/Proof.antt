@@ -1,5 +1,6 @@
 -- Each return is a number's turn.
 use Rattle.call_shared.proofs.lent.shared_fault.Tie as tie
+use native.Mathlib.Omega.{arith}
 use mathlib.Core.Path.{_≡_, sym, _∙_}
 use mathlib.Core.Bool.{false}
 use lib.ListN.{length}
@@ -13,7 +14,7 @@ use Rattle.call_shared.proofs.lent.shared_fault.Statement.{statement}
 
 returns : tie.Need-returns
 unfolding sharedFault
-returns c = rw (eq-eqb _ _ (c .if1 .taken)) (c .if1 .taken)
+returns c = let six : c .before .before .args .plain ≡ 6 = omega (arith, c .if1 .taken) in rw (eq-eqb _ _ six) six
 
 bad-pool-length-requires : tie.Need-bad-pool-length-requires
 bad-pool-length-requires c κs = search needs

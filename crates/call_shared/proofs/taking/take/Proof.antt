@@ -53,7 +53,10 @@ known c =
 allowed-is : (c : tie.After-smaller) → let a = start (passed c .before) .args in
     c .smaller .result ≡ min (allowance (now (a .pool)) (a .number)) (roomOf (a .w) (length (now (a .window))))
 allowed-is c =
-    rw (← (c .before .before .allowance .ensures .0), ← (c .before .room-of .ensures)) (c .smaller .ensures)
+    let a = start (passed c .before) .args in
+    let most : c .before .before .allowance .result ≡ allowance (now (a .pool)) (a .number) =
+    c .before .before .allowance .ensures .0 in
+    rw (← most, ← (c .before .room-of .ensures)) (c .smaller .ensures)
 
 -- What is taken is what the definition takes.
 abbrev plain : tie.After-smaller → Taken
