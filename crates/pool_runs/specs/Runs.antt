@@ -49,7 +49,8 @@ begun shares pool = record { pool = setShares shares pool .pool; places = λ i. 
 -- ---- Calls
 
 -- A call that was lent other buffers than its watch's, another pool or another number, all of them any bytes: a shared
--- open, take or close, or a plain call.
+-- open, take or close, or a plain call. A run may have them anywhere, where 6 or 34 is the answer; then no lent byte
+-- changes (call_shared SharedExact, demands statements/Mislent).
 pub data PoolMislent : Type 0 where
   shared-open-lent : (text : List ℕ) (k : ℕ) (labels s window pool : List ℕ) (number : ℕ) → PoolMislent
   shared-take-lent : (s window scratch pool : List ℕ) (number : ℕ) → PoolMislent
