@@ -1,5 +1,4 @@
--- Kinds of answers, as tests, and the number of a refusal: what a list of calls and the program go by.
-use Prim.Native.Nat.{ℕ}
+-- Kinds of answers, as tests: what a list of calls and the program go by.
 use mathlib.Core.Bool.{Bool, true, false}
 use lib.Dec.{eqb}
 use Rattle.numbers.specs.Refusal.{falseClockNumber}
@@ -15,17 +14,6 @@ isTurnedBack again = false
 isTurnedBack (found i) = false
 isTurnedBack absent = false
 isTurnedBack (processClosed n) = false
-
--- The number that it was turned back with; 0 for none.
-abbrev pub turnedNumber : (a : Answer) → ℕ
-turnedNumber (turnedBack n i) = n
-turnedNumber (state c t k) = 0
-turnedNumber nothingReady = 0
-turnedNumber (held n) = 0
-turnedNumber again = 0
-turnedNumber (found i) = 0
-turnedNumber absent = 0
-turnedNumber (processClosed n) = 0
 
 -- An offer was accepted.
 abbrev pub isHeld : (a : Answer) → Bool

@@ -31,7 +31,7 @@ use Rattle.rules.specs.grammar.GrammarTheorem.{reader-first-fault}
 use Rattle.trial.specs.Trial.{settingIn}
 use Rattle.answers.specs.Answer.{Answer, turnedBack, replyWord, stateOf}
 use Rattle.answers.specs.Kinds.{isTurnedBack}
-use Rattle.answers.specs.NumberLaws.{Numbered, turned-told}
+use Rattle.answers.specs.NumberLaws.{NumberFits, turned-told}
 use Rattle.answers.specs.Turns.{by-test}
 use Rattle.call_open.specs.Open.{Opened, firstRecord, openTable, openRead, openCall}
 use Rattle.call_open.specs.OpenCode.{openFault}
@@ -50,7 +50,7 @@ use Rattle.call_shared.specs.Shared.{poolAfter}
 use Rattle.call_shared.specs.SharedCode.{poolBy}
 
 pub record Settled (a : Answer) (s : List ℕ) : Type 0 where
-  pub numbered : Numbered a
+  pub numbered : NumberFits a
   pub few : isTurnedBack a ≡ false → keptCount s < 65536
 
 -- ---- The pool by the reply word

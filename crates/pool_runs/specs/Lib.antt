@@ -9,7 +9,7 @@ pub mod statements
 pub mod Running
 pub mod KeptLaws
 pub mod RunningLaws
-pub mod SharedLaws
+pub mod MemberCallLaws
 pub mod OutcomeLaws
 pub mod WithinTheorem
 pub mod MembersTheorem

@@ -17,7 +17,7 @@ use Rattle.demands.specs.forms.EveryWatch.{every-watch-exact, order-independent
 use Rattle.pool_runs.specs.Runs.{Member, has, Pooled, Outcome}
 use Rattle.pool_runs.specs.statements.Members.{nextShared, nextSharedClose, MemberExact, MemberIsExact, EveryMemberIsExact, MembersOrderIndependent, MemberAndPlainAlike}
 use Rattle.pool_runs.specs.Running.{IsWritten, Running}
-use Rattle.pool_runs.specs.SharedLaws.{take-as, close-as}
+use Rattle.pool_runs.specs.MemberCallLaws.{take-as, close-as}
 use Rattle.pool_runs.specs.OutcomeLaws.{shared, take-outcome, close-outcome}
 use Rattle.pool_runs.specs.WithinTheorem.{running}
 

@@ -24,7 +24,7 @@ use Rattle.pool_runs.specs.statements.Within.{keptAtPlace, keptOrPromise
 use Rattle.pool_runs.specs.Running.{HasShare, IsWritten, Running}
 use Rattle.pool_runs.specs.RunningLaws.{Lawful}
 use Rattle.pool_runs.specs.KeptLaws.{written-few, offer-keeps, take-keeps, take-within, close-keeps, open-keeps}
-use Rattle.pool_runs.specs.SharedLaws.{with-share, take-as, close-as, SharedOpenCase, refused-open, accepted-open, shared-open-case}
+use Rattle.pool_runs.specs.MemberCallLaws.{with-share, take-as, close-as, SharedOpenCase, refused-open, accepted-open, shared-open-case}
 
 -- ---- Places
 

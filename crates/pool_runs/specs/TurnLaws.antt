@@ -26,7 +26,7 @@ use Rattle.pool_runs.specs.statements.Within.{keptAtPlace}
 use Rattle.pool_runs.specs.statements.Others.{MayPassShare}
 use Rattle.pool_runs.specs.Running.{Running}
 use Rattle.pool_runs.specs.RunningLaws.{PoolLeft, Lawful, other-place, other-number, own-place, own-number, lawful-running}
-use Rattle.pool_runs.specs.SharedLaws.{good-length}
+use Rattle.pool_runs.specs.MemberCallLaws.{good-length}
 use Rattle.pool_runs.specs.OutcomeLaws.{take-outcome, close-outcome, call-lawful}
 
 -- ---- An open looks at no more of the pool than its length and whether there is a share
