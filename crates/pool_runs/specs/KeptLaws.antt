@@ -63,7 +63,8 @@ taken-same w s i L a h = rw h (either (isFalseClock a) _ L L (refl, refl) (refl,
 
 -- ---- Answers
 
-state-form : (a : Answer) → isState a ≡ true → (counts : List ℕ) × (truth : Bool) × (kept : ℕ) × (a ≡ state counts truth kept)
+state-form : (a : Answer) → isState a ≡ true
+    → (counts : List ℕ) × (truth : Bool) × (kept : ℕ) × (a ≡ state counts truth kept)
 state-form (turnedBack n i) h = absurd (true≢false (sym h))
 state-form (state c t n) h = (c, t, n, refl)
 state-form nothingReady h = absurd (true≢false (sym h))
@@ -74,10 +75,12 @@ state-form absent h = absurd (true≢false (sym h))
 state-form (processClosed n) h = absurd (true≢false (sym h))
 
 -- A take that answers a state was lent right lengths.
-lengths-right : (w : ℕ) (W : Watch) (more : ℕ) (scratch : List ℕ) {a : Answer} {counts : List ℕ} {truth : Bool} {kept : ℕ}
+lengths-right : (w : ℕ) (W : Watch) (more : ℕ) (scratch : List ℕ)
+    {a : Answer} {counts : List ℕ} {truth : Bool} {kept : ℕ}
     → ((RightLengths w W more scratch → ⊥) → a ≡ turnedBack 6 0) → a ≡ state counts truth kept
     → RightLengths w W more scratch
-lengths-right w W more scratch {a} {counts} {truth} {kept} wrong q = go (badWindowLength w n) refl (eqb (length scratch) n) refl
+lengths-right w W more scratch {a} {counts} {truth} {kept} wrong q =
+    go (badWindowLength w n) refl (eqb (length scratch) n) refl
   where
     n : ℕ
     n = length (lentWindow W more)
@@ -215,4 +218,5 @@ open-keeps w text k labels s window a = go (open-case w text k labels s window)
     go (turned-back n i q) =
         let y : turnedBack n i ≡ state (a .0) (a .1) (a .2) = sym (ap (λ (o : Opened). o .answer) q) ∙ a .3 in
         let z : _≡_ {A = ℕ} 0 1 = cc in absurd (omega arith)
-    go (opens f i h6 h5 h9 h q) = ap (λ (o : Opened). keptCount (o .bytes)) q ∙ table-keeps w (linesAt 0 f) k labels (length window)
+    go (opens f i h6 h5 h9 h q) =
+        ap (λ (o : Opened). keptCount (o .bytes)) q ∙ table-keeps w (linesAt 0 f) k labels (length window)

@@ -9,8 +9,9 @@ use Rattle.call_take.specs.Take.{Taken}
 use Rattle.call_close.specs.Close.{Closed}
 use Rattle.call_shared.specs.Shared.{Shared, poolAfter}
 use Rattle.demands.specs.Run.{Watch}
-use Rattle.demands.specs.EveryList.{lentWindow, nextTake}
+use Rattle.demands.specs.EveryList.{RightLengths, lentWindow, nextTake}
 use Rattle.demands.specs.Written.{Written}
+use Rattle.demands.specs.statements.TakeAnswers.{AnswersExact}
 use Rattle.demands.specs.statements.Close.{nextClose}
 use Rattle.demands.specs.statements.EveryWatch.{WatchExact}
 use Rattle.demands.specs.forms.EveryWatch.{every-watch-exact, order-independent-with-moves}
@@ -31,8 +32,8 @@ module _ (w : ℕ) (pos : 0 < w) (shares : List ℕ) (G : Pooled) (R : Running w
       → let t = nextTake w Z (allowance (G .pool) i) more scratch in
       nextShared w i m G more scratch ≡ record { call = t; pool = poolAfter (G .pool) i (t .answer) (t .bytes) }
   took more scratch =
-      take-as w (G .pool) i (R .size) (shared w pos shares G R i (R .members i m here .0)) (Z .bytes) (lentWindow Z more)
-      scratch
+      take-as w (G .pool) i (R .size) (shared w pos shares G R i (R .members i m here .0)) (Z .bytes)
+      (lentWindow Z more) scratch
 
   closed : (p : ℕ)
       → let c = nextClose w Z p in
@@ -42,18 +43,28 @@ module _ (w : ℕ) (pos : 0 < w) (shares : List ℕ) (G : Pooled) (R : Running w
 
   member-exact : (f : Formula) → WatchExact w (m .processes) f (at (m .labels)) Z
       → MemberExact w (m .processes) f (at (m .labels)) i m G
-  member-exact f E = record {
-    exact = E;
-    take-plain = λ more scratch. ap (λ (r : Shared Taken). r .call) (took more scratch);
-    take-leaves = λ more scratch. ap (λ (o : Outcome). o .place) (take-outcome w pos shares G R i m here more scratch);
-    take-lengths = λ more scratch. rw (took more scratch) (E .takes .wrong-lengths (allowance (G .pool) i) more scratch);
-    take-answers = λ more scratch. E .takes .right-lengths (allowance (G .pool) i) more scratch;
-    take-never-34 = λ more scratch. rw (took more scratch) (E .takes .never-34 (allowance (G .pool) i) more scratch);
-    close-plain = λ p. ap (λ (r : Shared Closed). r .call) (closed p);
-    close-leaves = λ p. ap (λ (o : Outcome). o .place) (close-outcome w pos shares G R i m here p);
-    take-pool = λ more scratch. rw (took more scratch);
-    close-pool = λ p. rw (closed p);
-  }
+  member-exact f E =
+      let most = allowance (G .pool) i in
+      let answers : (more : ℕ) (scratch : List ℕ) → RightLengths w Z more scratch
+      → AnswersExact w (m .processes) f (at (m .labels)) Z most more scratch =
+      E .takes .right-lengths most in
+      record {
+        exact = E;
+        take-plain = λ more scratch. ap (λ (r : Shared Taken). r .call) (took more scratch);
+        take-leaves = λ more scratch.
+            ap (λ (o : Outcome). o .place) (take-outcome w pos shares G R i m here more scratch);
+        take-lengths = λ more scratch. rw (took more scratch) (E .takes .wrong-lengths most more scratch);
+        take-answers = answers;
+        take-nothing = λ more scratch right. rw (took more scratch) (answers more scratch right .nothing-exactly);
+        take-full = λ more scratch right. rw (took more scratch) (answers more scratch right .full-exactly);
+        take-false = λ more scratch right. rw (took more scratch) (answers more scratch right .false-exactly);
+        take-state = λ more scratch right. rw (took more scratch) (answers more scratch right .state-exactly);
+        take-never-34 = λ more scratch. rw (took more scratch) (E .takes .never-34 most more scratch);
+        close-plain = λ p. ap (λ (r : Shared Closed). r .call) (closed p);
+        close-leaves = λ p. ap (λ (o : Outcome). o .place) (close-outcome w pos shares G R i m here p);
+        take-pool = λ more scratch. rw (took more scratch);
+        close-pool = λ p. rw (closed p);
+      }
 
   member-is-exact : MemberIsExact w i m G
   member-is-exact =

@@ -88,7 +88,8 @@ module _ (w : ℕ) (pos : 0 < w) (shares : List ℕ) (i : ℕ) where
             passed = N .passed;
             same = λ G S. N .same G
                 (turned-round w pos shares i (afterPoolCall w d H) G
-                (other-call w pos shares i H G (turned-round w pos shares i G H S) d (q d (List·Memᴰ·head refl)) apart));
+                (other-call w pos shares i H G (turned-round w pos shares i G H S) d
+                (q d (List·Memᴰ·head refl)) apart));
             own-later = N .own-later;
             turns = rw e (N .turns);
           }
@@ -105,7 +106,8 @@ module _ (w : ℕ) (pos : 0 < w) (shares : List ℕ) (i : ℕ) where
       go (eqb (c .number) i) refl n none (others cs (λ e m. p e (List·Memᴰ·tail m)))
     where
       go : (b : Bool) → eqb (c .number) i ≡ b → (n : ℕ) → NonePasses (take n (ownTurns w i (c ∷ cs) G))
-          → ((ds : List Numbered) → AllPoolPassed w ds → (G H : Pooled) → Same w shares i G H → ownCalls i cs ≡ ownCalls i ds
+          → ((ds : List Numbered) → AllPoolPassed w ds → (G H : Pooled) → Same w shares i G H
+          → ownCalls i cs ≡ ownCalls i ds
           → (n : ℕ) → NonePasses (take n (ownTurns w i cs G))
           → take n (ownTurns w i cs G) ≡ take n (ownTurns w i ds H))
           → take n (ownTurns w i (c ∷ cs) G) ≡ take n (ownTurns w i ds H)
@@ -125,8 +127,9 @@ module _ (w : ℕ) (pos : 0 < w) (shares : List ℕ) (i : ℕ) where
           let turn = same-turn w pos shares i G (N .state) T (c .call) ok modest in
           let S′ = same-after w pos shares i G (N .state) T (c .call) ok modest in
           let rest =
-          further (N .later) (N .passed) (afterPoolCall w (own (c .call)) G) (afterPoolCall w (own (c .call)) (N .state))
-          S′ (sym (N .own-later)) n (λ t m. here t (List·Memᴰ·tail (rw mine m))) in
+          further (N .later) (N .passed) (afterPoolCall w (own (c .call)) G)
+          (afterPoolCall w (own (c .call)) (N .state)) S′ (sym (N .own-later)) n
+          (λ t m. here t (List·Memᴰ·tail (rw mine m))) in
           ap (take (suc n)) (first-turn c cs G e) ∙ together turn rest ∙ sym (ap (take (suc n)) (N .turns))
 
 -- ---- Theorem

@@ -76,7 +76,9 @@ refused-close w p s window h = go (close-case w p s window)
   where
     go : Case w p s window (closeCall w p s window) → closeCall w p s window .bytes ≡ s
     go (turned n _ _ _ q) = ap (λ (c : Closed). c .bytes) q
-    go (accepted _ _ q) = absurd (true≢false (sym h ∙ ap (λ (c : Closed). isTurnedBack (c .answer)) q ∙ closed-answer w p s window))
+    go (accepted _ _ q) =
+        let same = ap (λ (c : Closed). isTurnedBack (c .answer)) q in
+        absurd (true≢false (sym h ∙ same ∙ closed-answer w p s window))
 
 module _ (w : ℕ) (pos : 0 < w) (shares : List ℕ) (G : Pooled) (R : Running w shares G) where
   -- a member's number has a share by the pool

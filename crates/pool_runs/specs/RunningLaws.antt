@@ -1,5 +1,5 @@
--- The invariant of a run: how many frontiers it allows each watch, and that a call keeps it which leaves its watch within
--- what is allowed.
+-- The invariant of a run: how many frontiers it allows each watch, and that a call keeps it which leaves its watch
+-- within what is allowed.
 use Prim.Native.Nat.{ℕ, _+_, _-_, _≤_, _<_, max}
 use native.Mathlib.Omega.{arith}
 use native.Mathlib.Decide.{decLt, ℕ-discrete}
@@ -49,8 +49,8 @@ module _ (w : ℕ) (shares : List ℕ) (G : Pooled) (R : Running w shares G) whe
           → cond (eqb j i) 0 (keptOrPromised shares G j)
           ≡ cond (eqb j i) 0 (at shares j) + cond (eqb j i) 0 (keptAt (G .pool) j - shareAt (G .pool) j)
       each j l =
-          two (eqb j i) (keptAtPlace (G .places j)) (at shares j) (keptAt (G .pool) j) (shareAt (G .pool) j) (R .numbers j l)
-          (R .shares-are j l)
+          two (eqb j i) (keptAtPlace (G .places j)) (at shares j) (keptAt (G .pool) j) (shareAt (G .pool) j)
+          (R .numbers j l) (R .shares-are j l)
 
   pub allowed-exactly : (i : ℕ) → i < mostMembers → allowance (G .pool) i + ofOthers i ≡ mostFrontiers
   unfolding allowance unpromised
@@ -75,7 +75,8 @@ module _ (w : ℕ) (shares : List ℕ) (G : Pooled) (R : Running w shares G) whe
 abbrev pub PoolLeft : (G : Pooled) (i : ℕ) (o : Outcome) → Type 0
 PoolLeft G i o =
     ((o .pool ≡ G .pool) × (keptAtPlace (o .place) ≡ keptAtPlace (G .places i)))
-    ⊎ ((i < mostMembers) × (o .pool ≡ broughtUp (G .pool) i (keptAtPlace (o .place))) × (keptAtPlace (o .place) ≤ mostFrontiers))
+    ⊎ ((i < mostMembers) × (o .pool ≡ broughtUp (G .pool) i (keptAtPlace (o .place)))
+    × (keptAtPlace (o .place) ≤ mostFrontiers))
 
 -- What it leaves: such a pool, a watch that keeps no more than before or was promised, or no more than it may, and that
 -- calls alone wrote.

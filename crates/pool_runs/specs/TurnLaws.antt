@@ -174,7 +174,8 @@ module _ (w : ℕ) (pos : 0 < w) (shares : List ℕ) (i : ℕ) where
 
           go : Dec (i < mostMembers) → keptAt (outcomeIn w c G .pool) i ≡ keptAt (outcomeIn w c H .pool) i
           go (yes l) =
-              own-number w shares G (S .first) c L l ∙ ap keptAtPlace same ∙ sym (own-number w shares H (S .second) c M l)
+              own-number w shares G (S .first) c L l ∙ ap keptAtPlace same
+              ∙ sym (own-number w shares H (S .second) c M l)
           go (no out) = stays G (L .pool-left) out ∙ S .number ∙ sym (stays H (M .pool-left) out)
 
       alike : (MayPassShare w (at shares i) (turnOf w c G) → ⊥) → SameOutcome (outcomeIn w c G) (outcomeIn w c H)

@@ -56,7 +56,8 @@ within-of w shares G R = record {
   only-shares = λ i m h. R .members i m h .0;
   promises = R .promises;
   together =
-      omega (arith, R .promises, sum-le mostMembers (λ i. keptAtPlace (G .places i)) (keptOrPromised shares G) (λ i l. omega arith));
+      let less = sum-le mostMembers (λ i. keptAtPlace (G .places i)) (keptOrPromised shares G) (λ i l. omega arith) in
+      omega (arith, R .promises, less);
   share-allowed = λ i l. omega (arith, share-allowed (G .pool) i, R .shares-are i l);
   allowed-exactly = allowed-exactly w shares G R;
 }

@@ -106,9 +106,9 @@ pub record Theorem : Type 1 where
   pub day-fits : DayFitsItsWindow
   pub day-taken : DayIsTaken
   pub day-no-36 : DayMeetsNo36
-  -- [10] Shares: setting them, and open, take and close of a watch that shares, on all bytes; when a take's cap makes no
-  -- difference; and of every run of calls on such watches: they never keep over 1,024 together, each is as exact as any
-  -- watch, demand 3 of any two, and the others make no difference
+  -- [10] Shares: setting them, and open, take and close of a watch that shares, on all bytes; when a take's cap makes
+  -- no difference; and of every run of calls on such watches: they never keep over 1,024 together, each is as exact as
+  -- any watch, demand 3 of any two, and the others make no difference
   pub shares-exact : SharesAreExact
   pub shared-open : SharedOpenIsExact
   pub shared-take : SharedTakeIsExact

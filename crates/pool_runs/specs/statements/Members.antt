@@ -2,6 +2,7 @@
 -- demands 2 and 3 and the balance among it; and what its next shared take and close answer. Proved in MembersTheorem.
 use Prim.Native.Nat.{ℕ}
 use mathlib.Core.Path.{_≡_}
+use mathlib.Core.Bool.{Bool}
 use mathlib.Core.List.{List}
 use mathlib.Core.Logic.{_↔_, _≢_}
 use Rattle.clocks.specs.Event.{Cut}
@@ -9,16 +10,17 @@ use Rattle.clocks.specs.Counts.{at}
 use Rattle.rules.specs.Formula.{Formula}
 use Rattle.rules.specs.Text.{textOf}
 use Rattle.rules.specs.Reader.{readRule, formed}
-use Rattle.numbers.specs.Refusal.{lengthNumber, stateNumber}
-use Rattle.answers.specs.Answer.{turnedBack}
+use Rattle.numbers.specs.Refusal.{falseClockNumber, lengthNumber, noRoomNumber, stateNumber}
+use Rattle.answers.specs.Answer.{turnedBack, state, nothingReady}
 use Rattle.pool.specs.Pool.{allowance}
 use Rattle.call_take.specs.Take.{Taken}
 use Rattle.call_close.specs.Close.{Closed}
 use Rattle.call_shared.specs.Shared.{Shared, poolAfter, sharedTake, sharedClose}
+use Rattle.demands.specs.Ledger.{Settled}
 use Rattle.demands.specs.Run.{Watch, after, takes, closes}
 use Rattle.demands.specs.EveryList.{EightBytes, EndsQuiet, SameAccepted, SameClosed, RightLengths, lentWindow, nextTake}
 use Rattle.demands.specs.Written.{Written}
-use Rattle.demands.specs.statements.TakeAnswers.{AnswersExact}
+use Rattle.demands.specs.statements.TakeAnswers.{AnswersExact, NoRoom, FalseClock, Takes, allowedNext}
 use Rattle.demands.specs.statements.Close.{nextClose}
 use Rattle.demands.specs.statements.EveryWatch.{WatchExact}
 use Rattle.demands.specs.statements.OrderIndependent.{Alike}
@@ -41,7 +43,8 @@ nextSharedClose w i m G p = sharedClose w p (m .watch .bytes) (m .watch .window)
 pub record MemberExact (w k : ℕ) (f : Formula) (start : Cut) (i : ℕ) (m : Member) (G : Pooled) : Type 0 where
   -- all that is stated of every written watch
   pub exact : WatchExact w k f start (m .watch)
-  -- the shared take is the plain one under the cap that the pool allows, in answer, bytes and what becomes of the events
+  -- the shared take is the plain one under the cap that the pool allows: in answer, in bytes, and in what becomes of
+  -- the events
   pub take-plain : (more : ℕ) (scratch : List ℕ)
       → nextShared w i m G more scratch .call ≡ nextTake w (m .watch) (allowance (G .pool) i) more scratch
   pub take-leaves : (more : ℕ) (scratch : List ℕ)
@@ -51,8 +54,21 @@ pub record MemberExact (w k : ℕ) (f : Formula) (start : Cut) (i : ℕ) (m : Me
   pub take-lengths : (more : ℕ) (scratch : List ℕ)
       → (nextShared w i m G more scratch .call .answer ≡ turnedBack lengthNumber 0)
       ↔ (RightLengths w (m .watch) more scratch → ⊥)
+  -- (AnswersExact, of the plain take under that cap, has also that there is no other and what becomes of the ledger)
   pub take-answers : (more : ℕ) (scratch : List ℕ) → RightLengths w (m .watch) more scratch
       → AnswersExact w k f start (m .watch) (allowance (G .pool) i) more scratch
+  pub take-nothing : (more : ℕ) (scratch : List ℕ) → RightLengths w (m .watch) more scratch
+      → (nextShared w i m G more scratch .call .answer ≡ nothingReady) ↔ Settled (m .watch .ledger)
+  pub take-full : (more : ℕ) (scratch : List ℕ) → RightLengths w (m .watch) more scratch
+      → (nextShared w i m G more scratch .call .answer ≡ turnedBack noRoomNumber 0)
+      ↔ NoRoom k (allowedNext w (m .watch) (allowance (G .pool) i) more) (m .watch .ledger)
+  pub take-false : (more : ℕ) (scratch : List ℕ) → RightLengths w (m .watch) more scratch
+      → (nextShared w i m G more scratch .call .answer ≡ turnedBack falseClockNumber 0)
+      ↔ FalseClock k (allowedNext w (m .watch) (allowance (G .pool) i) more) (m .watch .ledger)
+  pub take-state : (more : ℕ) (scratch : List ℕ) → RightLengths w (m .watch) more scratch
+      → (counts : List ℕ) (truth : Bool) (kept : ℕ)
+      → (nextShared w i m G more scratch .call .answer ≡ state counts truth kept)
+      ↔ Takes k (allowedNext w (m .watch) (allowance (G .pool) i) more) f start (m .watch .ledger) counts truth kept
   pub take-never-34 : (more : ℕ) (scratch : List ℕ)
       → nextShared w i m G more scratch .call .answer ≢ turnedBack stateNumber 0
   -- the shared close is the plain one

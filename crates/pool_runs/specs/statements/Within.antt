@@ -1,5 +1,5 @@
--- Never over (02 [10]): after one accepted setting, whatever calls of whatever watches follow, the watches together keep
--- at most 1,024 frontiers, the pool's numbers are those of the records, and how many frontiers a watch may keep is
+-- Never over (02 [10]): after one accepted setting, whatever calls of whatever watches follow, the watches together
+-- keep at most 1,024 frontiers, the pool's numbers are those of the records, and how many frontiers a watch may keep is
 -- what the others neither keep nor are promised. Proved in WithinTheorem.
 use Prim.Native.Nat.{ℕ, _+_, _≤_, _<_, max}
 use mathlib.Core.Path.{_≡_}
