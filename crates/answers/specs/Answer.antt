@@ -6,11 +6,11 @@ use Rattle.frontiers.specs.declared.Frontier.{Frontier}
 
 pub data Answer : Type 0 where
   -- turned back: a number of 01 or 02, and the byte's place where it has one (0 where it has none)
-  turnedBack : (n place : ℕ) → Answer
+  turned_back : (n place : ℕ) → Answer
   -- opened, or an event taken: the taken counts, the rule's truth at the largest cut, the frontiers kept
   state : (counts : List ℕ) (truth : Bool) (kept : ℕ) → Answer
   -- no pending event is ready
-  nothingReady : Answer
+  nothing_ready : Answer
   -- an offer accepted: the number of pending events (01: held)
   held : (n : ℕ) → Answer
   -- an offer of an event that is pending already (02 [1]): neither a refusal nor accepted
@@ -19,7 +19,7 @@ pub data Answer : Type 0 where
   found : (i : ℕ) → Answer
   absent : Answer
   -- a process closed: the frontiers kept (02 [5])
-  processClosed : (kept : ℕ) → Answer
+  process_closed : (kept : ℕ) → Answer
 
 -- 1 for true.
 abbrev pub flag : (b : Bool) → ℕ
@@ -27,15 +27,15 @@ flag true = 1
 flag false = 0
 
 -- The reply word: number + 256 flag + 65,536 value + 2 ^ 32 place.
-unfoldable pub replyWord : (a : Answer) → ℕ
-replyWord (turnedBack n place) = n + 4294967296 * place
-replyWord (state counts truth kept) = 256 * flag truth + 65536 * kept
-replyWord nothingReady = 0
-replyWord (held n) = 65536 * n
-replyWord again = 256
-replyWord (found i) = 256 + 65536 * i
-replyWord absent = 0
-replyWord (processClosed n) = 65536 * n
+unfoldable pub reply_word : (a : Answer) → ℕ
+reply_word (turned_back n place) = n + 4294967296 * place
+reply_word (state counts truth kept) = 256 * flag truth + 65536 * kept
+reply_word nothing_ready = 0
+reply_word (held n) = 65536 * n
+reply_word again = 256
+reply_word (found i) = 256 + 65536 * i
+reply_word absent = 0
+reply_word (process_closed n) = 65536 * n
 
 -- The answer of an event taken: the counts, the last line at the last frontier, the frontiers kept.
 unfoldable pub state_of : (lines : ℕ) (counts : List ℕ) (fs : List Frontier) → Answer

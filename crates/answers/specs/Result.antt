@@ -7,7 +7,7 @@ pub data Result : Type 0 where
   -- done: the value, as the rows of a page
   gives : (n : ℕ) → Result
 
--- The reply word, as replyWord has it: number + 65,536 value; flag and place are 0.
-unfoldable pub resultWord : (r : Result) → ℕ
-resultWord (refused n) = n
-resultWord (gives n) = 65536 * n
+-- The reply word, as reply_word has it: number + 65,536 value; flag and place are 0.
+unfoldable pub result_word : (r : Result) → ℕ
+result_word (refused n) = n
+result_word (gives n) = 65536 * n

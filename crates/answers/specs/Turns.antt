@@ -22,9 +22,9 @@ Positive end = Unit
 Positive (turn b n ts) = (0 < n) × Positive ts
 
 -- What holds of a choice, by the test that decides it.
-pub by-test : {A : Type 0} (P : A → Type 0) (b : Bool) (x y : A) → (b ≡ true → P x) → (b ≡ false → P y) → P (cond b x y)
-by-test P true x y p q = p refl
-by-test P false x y p q = q refl
+pub by_test : {A : Type 0} (P : A → Type 0) (b : Bool) (x y : A) → (b ≡ true → P x) → (b ≡ false → P y) → P (cond b x y)
+by_test P true x y p q = p refl
+by_test P false x y p q = q refl
 
 -- The number alone decides.
 pub chosen_by : {A : Type 0} (ts : Turns) (f : ℕ → A) (x : A) → Positive ts

@@ -5,24 +5,24 @@ use native.Mathlib.Numerals.{add-one}
 use native.Mathlib.Omega.{arith}
 use mathlib.Core.Path.{◌≡◌, sym}
 use Rattle.clocks.specs.Counts.{list_of}
-use Rattle.call_busiest.specs.Sharing.{product, sharingKeeps}
-use Rattle.call_busiest.specs.SharingLaws.{kept_next, product-next, kept-grows}
+use Rattle.call_busiest.specs.Sharing.{product, sharing_keeps}
+use Rattle.call_busiest.specs.SharingLaws.{kept_next, product_next, kept_grows}
 
 module _ (f : ℕ → ℕ) where
-  pub kept_step : (p kept many c : ℕ) → kept ≡ sharingKeeps (list_of p f) → many ≡ product (list_of p f) → c ≡ f p
-      → kept * (c + 1) + many ≡ sharingKeeps (list_of (p + 1) f)
+  pub kept_step : (p kept many c : ℕ) → kept ≡ sharing_keeps (list_of p f) → many ≡ product (list_of p f) → c ≡ f p
+      → kept * (c + 1) + many ≡ sharing_keeps (list_of (p + 1) f)
   kept_step p kept many c a b e = rw (a, b, e, add-one (f p), add-one p) (sym (kept_next f p))
 
-  pub product-step : (p many c : ℕ) → many ≡ product (list_of p f) → c ≡ f p → many * c ≡ product (list_of (p + 1) f)
-  product-step p many c b e = rw (b, e, add-one p) (sym (product-next f p))
+  pub product_step : (p many c : ℕ) → many ≡ product (list_of p f) → c ≡ f p → many * c ≡ product (list_of (p + 1) f)
+  product_step p many c b e = rw (b, e, add-one p) (sym (product_next f p))
 
   -- Passed once, the room stays passed.
-  pub kept-passed : (p k : ℕ) → p < k → 1024 < sharingKeeps (list_of (p + 1) f)
-      → 1025 ≡ min 1025 (sharingKeeps (list_of k f))
-  kept-passed p k l h =
+  pub kept_passed : (p k : ℕ) → p < k → 1024 < sharing_keeps (list_of (p + 1) f)
+      → 1025 ≡ min 1025 (sharing_keeps (list_of k f))
+  kept_passed p k l h =
       let all : k - (p + 1) + (p + 1) ≡ k = omega arith in
-      let more : sharingKeeps (list_of (p + 1) f) ≤ sharingKeeps (list_of k f) =
-      rw all at (kept-grows f (p + 1) (k - (p + 1))) in
+      let more : sharing_keeps (list_of (p + 1) f) ≤ sharing_keeps (list_of k f) =
+      rw all at (kept_grows f (p + 1) (k - (p + 1))) in
       omega arith
 
 -- ---- Nothing wraps

@@ -1,38 +1,38 @@
 -- What is true of every call for a busiest day, on all arguments (02 [8]): when it answers what, what it leaves, and
 -- how a caller tells the answers apart. Proved in BusiestTheorem.
 use Rattle.std.specs.Prelude.{ℕ, ◌*◌, ◌≤◌, ◌<◌, ◌≡◌, List, ◌⊎◌, ◌↔◌, ◌≢◌, length}
-use Rattle.records.specs.Record.{eventLength, eventsBytes}
-use Rattle.numbers.specs.Limit.{mostProcesses, mostFrontiers, mostDayEvents}
-use Rattle.numbers.specs.Refusal.{dayNumber, busyNumber, lengthNumber}
+use Rattle.records.specs.Record.{event_length, events_bytes}
+use Rattle.numbers.specs.Limit.{most_processes, most_frontiers, most_day_events}
+use Rattle.numbers.specs.Refusal.{day_number, busy_number, length_number}
 use Rattle.answers.specs.Result.{refused, gives}
 use Rattle.answers.specs.Told.{Told}
-use Rattle.call_busiest.specs.Sharing.{shares, sharingKeeps}
-use Rattle.call_busiest.specs.Busiest.{busiestDay, Listed, busiestCall}
+use Rattle.call_busiest.specs.Sharing.{shares, sharing_keeps}
+use Rattle.call_busiest.specs.Busiest.{busiest_day, Listed, busiest_call}
 
 -- There is such a day: 1 to 8 processes, and up to 65,535 events.
 pub record Day (k n : ℕ) : Type 0 where
-  pub some-process : 1 ≤ k
-  pub eight-processes : k ≤ mostProcesses
-  pub few-events : n ≤ mostDayEvents
+  pub some_process : 1 ≤ k
+  pub eight_processes : k ≤ most_processes
+  pub few_events : n ≤ most_day_events
 
 -- A call on a list of these bytes, and what it came to.
 pub record Exact (w k n : ℕ) (events : List ℕ) (L : Listed) : Type 0 where
   -- the refusals in their order
-  pub no-day : (L.answer ≡ refused dayNumber) ↔ ((k ≡ 0) ⊎ ((mostProcesses < k) ⊎ (mostDayEvents < n)))
-  pub too-busy : (L.answer ≡ refused busyNumber) ↔ (Day k n × (mostFrontiers < sharingKeeps (shares k n)))
-  pub wrong-length : (L.answer ≡ refused lengthNumber)
-      ↔ (Day k n × (sharingKeeps (shares k n) ≤ mostFrontiers) × (length events ≢ n * eventLength w))
+  pub no_day : (L.answer ≡ refused day_number) ↔ ((k ≡ 0) ⊎ ((most_processes < k) ⊎ (most_day_events < n)))
+  pub too_busy : (L.answer ≡ refused busy_number) ↔ (Day k n × (most_frontiers < sharing_keeps (shares k n)))
+  pub wrong_length : (L.answer ≡ refused length_number)
+      ↔ (Day k n × (sharing_keeps (shares k n) ≤ most_frontiers) × (length events ≢ n * event_length w))
   -- else the frontiers kept
   pub given : (m : ℕ)
       → (L.answer ≡ gives m)
-      ↔ (Day k n × (sharingKeeps (shares k n) ≤ mostFrontiers) × (length events ≡ n * eventLength w)
-      × (m ≡ sharingKeeps (shares k n)))
+      ↔ (Day k n × (sharing_keeps (shares k n) ≤ most_frontiers) × (length events ≡ n * event_length w)
+      × (m ≡ sharing_keeps (shares k n)))
   -- refused, it writes nothing; accepted, every byte
-  pub refused-leaves : (m : ℕ) → L.answer ≡ refused m → L.events ≡ events
-  pub given-writes : (m : ℕ) → L.answer ≡ gives m → L.events ≡ eventsBytes w (busiestDay k n)
+  pub refused_leaves : (m : ℕ) → L.answer ≡ refused m → L.events ≡ events
+  pub given_writes : (m : ℕ) → L.answer ≡ gives m → L.events ≡ events_bytes w (busiest_day k n)
   pub same_length : length L.events ≡ length events
   -- the word: refused by the number in it, or the value is the frontiers kept
   pub told : Told L.answer
 
 abbrev pub BusiestIsExact : Type 0
-BusiestIsExact = (w k n : ℕ) (events : List ℕ) → Exact w k n events (busiestCall w k n events)
+BusiestIsExact = (w k n : ℕ) (events : List ℕ) → Exact w k n events (busiest_call w k n events)

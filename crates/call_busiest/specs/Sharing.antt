@@ -30,5 +30,5 @@ product (c ∷ cs) = c * product cs
 
 -- How many frontiers: the product of all n(p) + 1 less the product of all n(p). (The second is never the larger one:
 -- SharingExact.)
-unfoldable pub sharingKeeps : (cs : List ℕ) → ℕ
-sharingKeeps cs = product (map suc cs) - product cs
+unfoldable pub sharing_keeps : (cs : List ℕ) → ℕ
+sharing_keeps cs = product (map suc cs) - product cs

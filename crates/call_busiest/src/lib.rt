@@ -3,10 +3,10 @@
 ghost use Rattle.std.specs.Prelude.{◌+◌, ◌*◌, ◌^◌, ◌≤◌, ◌<◌, min, ◌≡◌, length};
 ghost use Rattle.std.proofs.lemmas.List.Edits.{sets};
 ghost use Rattle.frontiers.specs.Width.{Width};
-ghost use Rattle.records.specs.Record.{eventLength, eventBytes, eventsBytes};
-ghost use Rattle.answers.specs.Result.{resultWord};
-ghost use Rattle.call_busiest.specs.Sharing.{evenly, total, sharingKeeps};
-ghost use Rattle.call_busiest.specs.Busiest.{single, singles, day, busiestCall};
+ghost use Rattle.records.specs.Record.{event_length, event_bytes, events_bytes};
+ghost use Rattle.answers.specs.Result.{result_word};
+ghost use Rattle.call_busiest.specs.Sharing.{evenly, total, sharing_keeps};
+ghost use Rattle.call_busiest.specs.Busiest.{single, singles, day, busiest_call};
 ghost use Rattle.call_busiest.specs.BusiestCode.{sharing, Blank};
 
 use frontiers::counts::write_count;
@@ -28,7 +28,7 @@ fn share(each: usize, more: usize, p: usize) -> usize
 // of a window are passed, so that no product grows beyond 2^27.
 fn kept_by(k: usize, each: usize, more: usize) -> usize
     requires { each ≤ 65535 }
-    ensures { result ≡ min 1025 (sharingKeeps (sharing k each more)) }
+    ensures { result ≡ min 1025 (sharing_keeps (sharing k each more)) }
 {
     let mut kept = 0;
     let mut product = 1;
@@ -51,9 +51,9 @@ fn put_single(events: &mut [u8], w: usize, place: usize, p: usize, mask: u8, num
     requires p_bound { p < 8 }
     requires mask_value { mask ≡ 2 ^ p }
     requires number_bound { number < 65536 }
-    requires w_in_bounds { place + eventLength w ≤ length events.old }
+    requires w_in_bounds { place + event_length w ≤ length events.old }
     requires blank { Blank events.old place }
-    ensures { events.new ≡ sets events.old place (eventBytes w (single p number)) }
+    ensures { events.new ≡ sets events.old place (event_bytes w (single p number)) }
 {
     events[place] = mask;
     write_count(events, place + 8 + p * w, w, number);
@@ -64,9 +64,9 @@ fn put_singles(events: &mut [u8], w: usize, place: usize, p: usize, n: usize)
     requires width { Width w }
     requires p_bound { p < 8 }
     requires n_bound { n < 65536 }
-    requires w_in_bounds { place + n * eventLength w ≤ length events.old }
+    requires w_in_bounds { place + n * event_length w ≤ length events.old }
     requires blank { Blank events.old place }
-    ensures { events.new ≡ sets events.old place (eventsBytes w (singles p n)) }
+    ensures { events.new ≡ sets events.old place (events_bytes w (singles p n)) }
 {
     let size = event_length(w);
     let mask = 1u8 << (p as u32);
@@ -85,8 +85,8 @@ fn put_day(events: &mut [u8], w: usize, k: usize, each: usize, more: usize)
     requires k_bound { k ≤ 8 }
     requires each_bound { each ≤ 65535 }
     requires more_bound { total (sharing k each more) ≤ 65535 }
-    requires events_len { length events.old ≡ total (sharing k each more) * eventLength w }
-    ensures { events.new ≡ eventsBytes w (day (evenly each more) k) }
+    requires events_len { length events.old ≡ total (sharing k each more) * event_length w }
+    ensures { events.new ≡ events_bytes w (day (evenly each more) k) }
 {
     clear_all(events);
     let size = event_length(w);
@@ -103,8 +103,8 @@ fn put_day(events: &mut [u8], w: usize, k: usize, each: usize, more: usize)
 // Writes the list of a busiest day: the reply, and the list's bytes. Nothing is written before all is judged.
 pub fn busiest(w: usize, k: u64, n: u64, events: &mut [u8]) -> u64
     requires { Width w }
-    ensures reply { result ≡ resultWord (busiestCall w k n events.old).answer }
-    ensures events { events.new ≡ (busiestCall w k n events.old).events }
+    ensures reply { result ≡ result_word (busiest_call w k n events.old).answer }
+    ensures events { events.new ≡ (busiest_call w k n events.old).events }
 {
     if bad_processes(k) {
         return DAY;

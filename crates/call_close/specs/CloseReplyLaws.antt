@@ -5,57 +5,57 @@ use Rattle.clocks.specs.Counts.{at}
 use Rattle.frontiers.specs.declared.Frontier.{Frontier}
 use Rattle.frontiers.specs.Bytes.{frontiers}
 use Rattle.frontiers.specs.WindowLaws.{length-frontiers}
-use Rattle.window.specs.Step.{keptBy}
+use Rattle.window.specs.Step.{kept_by}
 use Rattle.window.specs.Lists.{length-filtered}
-use Rattle.records.specs.Record.{processCount, closedMask, keptCount, takenCounts, pendingEvents}
-use Rattle.refusals.specs.Refusals.{badRecordLength, badWindowLength, roomOf, badState, notOpen, named_by}
+use Rattle.records.specs.Record.{process_count, closed_mask, kept_count, taken_counts, pending_events}
+use Rattle.refusals.specs.Refusals.{bad_record_length, bad_window_length, room_of, bad_state, not_open, named_by}
 use Rattle.refusals.specs.RefusalLaws.{state-within}
-use Rattle.answers.specs.Answer.{turnedBack, processClosed, replyWord}
-use Rattle.answers.specs.Turns.{by-test}
-use Rattle.call_close.specs.Close.{Closed, closing, remaining, closeProcess, closeCall}
+use Rattle.answers.specs.Answer.{turned_back, process_closed, reply_word}
+use Rattle.answers.specs.Turns.{by_test}
+use Rattle.call_close.specs.Close.{Closed, closing, remaining, close_process, close_call}
 use Rattle.call_close.specs.CloseReplies.{CloseTold, CloseTells}
 
-pub turned-told : (n : ℕ) → 0 < n → n < 256 → CloseTold (turnedBack n 0)
-unfolding replyWord
-turned-told n some small = record {
-  closed-exactly = λ m. (λ x. let z : ◌≡◌ {A = ℕ} 0 1 = cc in absurd (omega arith), λ x. absurd (omega (arith, x.0)));
-  turned-exactly = λ m.
+pub turned_told : (n : ℕ) → 0 < n → n < 256 → CloseTold (turned_back n 0)
+unfolding reply_word
+turned_told n some small = record {
+  closed_exactly = λ m. (λ x. let z : ◌≡◌ {A = ℕ} 0 1 = cc in absurd (omega arith), λ x. absurd (omega (arith, x.0)));
+  turned_exactly = λ m.
       (λ x. let z : n ≡ m = cc in (omega arith, omega arith), λ x. let z : n ≡ m = omega (arith, x.1) in rw z);
 }
 
-closed-told : (n : ℕ) → n < 65536 → CloseTold (processClosed n)
-unfolding replyWord
-closed-told n small = record {
-  closed-exactly = λ m.
+closed_told : (n : ℕ) → n < 65536 → CloseTold (process_closed n)
+unfolding reply_word
+closed_told n small = record {
+  closed_exactly = λ m.
       (λ x. let z : n ≡ m = cc in (omega arith, omega arith), λ x. let z : n ≡ m = omega (arith, x.1) in rw z);
-  turned-exactly = λ m.
+  turned_exactly = λ m.
       (λ x. let z : ◌≡◌ {A = ℕ} 0 1 = cc in absurd (omega arith), λ x. absurd (omega (arith, x.0, x.1)));
 }
 
 -- No more frontiers are kept than there were.
-pub few-remain : (w : ℕ) (s : List ℕ) (closed : ℕ) (window : List ℕ) (n : ℕ)
+pub few_remain : (w : ℕ) (s : List ℕ) (closed : ℕ) (window : List ℕ) (n : ℕ)
     → length (remaining w s closed (frontiers w window n)) ≤ n
 unfolding remaining
-few-remain w s closed window n =
-    let stay : Frontier → Bool = λ f. keptBy 8 (processCount s) closed (at (takenCounts w s)) (at f.counts) in
+few_remain w s closed window n =
+    let stay : Frontier → Bool = λ f. kept_by 8 (process_count s) closed (at (taken_counts w s)) (at f.counts) in
     omega (arith, length-filtered stay (frontiers w window n), length-frontiers w window n)
 
-process-told : (w p : ℕ) (s window : List ℕ) → badState w (roomOf w (length window)) s ≡ false
-    → CloseTold (closeProcess w p s window).answer
-unfolding closeProcess
-process-told w p s window good =
-    let few = few-remain w s (closing (closedMask s) p) window (keptCount s) in
-    closed-told _ (omega (arith, few, (state-within w (roomOf w (length window)) s good).3))
+process_told : (w p : ℕ) (s window : List ℕ) → bad_state w (room_of w (length window)) s ≡ false
+    → CloseTold (close_process w p s window).answer
+unfolding close_process
+process_told w p s window good =
+    let few = few_remain w s (closing (closed_mask s) p) window (kept_count s) in
+    closed_told _ (omega (arith, few, (state-within w (room_of w (length window)) s good).3))
 
-pub replies-tell : CloseTells
-unfolding closeCall
-replies-tell w p s window =
-    let back : (n : ℕ) → Closed = λ n. record { answer = turnedBack n 0; bytes = s; window = window } in
+pub replies_tell : CloseTells
+unfolding close_call
+replies_tell w p s window =
+    let back : (n : ℕ) → Closed = λ n. record { answer = turned_back n 0; bytes = s; window = window } in
     let P : Closed → Type 0 = λ c. CloseTold c.answer in
-    let told : (n : ℕ) → 0 < n → n < 256 → P (back n) = λ n some small. turned-told n some small in
-    let six = badRecordLength w (length s) || badWindowLength w (length window) in
-    by-test P six (back 6) _ (λ _. told 6 (omega arith) (omega arith)) λ _.
-    by-test P (badState w (roomOf w (length window)) s) (back 34) _ (λ _. told 34 (omega arith) (omega arith)) λ good.
-    by-test P (notOpen (processCount s) (closedMask s) p) (back 41) _ (λ _. told 41 (omega arith) (omega arith)) λ _.
-    by-test P (named_by p (pendingEvents w s)) (back 42) _ (λ _. told 42 (omega arith) (omega arith)) λ _.
-    process-told w p s window good
+    let told : (n : ℕ) → 0 < n → n < 256 → P (back n) = λ n some small. turned_told n some small in
+    let six = bad_record_length w (length s) || bad_window_length w (length window) in
+    by_test P six (back 6) _ (λ _. told 6 (omega arith) (omega arith)) λ _.
+    by_test P (bad_state w (room_of w (length window)) s) (back 34) _ (λ _. told 34 (omega arith) (omega arith)) λ good.
+    by_test P (not_open (process_count s) (closed_mask s) p) (back 41) _ (λ _. told 41 (omega arith) (omega arith)) λ _.
+    by_test P (named_by p (pending_events w s)) (back 42) _ (λ _. told 42 (omega arith) (omega arith)) λ _.
+    process_told w p s window good

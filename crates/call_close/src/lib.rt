@@ -7,9 +7,9 @@ pub mod staying;
 ghost use Rattle.std.specs.Prelude.{◌≤◌, ◌<◌, ◌≡◌, length};
 ghost use Rattle.frontiers.specs.Width.{Width};
 ghost use Rattle.window.specs.Room.{RoomFor};
-ghost use Rattle.records.specs.Record.{recordLength, processCount, keptCount, closedSet};
-ghost use Rattle.answers.specs.Answer.{replyWord};
-ghost use Rattle.call_close.specs.Close.{closing, closeProcess, closeCall};
+ghost use Rattle.records.specs.Record.{record_length, process_count, kept_count, closed_set};
+ghost use Rattle.answers.specs.Answer.{reply_word};
+ghost use Rattle.call_close.specs.Close.{closing, close_process, close_call};
 
 use crate::refused::close_fault;
 use crate::staying::drop_others;
@@ -28,7 +28,7 @@ fn with_process(closed: u64, p: u32) -> u64
 fn set_closed(record: &mut [u8], closed: u64, kept: u32)
     requires in_bounds { 8 ≤ length «record».old }
     requires closed_bound { closed < 256 }
-    ensures { «record».new ≡ closedSet «record».old closed kept }
+    ensures { «record».new ≡ closed_set «record».old closed kept }
 {
     record[3] = closed as u8;
     codec::write_u32(record, 4, kept);
@@ -38,14 +38,14 @@ fn set_closed(record: &mut [u8], closed: u64, kept: u32)
 fn close_process(w: usize, p: u32, record: &mut [u8], window: &mut [u8]) -> u64
     requires width { Width w }
     requires p_bound { p < 8 }
-    requires record_len { length «record».old ≡ recordLength w }
-    requires record_bound { processCount «record».old ≤ 8 }
-    requires room_for { RoomFor w (keptCount «record».old) window.old }
-    ensures reply { result ≡ replyWord (closeProcess w p «record».old window.old).answer }
+    requires record_len { length «record».old ≡ record_length w }
+    requires record_bound { process_count «record».old ≤ 8 }
+    requires room_for { RoomFor w (kept_count «record».old) window.old }
+    ensures reply { result ≡ reply_word (close_process w p «record».old window.old).answer }
     ensures bytes { «record».new
-        ≡ (closeProcess w p «record».old window.old).bytes }
+        ≡ (close_process w p «record».old window.old).bytes }
     ensures window { window.new
-        ≡ (closeProcess w p «record».old window.old).window }
+        ≡ (close_process w p «record».old window.old).window }
 {
     let n = kept_count(record) as usize;
     let k = process_count(record);
@@ -60,11 +60,11 @@ fn close_process(w: usize, p: u32, record: &mut [u8], window: &mut [u8]) -> u64
 // Closes a process: the reply, and the bytes of both buffers after it.
 pub fn close(w: usize, process: u64, record: &mut [u8], window: &mut [u8]) -> u64
     requires { Width w }
-    ensures reply { result ≡ replyWord (closeCall w process «record».old window.old).answer }
+    ensures reply { result ≡ reply_word (close_call w process «record».old window.old).answer }
     ensures bytes { «record».new
-        ≡ (closeCall w process «record».old window.old).bytes }
+        ≡ (close_call w process «record».old window.old).bytes }
     ensures window { window.new
-        ≡ (closeCall w process «record».old window.old).window }
+        ≡ (close_call w process «record».old window.old).window }
 {
     let fault = close_fault(w, process, record, window.len());
     if fault != 0 {

@@ -2,9 +2,9 @@
 
 ghost use Rattle.std.specs.Prelude.{◌≤◌, ◌<◌, ◌≡◌, length};
 ghost use Rattle.frontiers.specs.Width.{Width};
-ghost use Rattle.records.specs.Record.{recordLength, pendingCount, pendingEvents};
-ghost use Rattle.refusals.specs.Refusals.{notOpen, named_by};
-ghost use Rattle.call_close.specs.CloseCode.{closeFault};
+ghost use Rattle.records.specs.Record.{record_length, pending_count, pending_events};
+ghost use Rattle.refusals.specs.Refusals.{not_open, named_by};
+ghost use Rattle.call_close.specs.CloseCode.{close_fault};
 
 use numbers::refusal::{NAMED, NOT_OPEN};
 use records::fields::{closed_mask, pending_count, pending_place, process_count};
@@ -13,7 +13,7 @@ use refusals::watch_fault;
 // 41: a process that is not one of k, or is closed already. Its whole word counts: only below k is it a bit's place.
 pub fn not_open(k: u32, closed: u32, process: u64) -> bool
     requires { k ≤ 8 }
-    ensures { result ≡ notOpen k closed process }
+    ensures { result ≡ not_open k closed process }
 {
     if k as u64 <= process {
         return true;
@@ -24,10 +24,10 @@ pub fn not_open(k: u32, closed: u32, process: u64) -> bool
 // 42: a pending event names process p. Of each event only the mask is read.
 pub fn named_by(record: &[u8], w: usize, p: u32) -> bool
     requires width { Width w }
-    requires record_len { length «record».now ≡ recordLength w }
-    requires record_bound { pendingCount «record».now ≤ 32 }
+    requires record_len { length «record».now ≡ record_length w }
+    requires record_bound { pending_count «record».now ≤ 32 }
     requires p_bound { p < 8 }
-    ensures { result ≡ named_by p (pendingEvents w «record».now) }
+    ensures { result ≡ named_by p (pending_events w «record».now) }
 {
     let n = pending_count(record);
     let mut i = 0;
@@ -44,7 +44,7 @@ pub fn named_by(record: &[u8], w: usize, p: u32) -> bool
 // The number that a close is turned back with; 0 for none.
 pub fn close_fault(w: usize, process: u64, record: &[u8], n: usize) -> u64
     requires { Width w }
-    ensures { result ≡ closeFault w process «record».now n }
+    ensures { result ≡ close_fault w process «record».now n }
 {
     let fault = watch_fault(w, record, n);
     if fault != 0 {

@@ -7,16 +7,16 @@ use mathlib.Core.List.{List, [], ◌∷◌, Memᴰ}
 use Rattle.frontiers.specs.declared.Frontier.{Frontier}
 use Rattle.codec.specs.Bit.{bit}
 use Rattle.answers.specs.Answer.{found, absent}
-use Rattle.call_find.specs.Find.{findFrom}
+use Rattle.call_find.specs.Find.{find_from}
 
 -- The line holds at a frontier or does not.
 abbrev pub HoldsThere : ℕ → Frontier → Bool → Type 0
 HoldsThere line f b = bit f.values line ≡ b
 
 pub data Finding (line i : ℕ) (fs : List Frontier) (d : Frontier) : Type 0 where
-  first : (j : ℕ) → j < length fs → findFrom line i fs ≡ found (i + j) → HoldsThere line (get_or fs j d) true
+  first : (j : ℕ) → j < length fs → find_from line i fs ≡ found (i + j) → HoldsThere line (get_or fs j d) true
       → ((h : ℕ) → h < j → HoldsThere line (get_or fs h d) false) → Finding line i fs d
-  nowhere : findFrom line i fs ≡ absent → ((f : Frontier) → Memᴰ f fs → HoldsThere line f false)
+  nowhere : find_from line i fs ≡ absent → ((f : Frontier) → Memᴰ f fs → HoldsThere line f false)
       → Finding line i fs d
 
 one_more : (line : ℕ) (d f : Frontier) (fs : List Frontier) (j : ℕ) → HoldsThere line f false
@@ -26,8 +26,8 @@ one_more line d f fs j q n zero l = q
 one_more line d f fs j q n (suc h) l = n h (omega arith)
 
 pub finding : (line i : ℕ) (fs : List Frontier) (d : Frontier) → Finding line i fs d
-unfolding findFrom
-finding line i [] d = nowhere refl (λ f m. absurd (Memᴰ.not-nil m))
+unfolding find_from
+finding line i [] d = nowhere refl (λ f m. absurd (Memᴰ.not_nil m))
 finding line i (f ∷ fs) d = go (bit f.values line) refl (finding line (i + 1) fs d)
   where
     go : (b : Bool) → HoldsThere line f b → Finding line (i + 1) fs d → Finding line i (f ∷ fs) d

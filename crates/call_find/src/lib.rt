@@ -2,11 +2,11 @@
 
 ghost use Rattle.std.specs.Prelude.{◌+◌, ◌≤◌, ◌<◌, ◌*◌, ◌≡◌, true, length};
 ghost use Rattle.frontiers.specs.Width.{Width};
-ghost use Rattle.frontiers.specs.Bytes.{frontierLength, frontierAt, frontiers};
+ghost use Rattle.frontiers.specs.Bytes.{frontier_length, frontier_at, frontiers};
 ghost use Rattle.codec.specs.Bit.{bit};
-ghost use Rattle.call_find.specs.Find.{findFrom, findCall};
-ghost use Rattle.answers.specs.Answer.{replyWord};
-ghost use Rattle.call_find.specs.FindCode.{replyFrom, fourValues};
+ghost use Rattle.call_find.specs.Find.{find_from, find_call};
+ghost use Rattle.answers.specs.Answer.{reply_word};
+ghost use Rattle.call_find.specs.FindCode.{reply_from, four_values};
 
 use frontiers::stored::values_at;
 use numbers::refusal::NO_SUCH_LINE;
@@ -17,8 +17,8 @@ use refusals::watch_fault;
 fn four_values(w: usize, window: &[u8], i: usize) -> u64
     requires width { Width w }
     requires i_bound { i ≤ 1020 }
-    requires w_in_bounds { (i + 4) * frontierLength w ≤ length window.now }
-    ensures { result ≡ fourValues w window.now i }
+    requires w_in_bounds { (i + 4) * frontier_length w ≤ length window.now }
+    ensures { result ≡ four_values w window.now i }
 {
     let first = values_at(window, w, i);
     let second = values_at(window, w, i + 1);
@@ -34,9 +34,9 @@ fn pass_fours(w: usize, line: u32, window: &[u8], kept: usize) -> usize
     requires width { Width w }
     requires line_bound { line < 64 }
     requires kept_bound { kept ≤ 1024 }
-    requires w_in_bounds { kept * frontierLength w ≤ length window.now }
+    requires w_in_bounds { kept * frontier_length w ≤ length window.now }
     ensures upper_bound { result ≤ kept }
-    ensures kept_value { replyFrom w line window.now kept 0 ≡ replyFrom w line window.now kept result }
+    ensures kept_value { reply_from w line window.now kept 0 ≡ reply_from w line window.now kept result }
 {
     let mut i = 0;
     while i + 4 <= kept {
@@ -53,10 +53,10 @@ fn first_holding(w: usize, line: u32, window: &[u8], kept: usize) -> usize
     requires width { Width w }
     requires line_bound { line < 64 }
     requires kept_bound { kept ≤ 1024 }
-    requires w_in_bounds { kept * frontierLength w ≤ length window.now }
+    requires w_in_bounds { kept * frontier_length w ≤ length window.now }
     ensures upper_bound { result ≤ kept }
-    ensures kept_value { replyFrom w line window.now kept 0 ≡ replyFrom w line window.now kept result }
-    ensures line_value { result < kept → bit (frontierAt w window.now result).values line ≡ true }
+    ensures kept_value { reply_from w line window.now kept 0 ≡ reply_from w line window.now kept result }
+    ensures line_value { result < kept → bit (frontier_at w window.now result).values line ≡ true }
 {
     let mut i = pass_fours(w, line, window, kept);
     // So many as there are: none is found yet.
@@ -75,8 +75,8 @@ pub fn find_first(w: usize, line: u32, window: &[u8], kept: usize) -> u64
     requires width { Width w }
     requires line_bound { line < 64 }
     requires kept_bound { kept ≤ 1024 }
-    requires w_in_bounds { kept * frontierLength w ≤ length window.now }
-    ensures { result ≡ replyWord (findFrom line 0 (frontiers w window.now kept)) }
+    requires w_in_bounds { kept * frontier_length w ≤ length window.now }
+    ensures { result ≡ reply_word (find_from line 0 (frontiers w window.now kept)) }
 {
     let i = first_holding(w, line, window, kept);
     if i < kept {
@@ -89,7 +89,7 @@ pub fn find_first(w: usize, line: u32, window: &[u8], kept: usize) -> u64
 // Finds the first kept frontier at which a line holds: the reply.
 pub fn find(w: usize, line: u64, record: &[u8], window: &[u8]) -> u64
     requires { Width w }
-    ensures { result ≡ replyWord (findCall w line «record».now window.now) }
+    ensures { result ≡ reply_word (find_call w line «record».now window.now) }
 {
     let fault = watch_fault(w, record, window.len());
     if fault != 0 {

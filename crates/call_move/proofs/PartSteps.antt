@@ -6,35 +6,35 @@ use mathlib.Core.Bool.{◌||◌, or_comm}
 use mathlib.Core.List.{List, ◌++◌}
 use lib.ListN.{length, take, drop, length-drop}
 use lib.Seq.{sets, take-add, drop-drop, length-take-le}
-use Rattle.codec.specs.SetsLaws.{sets-append, sets-whole}
-use Rattle.frontiers.specs.Bytes.{countBytes}
-use Rattle.frontiers.specs.BytesLaws.{length-countBytes}
+use Rattle.codec.specs.SetsLaws.{sets-append, sets_whole}
+use Rattle.frontiers.specs.Bytes.{count_bytes}
+use Rattle.frontiers.specs.BytesLaws.{length-count_bytes}
 use Rattle.call_move.specs.Parts.{Part}
 use Rattle.call_move.specs.PartLengths.{length_of}
-use Rattle.call_move.specs.Move.{countsFrom, moved, someTooLarge}
-use Rattle.call_move.specs.PartLaws.{moved-append, someTooLarge-append, length-countsFrom, length_moved}
+use Rattle.call_move.specs.Move.{counts_from, moved, some_too_large}
+use Rattle.call_move.specs.PartLaws.{moved-append, some_too_large-append_lem, length-counts_from, length_moved}
 
-pub length-counts : (v w n : ℕ) (s : List ℕ) → length (countBytes w (countsFrom v n s)) ≡ n * w
+pub length-counts : (v w n : ℕ) (s : List ℕ) → length (count_bytes w (counts_from v n s)) ≡ n * w
 length-counts v w n s =
-    length-countBytes w (countsFrom v n s) ∙ ap (λ (m : ℕ). m * w) (length-countsFrom v n s)
+    length-count_bytes w (counts_from v n s) ∙ ap (λ (m : ℕ). m * w) (length-counts_from v n s)
 
 -- Bytes stored behind others.
-pub stored-behind : (t : List ℕ) (a : ℕ) (xs : List ℕ) (b : ℕ) (ys : List ℕ) → b ≡ a + length xs
+pub stored_behind : (t : List ℕ) (a : ℕ) (xs : List ℕ) (b : ℕ) (ys : List ℕ) → b ≡ a + length xs
     → sets (sets t a xs) b ys ≡ sets t a (xs ++ ys)
-stored-behind t a xs b ys e = rw e (sets-append t a xs ys)
+stored_behind t a xs b ys e = rw e (sets-append t a xs ys)
 
 module _ (v w : ℕ) (ps qs : List Part) (s : List ℕ) (place : ℕ) where
-  pub parts-looked : place ≡ length_of v ps
-      → (someTooLarge v w qs (drop place s) || someTooLarge v w ps s) ≡ someTooLarge v w (ps ++ qs) s
-  parts-looked e =
-      or_comm (someTooLarge v w qs (drop place s)) (someTooLarge v w ps s)
-      ∙ rw e (sym (someTooLarge-append v w ps qs s))
+  pub parts_looked : place ≡ length_of v ps
+      → (some_too_large v w qs (drop place s) || some_too_large v w ps s) ≡ some_too_large v w (ps ++ qs) s
+  parts_looked e =
+      or_comm (some_too_large v w qs (drop place s)) (some_too_large v w ps s)
+      ∙ rw e (sym (some_too_large-append_lem v w ps qs s))
 
-  pub parts-written : (t : List ℕ) (to : ℕ) → place ≡ length_of v ps → to ≡ length_of w ps → place ≤ length s
+  pub parts_written : (t : List ℕ) (to : ℕ) → place ≡ length_of v ps → to ≡ length_of w ps → place ≤ length s
       → sets (sets t 0 (moved v w ps s)) to (moved v w qs (drop place s)) ≡ sets t 0 (moved v w (ps ++ qs) s)
-  parts-written t to e f within =
+  parts_written t to e f within =
       let long : length (moved v w ps s) ≡ length_of w ps = length_moved v w ps s (rw (← e) within) in
-      stored-behind t 0 (moved v w ps s) to (moved v w qs (drop place s)) (omega arith)
+      stored_behind t 0 (moved v w ps s) to (moved v w qs (drop place s)) (omega arith)
       ∙ rw e (ap (sets t 0) (sym (moved-append v w ps qs s)))
 
 -- Bytes copied, none, and eight more.
@@ -49,9 +49,9 @@ copied_more t to s from i within =
     let far : 8 * (i + 1) ≡ 8 * i + 8 = omega arith in
     let long : length (take (8 * i) d) ≡ 8 * i = length-take-le (8 * i) d (simp length-drop (omega arith)) in
     rw (far, take-add (8 * i) 8 d, drop-drop (8 * i) from s)
-    (stored-behind t to (take (8 * i) d) (to + 8 * i) (take 8 (drop (from + 8 * i) s)) (omega arith))
+    (stored_behind t to (take (8 * i) d) (to + 8 * i) (take 8 (drop (from + 8 * i) s)) (omega arith))
 
 -- All parts written.
 pub all-written : (v w : ℕ) (ps : List Part) (s t : List ℕ) → length_of v ps ≤ length s → length t ≡ length_of w ps
     → sets t 0 (moved v w ps s) ≡ moved v w ps s
-all-written v w ps s t within e = sets-whole t (moved v w ps s) (length_moved v w ps s within ∙ sym e)
+all-written v w ps s t within e = sets_whole t (moved v w ps s) (length_moved v w ps s within ∙ sym e)

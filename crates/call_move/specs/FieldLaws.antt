@@ -8,25 +8,25 @@ use Rattle.codec.specs.Little.{number, value_of}
 use Rattle.pactl.specs.declared.Line.{Line}
 use Rattle.pactl.specs.Line.{line}
 use Rattle.pactl.specs.TableBytes.{line_at, lines_of}
-use Rattle.pactl.specs.TableBytesLaws.{getD-linesOf, length-linesFrom}
+use Rattle.pactl.specs.TableBytesLaws.{get_d_lines_of, length-lines_from}
 use Rattle.clocks.specs.Counts.{list_of}
-use Rattle.clocks.specs.stored.CountsLaws.{listOf-same}
-use Rattle.frontiers.specs.Bytes.{frontierLength, frontierFrom, frontierAt}
-use Rattle.records.specs.Record.{clocksPlace, tablePlace, pendingPlace, recordLength, lineTotal, keptCount, takenCounts, lastClocks, tableLines, pendingAt}
-use Rattle.records.specs.RecordLaws.{event-parts}
-use Rattle.call_move.specs.Parts.{recordParts, windowParts}
+use Rattle.clocks.specs.stored.CountsLaws.{list_of-same_lem}
+use Rattle.frontiers.specs.Bytes.{frontier_length, frontier_from, frontier_at}
+use Rattle.records.specs.Record.{clocks_place, table_place, pending_place, record_length, line_total, kept_count, taken_counts, last_clocks, table_lines, pending_at}
+use Rattle.records.specs.RecordLaws.{event_parts_lem}
+use Rattle.call_move.specs.Parts.{record_parts, window_parts}
 use Rattle.call_move.specs.PartLengths.{length_of}
-use Rattle.call_move.specs.PartLaws.{length-recordParts, length-windowParts}
-use Rattle.call_move.specs.PlaceLaws.{part_at, byte-at, number_at}
-use Rattle.call_move.specs.StandLaws.{head-stands, taken-stands, clocks-stand, table-stands, mask-stands, clock-stands, labels-stand, counts-stand, rest-stands}
+use Rattle.call_move.specs.PartLaws.{length-record_parts, length-window_parts}
+use Rattle.call_move.specs.PlaceLaws.{part_at, byte_at, number_at}
+use Rattle.call_move.specs.StandLaws.{head_stands, taken_stands, clocks_stand, table_stands, mask_stands, clock_stands, labels_stand, counts_stand, rest_stands}
 use Rattle.call_move.specs.MoveExact.{SameFields}
-use Rattle.call_move.specs.Move.{moved, someTooLarge}
+use Rattle.call_move.specs.Move.{moved, some_too_large}
 
 -- Lines depend on their own bytes only.
-lines-alike : (xs ys : List ℕ) (n : ℕ) → ((j : ℕ) → j < 3 * n → get_or xs j 0 ≡ get_or ys j 0) → lines_of xs n ≡ lines_of ys n
+lines_alike : (xs ys : List ℕ) (n : ℕ) → ((j : ℕ) → j < 3 * n → get_or xs j 0 ≡ get_or ys j 0) → lines_of xs n ≡ lines_of ys n
 unfolding line_at
-lines-alike xs ys n h =
-    ext_get_or none (lines_of xs n) (lines_of ys n) (length-linesFrom xs n 0 ∙ sym (length-linesFrom ys n 0)) same
+lines_alike xs ys n h =
+    ext_get_or none (lines_of xs n) (lines_of ys n) (length-lines_from xs n 0 ∙ sym (length-lines_from ys n 0)) same
   where
     none : Line
     none = line 0 0 0
@@ -36,137 +36,137 @@ lines-alike xs ys n h =
 
     same : (i : ℕ) → i < length (lines_of xs n) → get_or (lines_of xs n) i none ≡ get_or (lines_of ys n) i none
     same i l =
-        let k : i < n = rw (length-linesFrom xs n 0) at l in
-        getD-linesOf xs n i none k ∙ one i k ∙ sym (getD-linesOf ys n i none k)
+        let k : i < n = rw (length-lines_from xs n 0) at l in
+        get_d_lines_of xs n i none k ∙ one i k ∙ sym (get_d_lines_of ys n i none k)
 
 -- ---- A record
 
-module _ (v w : ℕ) (s : List ℕ) (long : length s ≡ recordLength v) (fits : someTooLarge v w recordParts s ≡ false)
-    (few : lineTotal s ≤ 64) where
+module _ (v w : ℕ) (s : List ℕ) (long : length s ≡ record_length v) (fits : some_too_large v w record_parts s ≡ false)
+    (few : line_total s ≤ 64) where
   abbrev t : List ℕ
-  t = moved v w recordParts s
+  t = moved v w record_parts s
 
-  enough : length_of v recordParts ≤ length s
-  enough = omega (arith, long, length-recordParts v)
+  enough : length_of v record_parts ≤ length s
+  enough = omega (arith, long, length-record_parts v)
 
   head : (i : ℕ) → i < 8 → get_or t i 0 ≡ get_or s i 0
-  head i l = rw zero-add at (byte-at v w recordParts 8 0 0 s enough (head-stands v w) i l)
+  head i l = rw zero-add at (byte_at v w record_parts 8 0 0 s enough (head_stands v w) i l)
 
-  kept_same : keptCount t ≡ keptCount s
+  kept_same : kept_count t ≡ kept_count s
   unfolding number
-  kept_same = ap value_of (part_at v w recordParts 8 0 0 s enough (head-stands v w) 4 4 (omega arith))
+  kept_same = ap value_of (part_at v w record_parts 8 0 0 s enough (head_stands v w) 4 4 (omega arith))
 
-  taken-same : takenCounts w t ≡ takenCounts v s
-  unfolding takenCounts
+  taken-same : taken_counts w t ≡ taken_counts v s
+  unfolding taken_counts
   taken-same =
-      listOf-same 8 (λ p. number t (8 + p * w) w) (λ p. number s (8 + p * v) v)
-      (λ p l. number_at v w recordParts 8 8 8 s enough (taken-stands v w) fits p l)
+      list_of-same_lem 8 (λ p. number t (8 + p * w) w) (λ p. number s (8 + p * v) v)
+      (λ p l. number_at v w record_parts 8 8 8 s enough (taken_stands v w) fits p l)
 
-  clocks-same : lastClocks w t ≡ lastClocks v s
-  unfolding lastClocks
-  clocks-same =
-      listOf-same 8 (λ p. list_of 8 (λ q. number t (clocksPlace w + p * (8 * w) + q * w) w))
-      (λ p. list_of 8 (λ q. number s (clocksPlace v + p * (8 * v) + q * v) v))
+  clocks_same : last_clocks w t ≡ last_clocks v s
+  unfolding last_clocks
+  clocks_same =
+      list_of-same_lem 8 (λ p. list_of 8 (λ q. number t (clocks_place w + p * (8 * w) + q * w) w))
+      (λ p. list_of 8 (λ q. number s (clocks_place v + p * (8 * v) + q * v) v))
       (λ p l.
-      listOf-same 8 (λ q. number t (clocksPlace w + p * (8 * w) + q * w) w)
-      (λ q. number s (clocksPlace v + p * (8 * v) + q * v) v)
+      list_of-same_lem 8 (λ q. number t (clocks_place w + p * (8 * w) + q * w) w)
+      (λ q. number s (clocks_place v + p * (8 * v) + q * v) v)
       (λ q m.
       rw (place w p q, place v p q)
-      (number_at v w recordParts 64 (clocksPlace v) (clocksPlace w) s enough (clocks-stand v w) fits (8 * p + q)
+      (number_at v w record_parts 64 (clocks_place v) (clocks_place w) s enough (clocks_stand v w) fits (8 * p + q)
       (omega arith))))
     where
-      place : (u p q : ℕ) → clocksPlace u + p * (8 * u) + q * u ≡ clocksPlace u + (8 * p + q) * u
+      place : (u p q : ℕ) → clocks_place u + p * (8 * u) + q * u ≡ clocks_place u + (8 * p + q) * u
       place u p q = omega (arith, add-mul (8 * p) q u, mul_assoc 8 p u, mul_assoc p 8 u, mul_comm p 8)
 
-  table_same : tableLines w t ≡ tableLines v s
-  unfolding tableLines
+  table_same : table_lines w t ≡ table_lines v s
+  unfolding table_lines
   table_same =
-      ap (lines_of (drop (tablePlace w) t)) (head 1 (omega arith))
-      ∙ lines-alike (drop (tablePlace w) t) (drop (tablePlace v) s) (lineTotal s)
+      ap (lines_of (drop (table_place w) t)) (head 1 (omega arith))
+      ∙ lines_alike (drop (table_place w) t) (drop (table_place v) s) (line_total s)
       (λ j l.
-      get_or-drop (tablePlace w) t j 0
-      ∙ byte-at v w recordParts 192 (tablePlace v) (tablePlace w) s enough (table-stands v w) j (omega arith)
-      ∙ sym (get_or-drop (tablePlace v) s j 0))
+      get_or-drop (table_place w) t j 0
+      ∙ byte_at v w record_parts 192 (table_place v) (table_place w) s enough (table_stands v w) j (omega arith)
+      ∙ sym (get_or-drop (table_place v) s j 0))
 
   -- ---- pending events
   module _ (i : ℕ) (l : i < 32) where
-    pending-same : pendingAt w t i ≡ pendingAt v s i
-    pending-same =
-        sym (event-parts w i t (pendingPlace w i) (get_or s (pendingPlace v i) 0) clock labels refl mask-same clock-same
-        labels-same)
-        ∙ event-parts v i s (pendingPlace v i) (get_or s (pendingPlace v i) 0) clock labels refl refl refl refl
+    pending_same : pending_at w t i ≡ pending_at v s i
+    pending_same =
+        sym (event_parts_lem w i t (pending_place w i) (get_or s (pending_place v i) 0) clock labels refl mask_same clock_same
+        labels_same)
+        ∙ event_parts_lem v i s (pending_place v i) (get_or s (pending_place v i) 0) clock labels refl refl refl refl
       where
         clock : List ℕ
-        clock = list_of 8 (λ p. number s (pendingPlace v i + 8 + p * v) v)
+        clock = list_of 8 (λ p. number s (pending_place v i + 8 + p * v) v)
 
         labels : List ℕ
-        labels = take 8 (drop (pendingPlace v i + 8 + 8 * v) s)
+        labels = take 8 (drop (pending_place v i + 8 + 8 * v) s)
 
-        mask-same : get_or s (pendingPlace v i) 0 ≡ get_or t (pendingPlace w i) 0
-        mask-same =
-            let here : (u : ℕ) → pendingPlace u i + 0 + 0 ≡ pendingPlace u i = λ u. omega arith in
-            sym (rw (here w, here v) at (byte-at v w recordParts 8 (pendingPlace v i + 0) (pendingPlace w i + 0) s
-            enough (mask-stands v w i l) 0 (omega arith)))
+        mask_same : get_or s (pending_place v i) 0 ≡ get_or t (pending_place w i) 0
+        mask_same =
+            let here : (u : ℕ) → pending_place u i + 0 + 0 ≡ pending_place u i = λ u. omega arith in
+            sym (rw (here w, here v) at (byte_at v w record_parts 8 (pending_place v i + 0) (pending_place w i + 0) s
+            enough (mask_stands v w i l) 0 (omega arith)))
 
-        clock-same : clock ≡ list_of 8 (λ p. number t (pendingPlace w i + 8 + p * w) w)
-        clock-same =
-            listOf-same 8 (λ p. number s (pendingPlace v i + 8 + p * v) v)
-            (λ p. number t (pendingPlace w i + 8 + p * w) w)
+        clock_same : clock ≡ list_of 8 (λ p. number t (pending_place w i + 8 + p * w) w)
+        clock_same =
+            list_of-same_lem 8 (λ p. number s (pending_place v i + 8 + p * v) v)
+            (λ p. number t (pending_place w i + 8 + p * w) w)
             (λ p k.
-            sym (number_at v w recordParts 8 (pendingPlace v i + 8) (pendingPlace w i + 8) s enough
-            (clock-stands v w i l) fits p k))
+            sym (number_at v w record_parts 8 (pending_place v i + 8) (pending_place w i + 8) s enough
+            (clock_stands v w i l) fits p k))
 
-        labels-same : labels ≡ take 8 (drop (pendingPlace w i + 8 + 8 * w) t)
-        labels-same =
-            let here : (u : ℕ) → pendingPlace u i + (8 + 8 * u) + 0 ≡ pendingPlace u i + 8 + 8 * u = λ u. omega arith in
-            sym (rw (here w, here v) at (part_at v w recordParts 8 (pendingPlace v i + (8 + 8 * v))
-            (pendingPlace w i + (8 + 8 * w)) s enough (labels-stand v w i l) 0 8 (omega arith)))
+        labels_same : labels ≡ take 8 (drop (pending_place w i + 8 + 8 * w) t)
+        labels_same =
+            let here : (u : ℕ) → pending_place u i + (8 + 8 * u) + 0 ≡ pending_place u i + 8 + 8 * u = λ u. omega arith in
+            sym (rw (here w, here v) at (part_at v w record_parts 8 (pending_place v i + (8 + 8 * v))
+            (pending_place w i + (8 + 8 * w)) s enough (labels_stand v w i l) 0 8 (omega arith)))
 
   pub record_same : SameFields v w s t
   record_same = record {
     processes = head 0 (omega arith);
     lines = head 1 (omega arith);
-    pending-number = head 2 (omega arith);
+    pending_number = head 2 (omega arith);
     closed = head 3 (omega arith);
     kept = kept_same;
     taken = taken-same;
-    clocks = clocks-same;
+    clocks = clocks_same;
     table = table_same;
-    pending = pending-same;
+    pending = pending_same;
   }
 
 -- ---- A window
 
-module _ (v w n : ℕ) (s : List ℕ) (long : length s ≡ n * frontierLength v)
-    (fits : someTooLarge v w (windowParts n) s ≡ false) (i : ℕ) (l : i < n) where
+module _ (v w n : ℕ) (s : List ℕ) (long : length s ≡ n * frontier_length v)
+    (fits : some_too_large v w (window_parts n) s ≡ false) (i : ℕ) (l : i < n) where
   abbrev u : List ℕ
-  u = moved v w (windowParts n) s
+  u = moved v w (window_parts n) s
 
-  enough-frontiers : length_of v (windowParts n) ≤ length s
-  enough-frontiers = omega (arith, long, length-windowParts v n)
+  enough-frontiers : length_of v (window_parts n) ≤ length s
+  enough-frontiers = omega (arith, long, length-window_parts v n)
 
   abbrev from : ℕ
-  from = i * frontierLength v
+  from = i * frontier_length v
 
   abbrev to : ℕ
-  to = i * frontierLength w
+  to = i * frontier_length w
 
   eight-same : (j : ℕ) → j + 8 ≤ 24 → take 8 (drop (to + 8 * w + j) u) ≡ take 8 (drop (from + 8 * v + j) s)
   eight-same j k =
-      part_at v w (windowParts n) 24 (from + 8 * v) (to + 8 * w) s enough-frontiers (rest-stands v w n i l) j 8 k
+      part_at v w (window_parts n) 24 (from + 8 * v) (to + 8 * w) s enough-frontiers (rest_stands v w n i l) j 8 k
 
-  labels-alike : take 8 (drop (to + 8 * w) u) ≡ take 8 (drop (from + 8 * v) s)
-  labels-alike = simp add-zero at (eight-same 0 (omega arith))
+  labels_alike : take 8 (drop (to + 8 * w) u) ≡ take 8 (drop (from + 8 * v) s)
+  labels_alike = simp add-zero at (eight-same 0 (omega arith))
 
-  values-alike : number u (to + 8 * w + 16) 8 ≡ number s (from + 8 * v + 16) 8
+  values_alike : number u (to + 8 * w + 16) 8 ≡ number s (from + 8 * v + 16) 8
   unfolding number
-  values-alike = ap value_of (eight-same 16 (omega arith))
+  values_alike = ap value_of (eight-same 16 (omega arith))
 
   counts-alike : list_of 8 (λ p. number u (to + p * w) w) ≡ list_of 8 (λ p. number s (from + p * v) v)
   counts-alike =
-      listOf-same 8 (λ p. number u (to + p * w) w) (λ p. number s (from + p * v) v)
-      (λ p k. number_at v w (windowParts n) 8 from to s enough-frontiers (counts-stand v w n i l) fits p k)
+      list_of-same_lem 8 (λ p. number u (to + p * w) w) (λ p. number s (from + p * v) v)
+      (λ p k. number_at v w (window_parts n) 8 from to s enough-frontiers (counts_stand v w n i l) fits p k)
 
-  pub frontier-moved : frontierAt w u i ≡ frontierAt v s i
-  unfolding frontierAt frontierFrom
-  frontier-moved = rw (counts-alike, labels-alike, eight-same 8 (omega arith), values-alike)
+  pub frontier_moved : frontier_at w u i ≡ frontier_at v s i
+  unfolding frontier_at frontier_from
+  frontier_moved = rw (counts-alike, labels_alike, eight-same 8 (omega arith), values_alike)

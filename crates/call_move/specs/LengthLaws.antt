@@ -2,66 +2,66 @@
 use Rattle.std.specs.Prelude.{ℕ, ◌*◌, ◌%◌, ◌≤◌, ◌≡◌, false, not, ◌||◌, ltb, eqb}
 use Rattle.std.proofs.Common.{arith, div-add-mod', eqb-true, eq-eqb}
 use Rattle.std.proofs.lemmas.Bool.{not-false}
-use Rattle.clocks.specs.stored.BoundedLaws.{or-false-e}
-use Rattle.frontiers.specs.Bytes.{frontierLength}
-use Rattle.records.specs.Record.{recordLength}
-use Rattle.refusals.specs.Refusals.{badRecordLength, badWindowLength, roomOf}
-use Rattle.refusals.specs.RefusalLaws.{right-length, room-few}
-use Rattle.call_move.specs.Move.{badMoveLengths}
+use Rattle.clocks.specs.stored.BoundedLaws.{or-false_e}
+use Rattle.frontiers.specs.Bytes.{frontier_length}
+use Rattle.records.specs.Record.{record_length}
+use Rattle.refusals.specs.Refusals.{bad_record_length, bad_window_length, room_of}
+use Rattle.refusals.specs.RefusalLaws.{right_length, room_few}
+use Rattle.call_move.specs.Move.{bad_move_lengths}
 
 -- A window of a right length is as long as the frontiers that it has room for.
-pub window-whole : (w n : ℕ) → badWindowLength w n ≡ false → n ≡ roomOf w n * frontierLength w
-unfolding badWindowLength roomOf
-window-whole w n h =
-    let size : ℕ = frontierLength w in
-    let whole = (or-false-e (ltb n size) (ltb (1024 * size) n || not (eqb (n % size) 0)) h).1 in
-    let exact = (or-false-e (ltb (1024 * size) n) (not (eqb (n % size) 0)) whole).1 in
+pub window_whole : (w n : ℕ) → bad_window_length w n ≡ false → n ≡ room_of w n * frontier_length w
+unfolding bad_window_length room_of
+window_whole w n h =
+    let size : ℕ = frontier_length w in
+    let whole = (or-false_e (ltb n size) (ltb (1024 * size) n || not (eqb (n % size) 0)) h).1 in
+    let exact = (or-false_e (ltb (1024 * size) n) (not (eqb (n % size) 0)) whole).1 in
     omega (arith, div-add-mod' n size, eqb-true (n % size) 0 (not-false (eqb (n % size) 0) exact))
 
 -- As many frontiers as there is room for lie within a window.
-pub frontiers-within : (w room n m : ℕ) → m ≡ room → n ≡ room * frontierLength w → m * frontierLength w ≤ n
+pub frontiers-within : (w room n m : ℕ) → m ≡ room → n ≡ room * frontier_length w → m * frontier_length w ≤ n
 frontiers-within w room n m e h = rw e (omega arith)
 
 -- The lengths of a record and a window that are read, and of those that are written: each is right, and the windows are
 -- of as many frontiers.
-pub record Lengths (v w record-length window-length target-length target-window-length : ℕ) : Type 0 where
-  pub source : record-length ≡ recordLength v
-  pub window : badWindowLength v window-length ≡ false
-  pub target : target-length ≡ recordLength w
-  pub target-window : badWindowLength w target-window-length ≡ false
-  pub rooms : roomOf v window-length ≡ roomOf w target-window-length
+pub record Lengths (v w record_length window_length target_length target_window_length : ℕ) : Type 0 where
+  pub source : record_length ≡ record_length v
+  pub window : bad_window_length v window_length ≡ false
+  pub target : target_length ≡ record_length w
+  pub target_window : bad_window_length w target_window_length ≡ false
+  pub rooms : room_of v window_length ≡ room_of w target_window_length
   -- so both are the frontiers of one room
-  pub whole : window-length ≡ roomOf v window-length * frontierLength v
-  pub target-whole : target-window-length ≡ roomOf v window-length * frontierLength w
-  pub few : roomOf v window-length ≤ 1024
+  pub whole : window_length ≡ room_of v window_length * frontier_length v
+  pub target_whole : target_window_length ≡ room_of v window_length * frontier_length w
+  pub few : room_of v window_length ≤ 1024
 
-pub right-lengths : (v w a b c d : ℕ) → badMoveLengths v w a b c d ≡ false → Lengths v w a b c d
-unfolding badMoveLengths
-right-lengths v w a b c d h =
-    let first = or-false-e (badRecordLength v a) _ h in
-    let second = or-false-e (badWindowLength v b) _ first.1 in
-    let third = or-false-e (badRecordLength w c) _ second.1 in
-    let fourth = or-false-e (badWindowLength w d) (not (eqb (roomOf v b) (roomOf w d))) third.1 in
-    let same : roomOf v b ≡ roomOf w d = eqb-true (roomOf v b) (roomOf w d) (not-false _ fourth.1) in
+pub right_lengths : (v w a b c d : ℕ) → bad_move_lengths v w a b c d ≡ false → Lengths v w a b c d
+unfolding bad_move_lengths
+right_lengths v w a b c d h =
+    let first = or-false_e (bad_record_length v a) _ h in
+    let second = or-false_e (bad_window_length v b) _ first.1 in
+    let third = or-false_e (bad_record_length w c) _ second.1 in
+    let fourth = or-false_e (bad_window_length w d) (not (eqb (room_of v b) (room_of w d))) third.1 in
+    let same : room_of v b ≡ room_of w d = eqb-true (room_of v b) (room_of w d) (not-false _ fourth.1) in
     record {
-      source = right-length v a first.0;
+      source = right_length v a first.0;
       window = second.0;
-      target = right-length w c third.0;
-      target-window = fourth.0;
+      target = right_length w c third.0;
+      target_window = fourth.0;
       rooms = same;
-      whole = window-whole v b second.0;
-      target-whole = rw same (window-whole w d fourth.0);
-      few = room-few v b second.0;
+      whole = window_whole v b second.0;
+      target_whole = rw same (window_whole w d fourth.0);
+      few = room_few v b second.0;
     }
 
-pub none-wrong : (v w a b c d : ℕ) → a ≡ recordLength v → badWindowLength v b ≡ false → c ≡ recordLength w
-    → badWindowLength w d ≡ false → roomOf v b ≡ roomOf w d → badMoveLengths v w a b c d ≡ false
-unfolding badMoveLengths badRecordLength
-none-wrong v w a b c d source window target target-window rooms =
+pub none_wrong : (v w a b c d : ℕ) → a ≡ record_length v → bad_window_length v b ≡ false → c ≡ record_length w
+    → bad_window_length w d ≡ false → room_of v b ≡ room_of w d → bad_move_lengths v w a b c d ≡ false
+unfolding bad_move_lengths bad_record_length
+none_wrong v w a b c d source window target target_window rooms =
     rw (
-      eq-eqb a (recordLength v) source,
+      eq-eqb a (record_length v) source,
       window,
-      eq-eqb c (recordLength w) target,
-      target-window,
-      eq-eqb (roomOf v b) (roomOf w d) rooms,
+      eq-eqb c (record_length w) target,
+      target_window,
+      eq-eqb (room_of v b) (room_of w d) rooms,
     )

@@ -2,10 +2,10 @@
 use Rattle.std.specs.Prelude.{ℕ, ◌+◌, ◌*◌, List, [], ◌∷◌}
 use Rattle.call_move.specs.Parts.{Part, plain, counts}
 
-unfoldable pub partLength : (w : ℕ) (part : Part) → ℕ
-partLength w (plain n) = n
-partLength w (counts n) = n * w
+unfoldable pub part_length : (w : ℕ) (part : Part) → ℕ
+part_length w (plain n) = n
+part_length w (counts n) = n * w
 
 unfoldable pub length_of : (w : ℕ) (parts : List Part) → ℕ
 length_of w [] = 0
-length_of w (p ∷ ps) = partLength w p + length_of w ps
+length_of w (p ∷ ps) = part_length w p + length_of w ps

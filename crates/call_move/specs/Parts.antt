@@ -9,22 +9,22 @@ pub data Part : Type 0 where
   counts : (n : ℕ) → Part
 
 -- The parts of so many things of one kind, one after the other.
-unfoldable pub manyOf : (n : ℕ) (ps : List Part) → List Part
-manyOf zero ps = []
-manyOf (suc n) ps = ps ++ manyOf n ps
+unfoldable pub many_of : (n : ℕ) (ps : List Part) → List Part
+many_of zero ps = []
+many_of (suc n) ps = ps ++ many_of n ps
 
 -- A pending event: its mask and seven bytes, its clock, its labels.
-abbrev pub eventParts : List Part
-eventParts = plain 8 ∷ counts 8 ∷ plain 8 ∷ []
+abbrev pub event_parts : List Part
+event_parts = plain 8 ∷ counts 8 ∷ plain 8 ∷ []
 
 -- A record: its first eight bytes, the taken counts, each process's last clock, the table, 32 pending events.
-abbrev pub recordParts : List Part
-recordParts = plain 8 ∷ counts 8 ∷ counts 64 ∷ plain 192 ∷ manyOf 32 eventParts
+abbrev pub record_parts : List Part
+record_parts = plain 8 ∷ counts 8 ∷ counts 64 ∷ plain 192 ∷ many_of 32 event_parts
 
 -- A frontier: its counts; its labels, masks and values.
-abbrev pub frontierParts : List Part
-frontierParts = counts 8 ∷ plain 24 ∷ []
+abbrev pub frontier_parts : List Part
+frontier_parts = counts 8 ∷ plain 24 ∷ []
 
 -- A window that has room for so many frontiers.
-abbrev pub windowParts : (n : ℕ) → List Part
-windowParts n = manyOf n frontierParts
+abbrev pub window_parts : (n : ℕ) → List Part
+window_parts n = many_of n frontier_parts

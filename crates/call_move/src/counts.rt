@@ -2,19 +2,19 @@
 
 ghost use Rattle.std.specs.Prelude.{◌+◌, ◌*◌, ◌≤◌, ◌≡◌, false, length, drop};
 ghost use Rattle.std.proofs.lemmas.List.Edits.{sets};
-ghost use Rattle.clocks.specs.Bounded.{anyBelow};
+ghost use Rattle.clocks.specs.Bounded.{any_below};
 ghost use Rattle.clocks.specs.Counts.{at};
 ghost use Rattle.frontiers.specs.Width.{Width};
-ghost use Rattle.frontiers.specs.Bytes.{countBytes};
-ghost use Rattle.call_move.specs.Move.{countsFrom, tooLarge};
-ghost use Rattle.call_move.specs.MoveCode.{anyTooLarge};
+ghost use Rattle.frontiers.specs.Bytes.{count_bytes};
+ghost use Rattle.call_move.specs.Move.{counts_from, too_large};
+ghost use Rattle.call_move.specs.MoveCode.{any_too_large};
 
 use frontiers::counts::{read_counts, write_counts};
 
 // A count is too large for w bytes.
 fn too_large(c: u32, w: usize) -> bool
     requires { Width w }
-    ensures { result ≡ tooLarge w c }
+    ensures { result ≡ too_large w c }
 {
     if w == 2 { 65535 < c } else { false }
 }
@@ -22,7 +22,7 @@ fn too_large(c: u32, w: usize) -> bool
 // One of eight counts is too large for w bytes. All are looked at, without a branch.
 fn one_too_large(counts: [u32; 8], w: usize) -> bool
     requires { Width w }
-    ensures { result ≡ anyBelow 8 (λ i. tooLarge w (at counts i)) }
+    ensures { result ≡ any_below 8 (λ i. too_large w (at counts i)) }
 {
     let mut some = false;
     let mut i = 0;
@@ -38,7 +38,7 @@ pub fn any_too_large(s: &[u8], place: usize, v: usize, n: usize, w: usize) -> bo
     requires width { Width v }
     requires width_2 { Width w }
     requires v_in_bounds { place + n * (8 * v) ≤ length s.now }
-    ensures { result ≡ anyTooLarge v w (8 * n) (drop place s.now) }
+    ensures { result ≡ any_too_large v w (8 * n) (drop place s.now) }
 {
     let mut some = false;
     let mut next = place;
@@ -58,9 +58,9 @@ fn move_eight(s: &[u8], from: usize, v: usize, target: &mut [u8], to: usize, w: 
     requires width_2 { Width w }
     requires v_in_bounds { from + 8 * v ≤ length s.now }
     requires w_in_bounds { to + 8 * w ≤ length target.old }
-    requires s_value { anyTooLarge v w 8 (drop from s.now) ≡ false }
+    requires s_value { any_too_large v w 8 (drop from s.now) ≡ false }
     ensures { target.new
-        ≡ sets target.old to (countBytes w (countsFrom v 8 (drop from s.now))) }
+        ≡ sets target.old to (count_bytes w (counts_from v 8 (drop from s.now))) }
 {
     let counts = read_counts(s, from, v);
     write_counts(&mut target[to..], w, counts);
@@ -80,9 +80,9 @@ pub fn move_counts(
     requires width_2 { Width w }
     requires v_in_bounds { from + n * (8 * v) ≤ length s.now }
     requires w_in_bounds { to + n * (8 * w) ≤ length target.old }
-    requires s_value { anyTooLarge v w (8 * n) (drop from s.now) ≡ false }
+    requires s_value { any_too_large v w (8 * n) (drop from s.now) ≡ false }
     ensures { target.new
-        ≡ sets target.old to (countBytes w (countsFrom v (8 * n) (drop from s.now))) }
+        ≡ sets target.old to (count_bytes w (counts_from v (8 * n) (drop from s.now))) }
 {
     let mut next = from;
     let mut free = to;

@@ -8,7 +8,7 @@ pub mod window_parts;
 
 ghost use Rattle.std.specs.Prelude.{◌≡◌};
 ghost use Rattle.frontiers.specs.Width.{Width};
-ghost use Rattle.call_move.specs.Move.{moveCall};
+ghost use Rattle.call_move.specs.Move.{move_call};
 
 use crate::record_parts::move_record;
 use crate::refused::move_fault;
@@ -26,11 +26,11 @@ pub fn move_watch(
 ) -> u64
     requires width { Width v }
     requires width_2 { Width w }
-    ensures reply { result ≡ (moveCall v w «record».now window.now
+    ensures reply { result ≡ (move_call v w «record».now window.now
         target.old target_window.old).number }
-    ensures bytes { target.new ≡ (moveCall v w «record».now window.now
+    ensures bytes { target.new ≡ (move_call v w «record».now window.now
         target.old target_window.old).bytes }
-    ensures window { target_window.new ≡ (moveCall v w «record».now window.now
+    ensures window { target_window.new ≡ (move_call v w «record».now window.now
         target.old target_window.old).window }
 {
     let fault = move_fault(v, w, record, window, target.len(), target_window.len());

@@ -3,10 +3,10 @@
 ghost use Rattle.std.specs.Prelude.{◌+◌, ◌≤◌, ◌≡◌, false, length, drop};
 ghost use Rattle.std.proofs.lemmas.List.Edits.{sets};
 ghost use Rattle.frontiers.specs.Width.{Width};
-ghost use Rattle.records.specs.Record.{recordLength, eventLength};
-ghost use Rattle.call_move.specs.Parts.{eventParts, recordParts};
-ghost use Rattle.call_move.specs.Move.{moved, someTooLarge};
-ghost use Rattle.call_move.specs.MoveCode.{frontParts};
+ghost use Rattle.records.specs.Record.{record_length, event_length};
+ghost use Rattle.call_move.specs.Parts.{event_parts, record_parts};
+ghost use Rattle.call_move.specs.Move.{moved, some_too_large};
+ghost use Rattle.call_move.specs.MoveCode.{front_parts};
 
 use crate::bytes::copy_eights;
 use crate::counts::{any_too_large, move_counts};
@@ -17,8 +17,8 @@ use records::fields::{pending_place, table_place};
 pub fn record_too_large(record: &[u8], v: usize, w: usize) -> bool
     requires width { Width v }
     requires width_2 { Width w }
-    requires record_len { length «record».now ≡ recordLength v }
-    ensures { result ≡ someTooLarge v w recordParts «record».now }
+    requires record_len { length «record».now ≡ record_length v }
+    ensures { result ≡ some_too_large v w record_parts «record».now }
 {
     let taken = any_too_large(record, 8, v, 1, w);
     let mut some = any_too_large(record, 8 + 8 * v, v, 8, w) | taken;
@@ -35,11 +35,11 @@ pub fn record_too_large(record: &[u8], v: usize, w: usize) -> bool
 fn move_front(record: &[u8], v: usize, target: &mut [u8], w: usize)
     requires width { Width v }
     requires width_2 { Width w }
-    requires record_len { length «record».now ≡ recordLength v }
-    requires target_len { length target.old ≡ recordLength w }
-    requires record_value { someTooLarge v w frontParts «record».now ≡ false }
+    requires record_len { length «record».now ≡ record_length v }
+    requires target_len { length target.old ≡ record_length w }
+    requires record_value { some_too_large v w front_parts «record».now ≡ false }
     ensures { target.new
-        ≡ sets target.old 0 (moved v w frontParts «record».now) }
+        ≡ sets target.old 0 (moved v w front_parts «record».now) }
 {
     copy_eights(record, 0, 1, target, 0);
     move_counts(record, 8, v, 1, target, 8, w);
@@ -51,11 +51,11 @@ fn move_front(record: &[u8], v: usize, target: &mut [u8], w: usize)
 fn move_event(record: &[u8], from: usize, v: usize, target: &mut [u8], to: usize, w: usize)
     requires width { Width v }
     requires width_2 { Width w }
-    requires v_in_bounds { from + eventLength v ≤ length «record».now }
-    requires w_in_bounds { to + eventLength w ≤ length target.old }
-    requires record_value { someTooLarge v w eventParts (drop from «record».now) ≡ false }
+    requires v_in_bounds { from + event_length v ≤ length «record».now }
+    requires w_in_bounds { to + event_length w ≤ length target.old }
+    requires record_value { some_too_large v w event_parts (drop from «record».now) ≡ false }
     ensures { target.new
-        ≡ sets target.old to (moved v w eventParts (drop from «record».now)) }
+        ≡ sets target.old to (moved v w event_parts (drop from «record».now)) }
 {
     copy_eights(record, from, 1, target, to);
     move_counts(record, from + 8, v, 1, target, to + 8, w);
@@ -66,10 +66,10 @@ fn move_event(record: &[u8], from: usize, v: usize, target: &mut [u8], to: usize
 pub fn move_record(record: &[u8], v: usize, target: &mut [u8], w: usize)
     requires width { Width v }
     requires width_2 { Width w }
-    requires record_len { length «record».now ≡ recordLength v }
-    requires target_len { length target.old ≡ recordLength w }
-    requires record_value { someTooLarge v w recordParts «record».now ≡ false }
-    ensures { target.new ≡ moved v w recordParts «record».now }
+    requires record_len { length «record».now ≡ record_length v }
+    requires target_len { length target.old ≡ record_length w }
+    requires record_value { some_too_large v w record_parts «record».now ≡ false }
+    ensures { target.new ≡ moved v w record_parts «record».now }
 {
     move_front(record, v, target, w);
     let mut next = 0;

@@ -2,8 +2,8 @@
 
 ghost use Rattle.std.specs.Prelude.{◌≡◌};
 ghost use Rattle.frontiers.specs.Width.{Width};
-ghost use Rattle.call_move.specs.Move.{badMoveLengths};
-ghost use Rattle.call_move.specs.MoveCode.{moveFault};
+ghost use Rattle.call_move.specs.Move.{bad_move_lengths};
+ghost use Rattle.call_move.specs.MoveCode.{move_fault};
 
 use crate::record_parts::record_too_large;
 use crate::window_parts::window_too_large;
@@ -21,7 +21,7 @@ fn bad_lengths(
 ) -> bool
     requires width { Width v }
     requires width_2 { Width w }
-    ensures { result ≡ badMoveLengths v w record_len window_len target_len target_window_len }
+    ensures { result ≡ bad_move_lengths v w record_len window_len target_len target_window_len }
 {
     if bad_record_length(v, record_len) {
         return true;
@@ -50,7 +50,7 @@ pub fn move_fault(
     requires width { Width v }
     requires width_2 { Width w }
     ensures { result
-        ≡ moveFault v w «record».now window.now target_len target_window_len }
+        ≡ move_fault v w «record».now window.now target_len target_window_len }
 {
     if bad_lengths(
         v,

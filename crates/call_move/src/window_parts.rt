@@ -3,9 +3,9 @@
 ghost use Rattle.std.specs.Prelude.{◌+◌, ◌*◌, ◌≤◌, ◌≡◌, false, length, drop};
 ghost use Rattle.std.proofs.lemmas.List.Edits.{sets};
 ghost use Rattle.frontiers.specs.Width.{Width};
-ghost use Rattle.frontiers.specs.Bytes.{frontierLength};
-ghost use Rattle.call_move.specs.Parts.{frontierParts, windowParts};
-ghost use Rattle.call_move.specs.Move.{moved, someTooLarge};
+ghost use Rattle.frontiers.specs.Bytes.{frontier_length};
+ghost use Rattle.call_move.specs.Parts.{frontier_parts, window_parts};
+ghost use Rattle.call_move.specs.Move.{moved, some_too_large};
 
 use crate::bytes::copy_eights;
 use crate::counts::{any_too_large, move_counts};
@@ -16,8 +16,8 @@ pub fn window_too_large(window: &[u8], n: usize, v: usize, w: usize) -> bool
     requires width { Width v }
     requires width_2 { Width w }
     requires n_bound { n ≤ 1024 }
-    requires v_in_bounds { n * frontierLength v ≤ length window.now }
-    ensures { result ≡ someTooLarge v w (windowParts n) window.now }
+    requires v_in_bounds { n * frontier_length v ≤ length window.now }
+    ensures { result ≡ some_too_large v w (window_parts n) window.now }
 {
     let mut some = false;
     let mut i = 0;
@@ -33,11 +33,11 @@ pub fn window_too_large(window: &[u8], n: usize, v: usize, w: usize) -> bool
 fn move_frontier(window: &[u8], from: usize, v: usize, target: &mut [u8], to: usize, w: usize)
     requires width { Width v }
     requires width_2 { Width w }
-    requires v_in_bounds { from + frontierLength v ≤ length window.now }
-    requires w_in_bounds { to + frontierLength w ≤ length target.old }
-    requires window_value { someTooLarge v w frontierParts (drop from window.now) ≡ false }
+    requires v_in_bounds { from + frontier_length v ≤ length window.now }
+    requires w_in_bounds { to + frontier_length w ≤ length target.old }
+    requires window_value { some_too_large v w frontier_parts (drop from window.now) ≡ false }
     ensures { target.new
-        ≡ sets target.old to (moved v w frontierParts (drop from window.now)) }
+        ≡ sets target.old to (moved v w frontier_parts (drop from window.now)) }
 {
     move_counts(window, from, v, 1, target, to, w);
     copy_eights(window, from + 8 * v, 3, target, to + 8 * w);
@@ -48,11 +48,11 @@ pub fn move_window(window: &[u8], n: usize, v: usize, target: &mut [u8], w: usiz
     requires width { Width v }
     requires width_2 { Width w }
     requires n_bound { n ≤ 1024 }
-    requires v_in_bounds { n * frontierLength v ≤ length window.now }
-    requires w_in_bounds { n * frontierLength w ≤ length target.old }
-    requires window_value { someTooLarge v w (windowParts n) window.now ≡ false }
+    requires v_in_bounds { n * frontier_length v ≤ length window.now }
+    requires w_in_bounds { n * frontier_length w ≤ length target.old }
+    requires window_value { some_too_large v w (window_parts n) window.now ≡ false }
     ensures { target.new
-        ≡ sets target.old 0 (moved v w (windowParts n) window.now) }
+        ≡ sets target.old 0 (moved v w (window_parts n) window.now) }
 {
     let mut i = 0;
     while i < n {

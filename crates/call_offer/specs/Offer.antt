@@ -2,14 +2,14 @@
 -- or it is one of them already, or turned back.
 use Rattle.std.specs.Prelude.{ℕ, suc, ◌+◌, ◌%◌, cond, List, [], ◌∷◌, leb, length}
 use Rattle.clocks.specs.declared.Event.{Event}
-use Rattle.clocks.specs.Key.{key_of, keyBefore}
+use Rattle.clocks.specs.Key.{key_of, key_before}
 use Rattle.clocks.specs.Counts.{at}
-use Rattle.clocks.specs.Refusal.{badMask, badClock, badLabels}
-use Rattle.records.specs.Record.{processCount, pendingCount, closedMask, takenCounts, pendingEvents, inserted}
-use Rattle.refusals.specs.Refusals.{badRecordLength, badState, namesClosed, alreadyTaken, conflicting}
+use Rattle.clocks.specs.Refusal.{bad_mask, bad_clock, bad_labels}
+use Rattle.records.specs.Record.{process_count, pending_count, closed_mask, taken_counts, pending_events, inserted}
+use Rattle.refusals.specs.Refusals.{bad_record_length, bad_state, names_closed, already_taken, conflicting}
 use Rattle.repeats.specs.Repeats.{repeated}
-use Rattle.answers.specs.Answer.{Answer, turnedBack, held, again}
-use Rattle.numbers.specs.Refusal.{clockNumber, conflictNumber, fullNumber, labelsNumber, lengthNumber, maskNumber, namedNumber, stateNumber, takenNumber}
+use Rattle.answers.specs.Answer.{Answer, turned_back, held, again}
+use Rattle.numbers.specs.Refusal.{clock_number, conflict_number, full_number, labels_number, length_number, mask_number, named_number, state_number, taken_number}
 
 -- What a call that is lent the record answers and leaves there.
 pub record Offered : Type 0 where
@@ -17,26 +17,26 @@ pub record Offered : Type 0 where
   pub bytes : List ℕ
 
 -- The place of an event among the pending ones: behind those whose key is before its own.
-unfoldable pub placeAmong : (e : Event) (es : List Event) → ℕ
-placeAmong e [] = 0
-placeAmong e (f ∷ fs) = cond (keyBefore (key_of f) (key_of e)) (suc (placeAmong e fs)) 0
+unfoldable pub place_among : (e : Event) (es : List Event) → ℕ
+place_among e [] = 0
+place_among e (f ∷ fs) = cond (key_before (key_of f) (key_of e)) (suc (place_among e fs)) 0
 
 -- The event that an offer brings: of its mask's word the eight bits that can be set.
-abbrev pub offeredEvent : (mask : ℕ) (clock labels : List ℕ) → Event
-offeredEvent mask clock labels = record { mask = mask % 256; clock = clock; labels = labels }
+abbrev pub offered_event : (mask : ℕ) (clock labels : List ℕ) → Event
+offered_event mask clock labels = record { mask = mask % 256; clock = clock; labels = labels }
 
-unfoldable pub offerCall : (w mask : ℕ) (clock labels s : List ℕ) → Offered
-offerCall w mask clock labels s =
-    let e = offeredEvent mask clock labels in
-    let turned : ℕ → Offered = λ n. record { answer = turnedBack n 0; bytes = s } in
-    cond (badRecordLength w (length s)) (turned lengthNumber)
-    (cond (badState w 1024 s) (turned stateNumber)
-    (cond (badMask (processCount s) mask) (turned maskNumber)
-    (cond (badClock (processCount s) mask clock) (turned clockNumber)
-    (cond (badLabels mask labels) (turned labelsNumber)
-    (cond (namesClosed (closedMask s) e) (turned namedNumber)
-    (cond (alreadyTaken e (at (takenCounts w s))) (turned takenNumber)
-    (cond (repeated e (pendingEvents w s)) (record { answer = again; bytes = s })
-    (cond (conflicting e (pendingEvents w s)) (turned conflictNumber)
-    (cond (leb 32 (pendingCount s)) (turned fullNumber)
-    (record { answer = held (pendingCount s + 1); bytes = inserted w s (placeAmong e (pendingEvents w s)) e }))))))))))
+unfoldable pub offer_call : (w mask : ℕ) (clock labels s : List ℕ) → Offered
+offer_call w mask clock labels s =
+    let e = offered_event mask clock labels in
+    let turned : ℕ → Offered = λ n. record { answer = turned_back n 0; bytes = s } in
+    cond (bad_record_length w (length s)) (turned length_number)
+    (cond (bad_state w 1024 s) (turned state_number)
+    (cond (bad_mask (process_count s) mask) (turned mask_number)
+    (cond (bad_clock (process_count s) mask clock) (turned clock_number)
+    (cond (bad_labels mask labels) (turned labels_number)
+    (cond (names_closed (closed_mask s) e) (turned named_number)
+    (cond (already_taken e (at (taken_counts w s))) (turned taken_number)
+    (cond (repeated e (pending_events w s)) (record { answer = again; bytes = s })
+    (cond (conflicting e (pending_events w s)) (turned conflict_number)
+    (cond (leb 32 (pending_count s)) (turned full_number)
+    (record { answer = held (pending_count s + 1); bytes = inserted w s (place_among e (pending_events w s)) e }))))))))))

@@ -4,10 +4,10 @@
 ghost use Rattle.std.specs.Prelude.{ℕ, ◌≤◌, ◌<◌, ◌^◌, ◌≡◌, cond, length};
 ghost use Rattle.clocks.specs.Counts.{at};
 ghost use Rattle.frontiers.specs.Width.{Width};
-ghost use Rattle.records.specs.Record.{recordLength, pendingCount, pendingEvents};
-ghost use Rattle.call_offer.specs.Offer.{placeAmong, offeredEvent, offerCall};
-ghost use Rattle.answers.specs.Answer.{replyWord};
-ghost use Rattle.call_offer.specs.OfferCode.{unacceptedWord};
+ghost use Rattle.records.specs.Record.{record_length, pending_count, pending_events};
+ghost use Rattle.call_offer.specs.Offer.{place_among, offered_event, offer_call};
+ghost use Rattle.answers.specs.Answer.{reply_word};
+ghost use Rattle.call_offer.specs.OfferCode.{unaccepted_word};
 ghost use Rattle.refusals.specs.Refusals as conditions;
 ghost use Rattle.repeats.specs.Repeats as repeats;
 
@@ -22,7 +22,7 @@ use updates::insert_event;
 
 // The event that an offer brings.
 fn offered_event(mask: u64, clock: [u32; 8], labels: [u8; 8]) -> Event
-    ensures { result ≡ offeredEvent mask clock labels }
+    ensures { result ≡ offered_event mask clock labels }
 {
     Event {
         mask: (mask % 256) as u8,
@@ -34,9 +34,9 @@ fn offered_event(mask: u64, clock: [u32; 8], labels: [u8; 8]) -> Event
 // The place of an event among the pending ones: behind those whose key is before its own.
 pub fn place_among(record: &[u8], w: usize, e: Event) -> usize
     requires width { Width w }
-    requires record_len { length «record».now ≡ recordLength w }
-    requires record_bound { pendingCount «record».now ≤ 32 }
-    ensures { (result ≡ placeAmong e (pendingEvents w «record».now)) × (result ≤ pendingCount «record».now) }
+    requires record_len { length «record».now ≡ record_length w }
+    requires record_bound { pending_count «record».now ≤ 32 }
+    ensures { (result ≡ place_among e (pending_events w «record».now)) × (result ≤ pending_count «record».now) }
 {
     let n = pending_count(record);
     let mut i = 0;
@@ -53,11 +53,11 @@ pub fn place_among(record: &[u8], w: usize, e: Event) -> usize
 // Whether a pending event is the same. Such a one conflicts, so that without a conflict there is none to look for.
 fn sent_again(suspected: bool, record: &[u8], w: usize, e: Event) -> bool
     requires width { Width w }
-    requires record_len { length «record».now ≡ recordLength w }
-    requires record_bound { pendingCount «record».now ≤ 32 }
+    requires record_len { length «record».now ≡ record_length w }
+    requires record_bound { pending_count «record».now ≤ 32 }
     requires mask_nonzero { 0 < e.mask }
-    requires suspected_value { suspected ≡ conditions.conflicting e (pendingEvents w «record».now) }
-    ensures { result ≡ repeats.repeated e (pendingEvents w «record».now) }
+    requires suspected_value { suspected ≡ conditions.conflicting e (pending_events w «record».now) }
+    ensures { result ≡ repeats.repeated e (pending_events w «record».now) }
 {
     if suspected {
         return pending_alike(record, w, e, true);
@@ -98,7 +98,7 @@ fn pending_word(again: bool, conflict: bool, full: bool) -> u64
 // The reply word of an offer that is not accepted, a refusal or again, in their order; 0 for one that is.
 pub fn unaccepted_word(w: usize, mask: u64, clock: [u32; 8], labels: [u8; 8], record: &[u8]) -> u64
     requires { Width w }
-    ensures { result ≡ unacceptedWord w mask clock labels «record».now }
+    ensures { result ≡ unaccepted_word w mask clock labels «record».now }
 {
     if bad_record_length(w, record.len()) {
         return LENGTH;
@@ -127,8 +127,8 @@ pub fn unaccepted_word(w: usize, mask: u64, clock: [u32; 8], labels: [u8; 8], re
 pub fn offer(w: usize, mask: u64, clock: [u32; 8], labels: [u8; 8], record: &mut [u8]) -> u64
     requires width { Width w }
     requires by_index { (p : ℕ) → at clock p < 256 ^ w }
-    ensures reply { result ≡ replyWord (offerCall w mask clock labels «record».old).answer }
-    ensures bytes { «record».new ≡ (offerCall w mask clock labels «record».old).bytes }
+    ensures reply { result ≡ reply_word (offer_call w mask clock labels «record».old).answer }
+    ensures bytes { «record».new ≡ (offer_call w mask clock labels «record».old).bytes }
 {
     let reply = unaccepted_word(w, mask, clock, labels, record);
     if reply != 0 {

@@ -4,11 +4,11 @@
 ghost use Rattle.std.specs.Prelude.{◌*◌, ◌≤◌, ◌≡◌, length};
 ghost use Rattle.pactl.specs.TableBytes.{lines_of};
 ghost use Rattle.frontiers.specs.Width.{Width};
-ghost use Rattle.frontiers.specs.Bytes.{frontierLength, windowBytes};
-ghost use Rattle.records.specs.Record.{recordLength};
-ghost use Rattle.call_open.specs.Open.{firstRecord, openTable, openCall};
-ghost use Rattle.answers.specs.Answer.{replyWord};
-ghost use Rattle.call_open.specs.OpenCode.{zerosJudged, openFault};
+ghost use Rattle.frontiers.specs.Bytes.{frontier_length, window_bytes};
+ghost use Rattle.records.specs.Record.{record_length};
+ghost use Rattle.call_open.specs.Open.{first_record, open_table, open_call};
+ghost use Rattle.answers.specs.Answer.{reply_word};
+ghost use Rattle.call_open.specs.OpenCode.{zeros_judged, open_fault};
 
 use answers::{state_word, turned_word};
 use frontiers::Frontier;
@@ -21,11 +21,11 @@ use rules::RuleRead;
 // Writes the record of a new watch: the number of processes, the table's first lines, one frontier kept.
 pub fn write_record(record: &mut [u8], w: usize, k: u32, table: &[u8], lines: u32)
     requires width { Width w }
-    requires record_len { length «record».old ≡ recordLength w }
+    requires record_len { length «record».old ≡ record_length w }
     requires k_bound { k ≤ 8 }
     requires lines_bound { lines ≤ 64 }
     requires lines_in_bounds { 3 * lines ≤ length table.now }
-    ensures { «record».new ≡ firstRecord w k (lines_of table.now lines) }
+    ensures { «record».new ≡ first_record w k (lines_of table.now lines) }
 {
     let all = record.len();
     let place = table_place(w);
@@ -39,8 +39,8 @@ pub fn write_record(record: &mut [u8], w: usize, k: u32, table: &[u8], lines: u3
 // Writes the window of a new watch: the cut of zeros, with its labels and values.
 pub fn write_window(window: &mut [u8], w: usize, labels: [u8; 8], values: u64)
     requires width { Width w }
-    requires w_in_bounds { frontierLength w ≤ length window.old }
-    ensures { window.new ≡ windowBytes w (length window.old) (zerosJudged labels values) }
+    requires w_in_bounds { frontier_length w ≤ length window.old }
+    ensures { window.new ≡ window_bytes w (length window.old) (zeros_judged labels values) }
 {
     let all = window.len();
     clear(window, 0, all);
@@ -69,14 +69,14 @@ pub fn open_table(
     window: &mut [u8],
 ) -> u64
     requires width { Width w }
-    requires record_len { length «record».old ≡ recordLength w }
-    requires w_in_bounds { frontierLength w ≤ length window.old }
+    requires record_len { length «record».old ≡ record_length w }
+    requires w_in_bounds { frontier_length w ≤ length window.old }
     requires k_bound { k ≤ 8 }
     requires le_lines { (1 ≤ lines) × (lines ≤ 64) }
     requires lines_in_bounds { 3 * lines ≤ length table.now }
-    ensures reply { result ≡ replyWord (openTable w (lines_of table.now lines) k labels (length window.old)).answer }
-    ensures bytes { «record».new ≡ (openTable w (lines_of table.now lines) k labels (length window.old)).bytes }
-    ensures window { window.new ≡ (openTable w (lines_of table.now lines) k labels (length window.old)).window }
+    ensures reply { result ≡ reply_word (open_table w (lines_of table.now lines) k labels (length window.old)).answer }
+    ensures bytes { «record».new ≡ (open_table w (lines_of table.now lines) k labels (length window.old)).bytes }
+    ensures window { window.new ≡ (open_table w (lines_of table.now lines) k labels (length window.old)).window }
 {
     let values = pactl::judging::judge(table, lines, labels, 0, 0, false);
     write_record(record, w, k, table, lines);
@@ -87,7 +87,7 @@ pub fn open_table(
 // The number that an open is turned back with before its text is read; 0 for none.
 pub fn open_fault(w: usize, k: u64, labels: [u8; 8], n: usize, m: usize) -> u64
     requires { Width w }
-    ensures { result ≡ openFault w k labels n m }
+    ensures { result ≡ open_fault w k labels n m }
 {
     if bad_record_length(w, n) {
         return LENGTH;
@@ -114,9 +114,9 @@ pub fn open(
     window: &mut [u8],
 ) -> u64
     requires { Width w }
-    ensures reply { result ≡ replyWord (openCall w rule.now k labels «record».old window.old).answer }
-    ensures bytes { «record».new ≡ (openCall w rule.now k labels «record».old window.old).bytes }
-    ensures window { window.new ≡ (openCall w rule.now k labels «record».old window.old).window }
+    ensures reply { result ≡ reply_word (open_call w rule.now k labels «record».old window.old).answer }
+    ensures bytes { «record».new ≡ (open_call w rule.now k labels «record».old window.old).bytes }
+    ensures window { window.new ≡ (open_call w rule.now k labels «record».old window.old).window }
 {
     let fault = open_fault(w, k, labels, record.len(), window.len());
     if fault != 0 {

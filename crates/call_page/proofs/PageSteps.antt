@@ -14,15 +14,15 @@ use Rattle.codec.specs.Bit.{bit}
 use Rattle.codec.specs.Little.{Bytes}
 use Rattle.codec.specs.SetsLaws.{sets-append}
 use Rattle.clocks.specs.Counts.{list_of}
-use Rattle.frontiers.specs.Bytes.{frontierAt, frontiers}
-use Rattle.records.specs.Record.{processCount, lineTotal, keptCount}
-use Rattle.refusals.specs.Refusals.{badRecordLength, badWindowLength, roomOf, badState}
-use Rattle.refusals.specs.RefusalCode.{watchFault}
-use Rattle.refusals.specs.FaultLaws.{Good, fault-first, fault-passed, tests-good}
-use Rattle.answers.specs.Result.{resultWord}
-use Rattle.answers.specs.Turns.{chosen_by, passed as passed-turn, end, turn}
-use Rattle.call_page.specs.Page.{row, rows, shortPage, Paged, pageTurnedBack, pageWritten, pageCall}
-use Rattle.call_page.specs.PageCode.{pageFault}
+use Rattle.frontiers.specs.Bytes.{frontier_at, frontiers}
+use Rattle.records.specs.Record.{process_count, line_total, kept_count}
+use Rattle.refusals.specs.Refusals.{bad_record_length, bad_window_length, room_of, bad_state}
+use Rattle.refusals.specs.RefusalCode.{watch_fault}
+use Rattle.refusals.specs.FaultLaws.{Good, fault_first, fault_passed, tests_good}
+use Rattle.answers.specs.Result.{result_word}
+use Rattle.answers.specs.Turns.{chosen_by, passed as passed_turn, end, turn}
+use Rattle.call_page.specs.Page.{row, rows, short_page, Paged, page_turned_back, page_written, page_call}
+use Rattle.call_page.specs.PageCode.{page_fault}
 use Rattle.call_page.specs.RowLaws.{row_at, rows_more, length-rows}
 
 -- ---- The number
@@ -30,24 +30,24 @@ use Rattle.call_page.specs.RowLaws.{row_at, rows_more, length-rows}
 module _ (w : ℕ) (s window : List ℕ) (n : ℕ) where
   -- What a page asks for behind 6 and 34.
   abbrev last : ℕ
-  last = cond (shortPage (keptCount s) n) 44 0
+  last = cond (short_page (kept_count s) n) 44 0
 
-  pub page-faulted : (fault : ℕ) → fault ≡ watchFault w s (length window) → (fault ≡ 0 → ⊥)
-      → fault ≡ pageFault w s window n
-  unfolding pageFault
-  page-faulted fault e some = e ∙ fault-first w s (length window) last (λ z. some (e ∙ z))
+  pub page_faulted : (fault : ℕ) → fault ≡ watch_fault w s (length window) → (fault ≡ 0 → ⊥)
+      → fault ≡ page_fault w s window n
+  unfolding page_fault
+  page_faulted fault e some = e ∙ fault_first w s (length window) last (λ z. some (e ∙ z))
 
-  passed : watchFault w s (length window) ≡ 0 → pageFault w s window n ≡ last
-  unfolding pageFault
-  passed none = fault-passed w s (length window) last none
+  passed : watch_fault w s (length window) ≡ 0 → page_fault w s window n ≡ last
+  unfolding page_fault
+  passed none = fault_passed w s (length window) last none
 
-  pub page-short : watchFault w s (length window) ≡ 0 → n < 93 * keptCount s → 44 ≡ pageFault w s window n
-  unfolding shortPage
-  page-short none short = sym (passed none ∙ rw (lt-ltb n (93 * keptCount s) short))
+  pub page_short : watch_fault w s (length window) ≡ 0 → n < 93 * kept_count s → 44 ≡ page_fault w s window n
+  unfolding short_page
+  page_short none short = sym (passed none ∙ rw (lt-ltb n (93 * kept_count s) short))
 
-  pub page-passed : watchFault w s (length window) ≡ 0 → 93 * keptCount s ≤ n → 0 ≡ pageFault w s window n
-  unfolding shortPage
-  page-passed none enough = sym (passed none ∙ rw (le-ltb n (93 * keptCount s) enough))
+  pub page_passed : watch_fault w s (length window) ≡ 0 → 93 * kept_count s ≤ n → 0 ≡ page_fault w s window n
+  unfolding short_page
+  page_passed none enough = sym (passed none ∙ rw (le-ltb n (93 * kept_count s) enough))
 
 -- ---- The rows
 
@@ -58,8 +58,8 @@ no_row page w s k line = refl
 module _ (page₀ : List ℕ) (w : ℕ) (s : List ℕ) (b : Bytes s) (narrow : w ≤ 4) (k line : ℕ) where
   -- One row more, where its counts and the rule's truth are read.
   pub next_row : (i : ℕ) (page page' counts : List ℕ) (values : ℕ) (holds : Bool)
-      → page ≡ sets page₀ 0 (rows k line (frontiers w s i)) → counts ≡ (frontierAt w s i).counts
-      → values ≡ (frontierAt w s i).values → holds ≡ bit values line → page' ≡ sets page (93 * i) (row k counts holds)
+      → page ≡ sets page₀ 0 (rows k line (frontiers w s i)) → counts ≡ (frontier_at w s i).counts
+      → values ≡ (frontier_at w s i).values → holds ≡ bit values line → page' ≡ sets page (93 * i) (row k counts holds)
       → page' ≡ sets page₀ 0 (rows k line (frontiers w s (i + 1)))
   next_row i page page' counts values holds e c v h q =
       let before : List ℕ = rows k line (frontiers w s i) in
@@ -75,53 +75,53 @@ module _ (page₀ : List ℕ) (w : ℕ) (s : List ℕ) (b : Bytes s) (narrow : w
 
 module _ (w : ℕ) (s window page : List ℕ) where
   abbrev fault : ℕ
-  fault = pageFault w s window (length page)
+  fault = page_fault w s window (length page)
 
   abbrev text : List ℕ
-  text = rows (processCount s) (lineTotal s - 1) (frontiers w window (keptCount s))
+  text = rows (process_count s) (line_total s - 1) (frontiers w window (kept_count s))
 
   abbrev turned : ℕ → Paged
-  turned n = pageTurnedBack page n
+  turned n = page_turned_back page n
 
   abbrev whole : Paged
-  whole = pageWritten s (frontiers w window (keptCount s)) page
+  whole = page_written s (frontiers w window (kept_count s)) page
 
-  page-by : pageCall w s window page ≡ cond (eqb fault 0) whole (turned fault)
-  unfolding pageCall pageFault
-  page-by =
+  page_by : page_call w s window page ≡ cond (eqb fault 0) whole (turned fault)
+  unfolding page_call page_fault
+  page_by =
       chosen_by
-      (turn (badRecordLength w (length s) || badWindowLength w (length window)) 6
-      (turn (badState w (roomOf w (length window)) s) 34
-      (turn (shortPage (keptCount s) (length page)) 44 end)))
+      (turn (bad_record_length w (length s) || bad_window_length w (length window)) 6
+      (turn (bad_state w (room_of w (length window)) s) 34
+      (turn (short_page (kept_count s) (length page)) 44 end)))
       turned whole (lit< tt, (lit< tt, (lit< tt, tt)))
 
-  pub page-turned : (n : ℕ) → n ≡ fault → (n ≡ 0 → ⊥)
-      → (n ≡ resultWord (pageCall w s window page).answer) × (page ≡ (pageCall w s window page).page)
-  unfolding resultWord
-  page-turned n e h =
-      let back : pageCall w s window page ≡ turned n = page-by ∙ rw (← e, ne_eqb n 0 h) in
+  pub page_turned : (n : ℕ) → n ≡ fault → (n ≡ 0 → ⊥)
+      → (n ≡ result_word (page_call w s window page).answer) × (page ≡ (page_call w s window page).page)
+  unfolding result_word
+  page_turned n e h =
+      let back : page_call w s window page ≡ turned n = page_by ∙ rw (← e, ne_eqb n 0 h) in
       (rw back, rw back)
 
   -- Where nothing turns it back: record and window are good, and the page is long enough.
-  pub page-good : fault ≡ 0 → Good w s (length window) × (93 * keptCount s ≤ length page)
-  unfolding pageFault shortPage
-  page-good h =
-      let wrong = passed-turn (badRecordLength w (length s) || badWindowLength w (length window)) 6 _ (lit< tt) h in
-      let state = passed-turn (badState w (roomOf w (length window)) s) 34 _ (lit< tt) wrong.1 in
-      let short = passed-turn (shortPage (keptCount s) (length page)) 44 0 (lit< tt) state.1 in (
-        tests-good w s (length window) wrong.0 state.0,
-        ltb-false (length page) (93 * keptCount s) short.0,
+  pub page_good : fault ≡ 0 → Good w s (length window) × (93 * kept_count s ≤ length page)
+  unfolding page_fault short_page
+  page_good h =
+      let wrong = passed_turn (bad_record_length w (length s) || bad_window_length w (length window)) 6 _ (lit< tt) h in
+      let state = passed_turn (bad_state w (room_of w (length window)) s) 34 _ (lit< tt) wrong.1 in
+      let short = passed_turn (short_page (kept_count s) (length page)) 44 0 (lit< tt) state.1 in (
+        tests_good w s (length window) wrong.0 state.0,
+        ltb-false (length page) (93 * kept_count s) short.0,
       )
 
-  pub page-written : fault ≡ 0 → Bytes window → w ≤ 4 → (page' : List ℕ) → page' ≡ sets page 0 text
-      → (65536 * keptCount s ≡ resultWord (pageCall w s window page).answer)
-      × (page' ≡ (pageCall w s window page).page)
-  unfolding resultWord
-  page-written h b narrow page' e =
-      let done : pageCall w s window page ≡ whole = page-by ∙ rw (eq-eqb fault 0 h) in
-      let long : length text ≡ 93 * keptCount s =
-      length-rows w window b narrow (processCount s) (lineTotal s - 1) (keptCount s) in
-      let enough = (page-good h).1 in
-      let laid : sets page 0 text ≡ text ++ drop (93 * keptCount s) page =
+  pub page_written_lem : fault ≡ 0 → Bytes window → w ≤ 4 → (page' : List ℕ) → page' ≡ sets page 0 text
+      → (65536 * kept_count s ≡ result_word (page_call w s window page).answer)
+      × (page' ≡ (page_call w s window page).page)
+  unfolding result_word
+  page_written_lem h b narrow page' e =
+      let done : page_call w s window page ≡ whole = page_by ∙ rw (eq-eqb fault 0 h) in
+      let long : length text ≡ 93 * kept_count s =
+      length-rows w window b narrow (process_count s) (line_total s - 1) (kept_count s) in
+      let enough = (page_good h).1 in
+      let laid : sets page 0 text ≡ text ++ drop (93 * kept_count s) page =
       sets-eq text page 0 (omega arith) ∙ rw (zero-add (length text), long) in
       (rw done, rw done (e ∙ laid))

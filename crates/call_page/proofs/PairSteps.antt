@@ -24,12 +24,12 @@ all n pairs h L = record {
   ones = λ m l. L.ones m (omega arith);
 }
 
-pub pairs-more : (n : ℕ) (pairs : List ℕ) → n < 100 → LaidBelow n pairs
+pub pairs_more : (n : ℕ) (pairs : List ℕ) → n < 100 → LaidBelow n pairs
     → LaidBelow (n + 1) (set (set pairs (2 * n) (48 + n / 10)) (2 * n + 1) (48 + n % 10))
-pairs-more n pairs h L = record {
+pairs_more n pairs h L = record {
   long = length-set first (2 * n + 1) (48 + n % 10) ∙ long;
-  tens = λ m l. go-tens m (dec_lt m n) l;
-  ones = λ m l. go-ones m (dec_lt m n) l;
+  tens = λ m l. go_tens m (dec_lt m n) l;
+  ones = λ m l. go_ones m (dec_lt m n) l;
 }
   where
     first : List ℕ
@@ -41,21 +41,21 @@ pairs-more n pairs h L = record {
     long : length first ≡ 200
     long = length-set pairs (2 * n) (48 + n / 10) ∙ L.long
 
-    go-tens : (m : ℕ) → Dec (m < n) → m < n + 1 → get_or both (2 * m) 0 ≡ 48 + m / 10
-    go-tens m (yes b) l =
+    go_tens : (m : ℕ) → Dec (m < n) → m < n + 1 → get_or both (2 * m) 0 ≡ 48 + m / 10
+    go_tens m (yes b) l =
         get_or-set_other first (2 * n + 1) (2 * m) (48 + n % 10) 0 (omega arith)
         ∙ get_or-set_other pairs (2 * n) (2 * m) (48 + n / 10) 0 (omega arith)
         ∙ L.tens m b
-    go-tens m (no b) l =
+    go_tens m (no b) l =
         let e : m ≡ n = omega arith in
         rw e (get_or-set_other first (2 * n + 1) (2 * n) (48 + n % 10) 0 (omega arith)
         ∙ get_or-set_same pairs (2 * n) (48 + n / 10) 0 (omega (arith, L.long)))
 
-    go-ones : (m : ℕ) → Dec (m < n) → m < n + 1 → get_or both (2 * m + 1) 0 ≡ 48 + m % 10
-    go-ones m (yes b) l =
+    go_ones : (m : ℕ) → Dec (m < n) → m < n + 1 → get_or both (2 * m + 1) 0 ≡ 48 + m % 10
+    go_ones m (yes b) l =
         get_or-set_other first (2 * n + 1) (2 * m + 1) (48 + n % 10) 0 (omega arith)
         ∙ get_or-set_other pairs (2 * n) (2 * m + 1) (48 + n / 10) 0 (omega arith)
         ∙ L.ones m b
-    go-ones m (no b) l =
+    go_ones m (no b) l =
         let e : m ≡ n = omega arith in
         rw e (get_or-set_same first (2 * n + 1) (48 + n % 10) 0 (omega (arith, long)))

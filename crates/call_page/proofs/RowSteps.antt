@@ -19,15 +19,15 @@ use Rattle.call_page.specs.RowLaws.{length-columns}
 
 -- ---- The ending
 
-pub ending-yes : (page₀ page : List ℕ) (place : ℕ) (holds : Bool) → holds ≡ true
+pub ending_yes : (page₀ page : List ℕ) (place : ℕ) (holds : Bool) → holds ≡ true
     → page ≡ sets page₀ place (ascii " yes" ++ (10 ∷ [])) → page ≡ sets page₀ place (ending holds)
 unfolding ending word
-ending-yes page₀ page place holds h e = rw h e
+ending_yes page₀ page place holds h e = rw h e
 
-pub ending-no : (page₀ page : List ℕ) (place : ℕ) (holds : Bool) → holds ≡ false
+pub ending_no : (page₀ page : List ℕ) (place : ℕ) (holds : Bool) → holds ≡ false
     → page ≡ sets page₀ place (ascii " no " ++ (10 ∷ [])) → page ≡ sets page₀ place (ending holds)
 unfolding ending word
-ending-no page₀ page place holds h e = rw h e
+ending_no page₀ page place holds h e = rw h e
 
 -- ---- The columns
 
@@ -36,45 +36,45 @@ behind : (page₀ : List ℕ) (place : ℕ) (xs : List ℕ) (b : ℕ) (ys : List
     → sets (sets page₀ place xs) b ys ≡ sets page₀ place (xs ++ ys)
 behind page₀ place xs b ys e = rw e (sets-append page₀ place xs ys)
 
-pub no-columns : (page : List ℕ) (place k : ℕ) (counts : List ℕ) → page ≡ sets page place (columns k counts 0)
+pub no_columns : (page : List ℕ) (place k : ℕ) (counts : List ℕ) → page ≡ sets page place (columns k counts 0)
 unfolding columns
-no-columns page place k counts = refl
+no_columns page place k counts = refl
 
 module _ (page₀ : List ℕ) (place k : ℕ) (counts : List ℕ) (ten : TenDigits counts) where
-  pub next-column : (p : ℕ) → p < k
+  pub next_column : (p : ℕ) → p < k
       → sets (sets page₀ place (columns k counts p)) (place + 11 * p) (aligned 11 (numeral (at counts p)))
       ≡ sets page₀ place (columns k counts (p + 1))
   unfolding columns column
-  next-column p l =
+  next_column p l =
       let there : place + 11 * p ≡ place + length (columns k counts p) = omega (arith, length-columns k counts p ten) in
       behind page₀ place (columns k counts p) (place + 11 * p) (aligned 11 (numeral (at counts p))) there
       ∙ rw (add-one p, lt-ltb p k l)
 
 -- From process k on all is blank.
-blank-columns : (k : ℕ) (counts : List ℕ) (m : ℕ)
+blank_columns : (k : ℕ) (counts : List ℕ) (m : ℕ)
     → columns k counts (k + m) ≡ columns k counts k ++ replicate (11 * m) 32
 unfolding columns column aligned
-blank-columns k counts zero = rw add-zero (sym (append-nil (columns k counts k)))
-blank-columns k counts (suc m) =
+blank_columns k counts zero = rw add-zero (sym (append-nil (columns k counts k)))
+blank_columns k counts (suc m) =
     let more : 11 * suc m ≡ 11 * m + 11 = omega arith in
     rw (add-suc k m, le-ltb (k + m) k (omega arith), more, ← replicate-append-replicate {A = ℕ} (11 * m) 11 32)
-    (ap (λ (s : List ℕ). s ++ replicate 11 32) (blank-columns k counts m)
+    (ap (λ (s : List ℕ). s ++ replicate 11 32) (blank_columns k counts m)
     ∙ append_assoc (columns k counts k) (replicate (11 * m) 32) (replicate 11 32))
 
 all-columns : (k : ℕ) (counts : List ℕ) → k ≤ 8
     → columns k counts k ++ replicate (11 * (8 - k)) 32 ≡ columns k counts 8
 all-columns k counts few =
     let all : k + (8 - k) ≡ 8 = omega arith in
-    sym (blank-columns k counts (8 - k)) ∙ ap (columns k counts) all
+    sym (blank_columns k counts (8 - k)) ∙ ap (columns k counts) all
 
 -- ---- The whole row
 
-pub row-stands : (page₀ : List ℕ) (place k : ℕ) (counts : List ℕ) (holds : Bool) → TenDigits counts → k ≤ 8
+pub row_stands : (page₀ : List ℕ) (place k : ℕ) (counts : List ℕ) (holds : Bool) → TenDigits counts → k ≤ 8
     → (b page₁ : List ℕ) → page₁ ≡ sets page₀ place (columns k counts k)
     → b ≡ sets page₁ (place + 11 * k) (replicate (11 * (8 - k)) 32)
     → sets b (place + 88) (ending holds) ≡ sets page₀ place (row k counts holds)
 unfolding row
-row-stands page₀ place k counts holds ten few b page₁ e f =
+row_stands page₀ place k counts holds ten few b page₁ e f =
     let blanks : List ℕ = replicate (11 * (8 - k)) 32 in
     let there : place + 11 * k ≡ place + length (columns k counts k) = omega (arith, length-columns k counts k ten) in
     let eight : b ≡ sets page₀ place (columns k counts 8) =

@@ -6,16 +6,16 @@ use Rattle.codec.specs.Decimal.{numeral}
 use Rattle.clocks.specs.Counts.{at}
 use Rattle.frontiers.specs.declared.Frontier.{Frontier}
 use Rattle.frontiers.specs.Bytes.{frontiers}
-use Rattle.records.specs.Record.{processCount, lineTotal, keptCount}
-use Rattle.refusals.specs.Refusals.{badRecordLength, badWindowLength, roomOf, badState}
-use Rattle.numbers.specs.Refusal.{lengthNumber, stateNumber, shortPageNumber}
+use Rattle.records.specs.Record.{process_count, line_total, kept_count}
+use Rattle.refusals.specs.Refusals.{bad_record_length, bad_window_length, room_of, bad_state}
+use Rattle.numbers.specs.Refusal.{length_number, state_number, short_page_number}
 use Rattle.answers.specs.Result.{Result, refused, gives}
 
 -- ---- A row
 
 -- The bytes of a row, with its line feed.
-abbrev pub rowLength : ℕ
-rowLength = 93
+abbrev pub row_length : ℕ
+row_length = 93
 
 -- A text at the right of so many characters, blanks before it.
 unfoldable pub aligned : (width : ℕ) (text : List ℕ) → List ℕ
@@ -50,8 +50,8 @@ rows k line (f ∷ fs) = row k f.counts (bit f.values line) ++ rows k line fs
 -- ---- The call
 
 -- 44: a page of n bytes is too short for all rows.
-unfoldable pub shortPage : (kept n : ℕ) → Bool
-shortPage kept n = ltb n (rowLength * kept)
+unfoldable pub short_page : (kept n : ℕ) → Bool
+short_page kept n = ltb n (row_length * kept)
 
 -- What the call answers, and leaves in the page. Record and window stay as they are.
 pub record Paged : Type 0 where
@@ -59,18 +59,18 @@ pub record Paged : Type 0 where
   pub page : List ℕ
 
 -- Turned back by a number; and with the rows of these frontiers, what stood behind them.
-abbrev pub pageTurnedBack : (page : List ℕ) (n : ℕ) → Paged
-pageTurnedBack page n = record { answer = refused n; page = page }
+abbrev pub page_turned_back : (page : List ℕ) (n : ℕ) → Paged
+page_turned_back page n = record { answer = refused n; page = page }
 
-abbrev pub pageWritten : (s : List ℕ) (fs : List Frontier) (page : List ℕ) → Paged
-pageWritten s fs page = record {
-  answer = gives (keptCount s);
-  page = rows (processCount s) (lineTotal s - 1) fs ++ drop (rowLength * keptCount s) page;
+abbrev pub page_written : (s : List ℕ) (fs : List Frontier) (page : List ℕ) → Paged
+page_written s fs page = record {
+  answer = gives (kept_count s);
+  page = rows (process_count s) (line_total s - 1) fs ++ drop (row_length * kept_count s) page;
 }
 
-unfoldable pub pageCall : (w : ℕ) (s window page : List ℕ) → Paged
-pageCall w s window page =
-    cond (badRecordLength w (length s) || badWindowLength w (length window)) (pageTurnedBack page lengthNumber)
-    (cond (badState w (roomOf w (length window)) s) (pageTurnedBack page stateNumber)
-    (cond (shortPage (keptCount s) (length page)) (pageTurnedBack page shortPageNumber)
-    (pageWritten s (frontiers w window (keptCount s)) page)))
+unfoldable pub page_call : (w : ℕ) (s window page : List ℕ) → Paged
+page_call w s window page =
+    cond (bad_record_length w (length s) || bad_window_length w (length window)) (page_turned_back page length_number)
+    (cond (bad_state w (room_of w (length window)) s) (page_turned_back page state_number)
+    (cond (short_page (kept_count s) (length page)) (page_turned_back page short_page_number)
+    (page_written s (frontiers w window (kept_count s)) page)))

@@ -6,10 +6,10 @@ use Rattle.std.specs.Prelude.{◌≡◌, refl, List, [], ◌++◌, take, drop}
 use Rattle.std.proofs.Math.ListN.{length}
 use Rattle.codec.specs.Bit.{bit}
 use Rattle.codec.specs.Little.{Bytes}
-use Rattle.frontiers.specs.Bytes.{frontierAt, frontiers}
+use Rattle.frontiers.specs.Bytes.{frontier_at, frontiers}
 use Rattle.call_page.specs.Page.{column, columns, row, rows, ending}
 use Rattle.call_page.specs.PageCode.{TenDigits}
-use Rattle.call_page.specs.RowLaws.{few-digits, row_at, rows_more, length-rows, length-column, length-columns, length-ending}
+use Rattle.call_page.specs.RowLaws.{few_digits, row_at, rows_more, length-rows, length-column, length-columns, length-ending}
 
 -- ---- Parts of a text
 
@@ -17,14 +17,14 @@ use Rattle.call_page.specs.RowLaws.{few-digits, row_at, rows_more, length-rows, 
 record Part (text part : List ℕ) (place : ℕ) : Type 0 where
   before : List ℕ
   behind : List ℕ
-  text-is : text ≡ before ++ part ++ behind
+  text_is : text ≡ before ++ part ++ behind
   place_is : length before ≡ place
 
 part-taken : (text part : List ℕ) (place n : ℕ) → Part text part place → length part ≡ n
     → take n (drop place text) ≡ part
 part-taken text part place n P long =
     rw (
-      P.text-is,
+      P.text_is,
       append_assoc P.before part P.behind,
       drop_at P.before (part ++ P.behind) place P.place_is,
     )
@@ -35,7 +35,7 @@ within : (text part piece : List ℕ) (a b : ℕ) → Part text part a → Part 
 within text part piece a b P Q = record {
   before = P.before ++ Q.before;
   behind = Q.behind ++ P.behind;
-  text-is = P.text-is ∙ rw Q.text-is (join P.before Q.before piece Q.behind P.behind);
+  text_is = P.text_is ∙ rw Q.text_is (join P.before Q.before piece Q.behind P.behind);
   place_is = length-append P.before Q.before ∙ rw (P.place_is, Q.place_is);
 }
   where
@@ -50,7 +50,7 @@ begun : (text part more : List ℕ) (a : ℕ) → Part text part a → Part (tex
 begun text part more a P = record {
   before = P.before;
   behind = P.behind ++ more;
-  text-is = ap (λ (s : List ℕ). s ++ more) P.text-is ∙ append_assoc (P.before ++ part) P.behind more;
+  text_is = ap (λ (s : List ℕ). s ++ more) P.text_is ∙ append_assoc (P.before ++ part) P.behind more;
   place_is = P.place_is;
 }
 
@@ -58,21 +58,21 @@ ends : (text part : List ℕ) → Part (text ++ part) part (length text)
 ends text part = record {
   before = text;
   behind = [];
-  text-is = sym (append-nil (text ++ part));
+  text_is = sym (append-nil (text ++ part));
   place_is = refl;
 }
 
 -- ---- Columns and rows
 
-column-in : (k : ℕ) (counts : List ℕ) → TenDigits counts → (p m : ℕ)
+column_in : (k : ℕ) (counts : List ℕ) → TenDigits counts → (p m : ℕ)
     → Part (columns k counts (suc p + m)) (column k counts p) (11 * p)
 unfolding columns
-column-in k counts ten p zero =
+column_in k counts ten p zero =
     rw (add-zero (suc p), ← length-columns k counts p ten) (ends (columns k counts p) (column k counts p))
-column-in k counts ten p (suc m) =
+column_in k counts ten p (suc m) =
     rw (add-suc (suc p) m)
     (begun (columns k counts (suc p + m)) (column k counts p) (column k counts (suc p + m)) (11 * p)
-    (column-in k counts ten p m))
+    (column_in k counts ten p m))
 
 module _ (w : ℕ) (s : List ℕ) (b : Bytes s) (narrow : w ≤ 4) (k line : ℕ) where
   row_in : (i m : ℕ) → Part (rows k line (frontiers w s (suc i + m))) (row_at w s k line i) (93 * i)
@@ -94,27 +94,27 @@ module _ (w : ℕ) (s : List ℕ) (b : Bytes s) (narrow : w ≤ 4) (k line : ℕ
         let all : suc i + (n - suc i) ≡ n = omega arith in
         begun (rows k line (frontiers w s n)) (row_at w s k line i) rest (93 * i) (rw all at (row_in i (n - suc i)))
 
-    pub column-there : (p : ℕ) → p < 8 → take 11 (drop (93 * i + 11 * p) text) ≡ column k (frontierAt w s i).counts p
+    pub column-there : (p : ℕ) → p < 8 → take 11 (drop (93 * i + 11 * p) text) ≡ column k (frontier_at w s i).counts p
     unfolding row
     column-there p m =
-        let counts = (frontierAt w s i).counts in
-        let ten = few-digits w s b narrow i in
+        let counts = (frontier_at w s i).counts in
+        let ten = few_digits w s b narrow i in
         let all : suc p + (8 - suc p) ≡ 8 = omega arith in
         let inside : Part (columns k counts 8) (column k counts p) (11 * p) =
-        rw all at (column-in k counts ten p (8 - suc p)) in
-        let truth = bit (frontierAt w s i).values line in
+        rw all at (column_in k counts ten p (8 - suc p)) in
+        let truth = bit (frontier_at w s i).values line in
         let begin : Part (row_at w s k line i) (column k counts p) (11 * p) =
         begun (columns k counts 8) (column k counts p) (ending truth) (11 * p) inside in
         part-taken text (column k counts p) (93 * i + 11 * p) 11
         (within text (row_at w s k line i) (column k counts p) (93 * i) (11 * p) row-there begin)
         (length-column k counts p ten)
 
-    pub ending_there : take 5 (drop (93 * i + 88) text) ≡ ending (bit (frontierAt w s i).values line)
+    pub ending_there : take 5 (drop (93 * i + 88) text) ≡ ending (bit (frontier_at w s i).values line)
     unfolding row
     ending_there =
-        let counts = (frontierAt w s i).counts in
-        let truth = bit (frontierAt w s i).values line in
-        let eight : length (columns k counts 8) ≡ 88 = length-columns k counts 8 (few-digits w s b narrow i) in
+        let counts = (frontier_at w s i).counts in
+        let truth = bit (frontier_at w s i).values line in
+        let eight : length (columns k counts 8) ≡ 88 = length-columns k counts 8 (few_digits w s b narrow i) in
         let end : Part (row_at w s k line i) (ending truth) 88 =
         rw (← eight) (ends (columns k counts 8) (ending truth)) in
         part-taken text (ending truth) (93 * i + 88) 5

@@ -9,15 +9,15 @@ use Rattle.std.proofs.Math.Path.{refl}
 use Rattle.std.proofs.Math.ListN.{length-append}
 use Rattle.std.proofs.lemmas.List.{length-replicate}
 use Rattle.codec.specs.Bit.{bit}
-use Rattle.codec.specs.Decimal.{numeralOf, numeral}
+use Rattle.codec.specs.Decimal.{numeral_of, numeral}
 use Rattle.codec.specs.DecimalLaws.{length-numeral, enough-digits}
 use Rattle.clocks.specs.Counts.{at, list_of}
-use Rattle.clocks.specs.stored.CountsLaws.{at-listOf, at-beyond, length-listOf}
+use Rattle.clocks.specs.stored.CountsLaws.{at-list_of, at_beyond, length-list_of}
 use Rattle.codec.specs.Little.{Bytes, number}
 use Rattle.codec.specs.PutLaws.{number_lt}
 use Rattle.frontiers.specs.declared.Frontier.{Frontier}
-use Rattle.frontiers.specs.Bytes.{frontierLength, frontierFrom, frontierAt, frontiers}
-use Rattle.frontiers.specs.WindowLaws.{frontiers-more}
+use Rattle.frontiers.specs.Bytes.{frontier_length, frontier_from, frontier_at, frontiers}
+use Rattle.frontiers.specs.WindowLaws.{frontiers_more}
 use Rattle.call_page.specs.PageCode.{TenDigits}
 use Rattle.call_page.specs.Page.{aligned, column, columns, word, row, rows, ending}
 
@@ -30,14 +30,14 @@ length-aligned width text h =
     (omega arith)
 
 -- Ten digits are enough for such a count, and so is any number above.
-pub ten-digits : (n : ℕ) → n < 10 ^ 10 → numeral n ≡ numeralOf 10 n
-ten-digits n l = enough-digits 9 10 n l
+pub ten_digits : (n : ℕ) → n < 10 ^ 10 → numeral n ≡ numeral_of 10 n
+ten_digits n l = enough-digits 9 10 n l
 
-pub eleven-digits : (n : ℕ) → n < 10 ^ 10 → numeral n ≡ numeralOf 11 n
-eleven-digits n l = ten-digits n l ∙ sym (enough-digits 9 1 n l)
+pub eleven_digits : (n : ℕ) → n < 10 ^ 10 → numeral n ≡ numeral_of 11 n
+eleven_digits n l = ten_digits n l ∙ sym (enough-digits 9 1 n l)
 
 pub length-count : (n : ℕ) → n < 10 ^ 10 → length (numeral n) ≤ 10
-length-count n l = rw (ten-digits n l) (length-numeral 10 n)
+length-count n l = rw (ten_digits n l) (length-numeral 10 n)
 
 pub length-column : (k : ℕ) (counts : List ℕ) (p : ℕ) → TenDigits counts → length (column k counts p) ≡ 11
 unfolding column
@@ -70,18 +70,18 @@ length-row k counts truth ten =
 -- ---- Rows
 
 -- A count of up to four bytes has at most ten digits.
-pub few-digits : (w : ℕ) (s : List ℕ) → Bytes s → w ≤ 4 → (i : ℕ) → TenDigits (frontierAt w s i).counts
-unfolding frontierAt frontierFrom
-few-digits w s b narrow i p = go (dec_lt p 8)
+pub few_digits : (w : ℕ) (s : List ℕ) → Bytes s → w ≤ 4 → (i : ℕ) → TenDigits (frontier_at w s i).counts
+unfolding frontier_at frontier_from
+few_digits w s b narrow i p = go (dec_lt p 8)
   where
     place : ℕ
-    place = i * frontierLength w
+    place = i * frontier_length w
 
     go : Dec (p < 8) → at (list_of 8 (λ q. number s (place + q * w) w)) p < 10 ^ 10
     go (yes l) =
-        rw (at-listOf 8 (λ q. number s (place + q * w) w) p l)
+        rw (at-list_of 8 (λ q. number s (place + q * w) w) p l)
         (lt_of_lt_of_le (number_lt s (place + p * w) w b) (le_trans (pow-le-pow_right (lit< tt) narrow) (lit≤ tt)))
-    go (no l) = rw (at-beyond (list_of 8 (λ q. number s (place + q * w) w)) p (rw length-listOf (omega arith))) (lit< tt)
+    go (no l) = rw (at_beyond (list_of 8 (λ q. number s (place + q * w) w)) p (rw length-list_of (omega arith))) (lit< tt)
 
 rows_behind : (k line : ℕ) (fs gs : List Frontier) → rows k line (fs ++ gs) ≡ rows k line fs ++ rows k line gs
 unfolding rows
@@ -92,27 +92,27 @@ rows_behind k line (f ∷ fs) gs =
 
 -- The row of frontier number i.
 abbrev pub row_at : ℕ → List ℕ → ℕ → ℕ → ℕ → List ℕ
-row_at w s k line i = row k (frontierAt w s i).counts (bit (frontierAt w s i).values line)
+row_at w s k line i = row k (frontier_at w s i).counts (bit (frontier_at w s i).values line)
 
 -- One row more.
 pub rows_more : (w : ℕ) (s : List ℕ) (k line n : ℕ)
     → rows k line (frontiers w s (suc n)) ≡ rows k line (frontiers w s n) ++ row_at w s k line n
 unfolding rows
 rows_more w s k line n =
-    ap (rows k line) (frontiers-more w s n) ∙ rows_behind k line (frontiers w s n) (frontierAt w s n ∷ []) ∙ one
+    ap (rows k line) (frontiers_more w s n) ∙ rows_behind k line (frontiers w s n) (frontier_at w s n ∷ []) ∙ one
   where
-    one : rows k line (frontiers w s n) ++ rows k line (frontierAt w s n ∷ [])
+    one : rows k line (frontiers w s n) ++ rows k line (frontier_at w s n ∷ [])
         ≡ rows k line (frontiers w s n) ++ row_at w s k line n
     one = ap (λ (r : List ℕ). rows k line (frontiers w s n) ++ r) (append-nil (row_at w s k line n))
 
 module _ (w : ℕ) (s : List ℕ) (b : Bytes s) (narrow : w ≤ 4) (k line : ℕ) where
-  pub length-rowAt : (i : ℕ) → length (row_at w s k line i) ≡ 93
-  length-rowAt i =
-      length-row k (frontierAt w s i).counts (bit (frontierAt w s i).values line) (few-digits w s b narrow i)
+  pub length-row_at : (i : ℕ) → length (row_at w s k line i) ≡ 93
+  length-row_at i =
+      length-row k (frontier_at w s i).counts (bit (frontier_at w s i).values line) (few_digits w s b narrow i)
 
   pub length-rows : (n : ℕ) → length (rows k line (frontiers w s n)) ≡ 93 * n
   unfolding rows frontiers list_of
   length-rows zero = refl
   length-rows (suc n) =
       rw (rows_more w s k line n, length-append (rows k line (frontiers w s n)) (row_at w s k line n))
-      (omega (arith, length-rows n, length-rowAt n))
+      (omega (arith, length-rows n, length-row_at n))

@@ -6,10 +6,10 @@ pub mod row;
 ghost use Rattle.std.specs.Prelude.{◌*◌, ◌≤◌, ◌<◌, ◌≡◌, length};
 ghost use Rattle.std.proofs.lemmas.List.Edits.{sets};
 ghost use Rattle.frontiers.specs.Width.{Width};
-ghost use Rattle.frontiers.specs.Bytes.{frontierLength, frontiers};
-ghost use Rattle.answers.specs.Result.{resultWord};
-ghost use Rattle.call_page.specs.Page.{rows, pageCall};
-ghost use Rattle.call_page.specs.PageCode.{Pairs, pageFault};
+ghost use Rattle.frontiers.specs.Bytes.{frontier_length, frontiers};
+ghost use Rattle.answers.specs.Result.{result_word};
+ghost use Rattle.call_page.specs.Page.{rows, page_call};
+ghost use Rattle.call_page.specs.PageCode.{Pairs, page_fault};
 
 use crate::digits::lay_pairs;
 use crate::row::put_row;
@@ -35,7 +35,7 @@ fn put_rows(
     requires k_bound { k ≤ 8 }
     requires line_bound { line < 64 }
     requires kept_bound { kept ≤ 1024 }
-    requires w_in_bounds { kept * frontierLength w ≤ length window.now }
+    requires w_in_bounds { kept * frontier_length w ≤ length window.now }
     requires kept_in_bounds { 93 * kept ≤ length page.old }
     requires pairs { Pairs pairs.now }
     ensures { page.new
@@ -53,7 +53,7 @@ fn put_rows(
 // The number that a page is turned back with; 0 for none.
 fn page_fault(w: usize, record: &[u8], window: &[u8], page_len: usize) -> u64
     requires { Width w }
-    ensures { result ≡ pageFault w «record».now window.now page_len }
+    ensures { result ≡ page_fault w «record».now window.now page_len }
 {
     let fault = watch_fault(w, record, window.len());
     if fault != 0 {
@@ -69,9 +69,9 @@ fn page_fault(w: usize, record: &[u8], window: &[u8], page_len: usize) -> u64
 pub fn write_page(w: usize, record: &[u8], window: &[u8], page: &mut [u8]) -> u64
     requires { Width w }
     ensures reply { result
-        ≡ resultWord (pageCall w «record».now window.now page.old).answer }
+        ≡ result_word (page_call w «record».now window.now page.old).answer }
     ensures page { page.new
-        ≡ (pageCall w «record».now window.now page.old).page }
+        ≡ (page_call w «record».now window.now page.old).page }
 {
     let fault = page_fault(w, record, window, page.len());
     if fault != 0 {

@@ -8,130 +8,130 @@ use mathlib.Core.List.{List}
 use lib.Dec.{eqb, lit<}
 use lib.ListN.{length}
 use borrow.Author.Tests.{eqb-true, not-false}
-use Rattle.clocks.specs.Refusal.{badStart}
-use Rattle.clocks.specs.stored.BoundedLaws.{or-false-e}
-use Rattle.frontiers.specs.Bytes.{frontierLength}
-use Rattle.records.specs.Record.{recordLength, processCount, closedMask, pendingEvents}
-use Rattle.refusals.specs.Refusals.{badRecordLength, badWindowLength, roomOf, badProcesses, badState, notOpen, named_by}
-use Rattle.refusals.specs.RefusalCode.{watchFault}
-use Rattle.refusals.specs.RefusalLaws.{right-length, room_within, room-few}
-use Rattle.refusals.specs.FaultLaws.{Good, tests-good, good-watch}
+use Rattle.clocks.specs.Refusal.{bad_start}
+use Rattle.clocks.specs.stored.BoundedLaws.{or-false_e}
+use Rattle.frontiers.specs.Bytes.{frontier_length}
+use Rattle.records.specs.Record.{record_length, process_count, closed_mask, pending_events}
+use Rattle.refusals.specs.Refusals.{bad_record_length, bad_window_length, room_of, bad_processes, bad_state, not_open, named_by}
+use Rattle.refusals.specs.RefusalCode.{watch_fault}
+use Rattle.refusals.specs.RefusalLaws.{right_length, room_within, room_few}
+use Rattle.refusals.specs.FaultLaws.{Good, tests_good, good_watch}
 use Rattle.answers.specs.Turns.{passed}
-use Rattle.pool.specs.Pool.{badPoolLength, noShare, allowance}
-use Rattle.call_open.specs.Open.{Opened, openCall}
-use Rattle.call_open.specs.OpenCode.{openFault}
-use Rattle.call_open.specs.OpenFaultLaws.{open-back}
-use Rattle.call_take.specs.Take.{Taken, badLengths, takeWithin, allowedOf, takeCapped}
-use Rattle.call_take.specs.TakeCode.{takeFault}
-use Rattle.call_close.specs.Close.{Closed, closeProcess, closeCall}
-use Rattle.call_shared.specs.Shared.{sharedOpen, sharedTake, sharedClose}
+use Rattle.pool.specs.Pool.{bad_pool_length, no_share, allowance}
+use Rattle.call_open.specs.Open.{Opened, open_call}
+use Rattle.call_open.specs.OpenCode.{open_fault}
+use Rattle.call_open.specs.OpenFaultLaws.{open_back}
+use Rattle.call_take.specs.Take.{Taken, bad_lengths, take_within, allowed_of, take_capped}
+use Rattle.call_take.specs.TakeCode.{take_fault}
+use Rattle.call_close.specs.Close.{Closed, close_process, close_call}
+use Rattle.call_shared.specs.Shared.{shared_open, shared_take, shared_close}
 use Rattle.call_shared.specs.SharedLaws.{opens, takes, closes, turned, went}
-use Rattle.call_shared.specs.SharedCode.{sharedFault}
-use Rattle.call_shared.proofs.FaultSteps.{byFault, fault-turned, fault-passed, two-turned, two-by, three-by}
+use Rattle.call_shared.specs.SharedCode.{shared_fault}
+use Rattle.call_shared.proofs.FaultSteps.{by_fault, fault_turned, fault_passed, two_turned, two_by, three_by}
 
 -- ---- Open
 
 module _ (w : ℕ) (text : List ℕ) (k : ℕ) (labels s window pool : List ℕ) (i : ℕ) where
-  abbrev open-number : ℕ
-  open-number = openFault w k labels (length s) (length window)
+  abbrev open_number : ℕ
+  open_number = open_fault w k labels (length s) (length window)
 
   abbrev opened : Opened
-  opened = openCall w text k labels s window
+  opened = open_call w text k labels s window
 
-  open_by : sharedOpen w text k labels s window pool i ≡ byFault (opens s window) pool i open-number opened
-  unfolding sharedOpen openFault
+  open_by : shared_open w text k labels s window pool i ≡ by_fault (opens s window) pool i open_number opened
+  unfolding shared_open open_fault
   open_by =
-      rw (← or_assoc (badRecordLength w (length s)) (badWindowLength w (length window)) (badPoolLength (length pool)))
-      (three-by (opens s window) pool i (badRecordLength w (length s) || badWindowLength w (length window))
-      (badPoolLength (length pool)) (badProcesses k) (noShare pool i) (badStart k labels) opened)
+      rw (← or_assoc (bad_record_length w (length s)) (bad_window_length w (length window)) (bad_pool_length (length pool)))
+      (three_by (opens s window) pool i (bad_record_length w (length s) || bad_window_length w (length window))
+      (bad_pool_length (length pool)) (bad_processes k) (no_share pool i) (bad_start k labels) opened)
 
-  pub open-turned : (n : ℕ) → n ≡ sharedFault open-number pool i → (n ≡ 0 → ⊥)
-      → sharedOpen w text k labels s window pool i ≡ turned (opens s window) pool i n
-  open-turned n e some =
+  pub open_turned : (n : ℕ) → n ≡ shared_fault open_number pool i → (n ≡ 0 → ⊥)
+      → shared_open w text k labels s window pool i ≡ turned (opens s window) pool i n
+  open_turned n e some =
       open_by
-      ∙ fault-turned (opens s window) pool i open-number opened
-      (open-back w text k labels s window open-number refl) n e some
+      ∙ fault_turned (opens s window) pool i open_number opened
+      (open_back w text k labels s window open_number refl) n e some
 
   -- What is known where neither its own tests nor those of the plain open, but for the text, turn it back.
   pub record OpenPassed : Type 0 where
-    pub pool-long : length pool ≡ 32
+    pub pool_long : length pool ≡ 32
     pub member : i < 8
-    pub long : length s ≡ recordLength w
-    pub whole : sharedOpen w text k labels s window pool i ≡ went (opens s window) pool i opened
+    pub long : length s ≡ record_length w
+    pub whole : shared_open w text k labels s window pool i ≡ went (opens s window) pool i opened
 
-  pub open-passed : sharedFault open-number pool i ≡ 0 → OpenPassed
-  unfolding openFault
-  open-passed h =
-      let p = fault-passed (opens s window) pool i open-number opened h in
-      let right = (passed (badRecordLength w (length s) || badWindowLength w (length window)) 6 _ (lit< tt) p.0).0 in
+  pub open_passed : shared_fault open_number pool i ≡ 0 → OpenPassed
+  unfolding open_fault
+  open_passed h =
+      let p = fault_passed (opens s window) pool i open_number opened h in
+      let right = (passed (bad_record_length w (length s) || bad_window_length w (length window)) 6 _ (lit< tt) p.0).0 in
       record {
-        pool-long = p.1;
+        pool_long = p.1;
         member = p.2;
-        long = right-length w (length s) (or-false-e (badRecordLength w (length s)) _ right).0;
+        long = right_length w (length s) (or-false_e (bad_record_length w (length s)) _ right).0;
         whole = open_by ∙ p.3;
       }
 
 -- ---- Take
 
 -- What is allowed lies within the window.
-pub allowed-room : (w most n allowed : ℕ) → allowed ≡ min most (roomOf w n) → roomOf w n ≤ 1024
-    → (allowed ≤ 1024) × (allowed * frontierLength w ≤ n)
-allowed-room w most n allowed e few =
-    let below : allowed ≤ roomOf w n = rw e (min-le_right most (roomOf w n)) in
+pub allowed_room : (w most n allowed : ℕ) → allowed ≡ min most (room_of w n) → room_of w n ≤ 1024
+    → (allowed ≤ 1024) × (allowed * frontier_length w ≤ n)
+allowed_room w most n allowed e few =
+    let below : allowed ≤ room_of w n = rw e (min-le_right most (room_of w n)) in
     (omega arith, room_within w allowed n below)
 
 module _ (w : ℕ) (s window scratch pool : List ℕ) (i : ℕ) where
   abbrev take-number : ℕ
-  take-number = takeFault w s (length window) (length scratch)
+  take-number = take_fault w s (length window) (length scratch)
 
   abbrev taken : Taken
-  taken = takeCapped w (allowance pool i) s window scratch
+  taken = take_capped w (allowance pool i) s window scratch
 
   abbrev within : Taken
-  within = takeWithin w (allowedOf w (allowance pool i) window) s window
+  within = take_within w (allowed_of w (allowance pool i) window) s window
 
   abbrev wrong : Bool
-  wrong = badLengths w (length s) (length window) (length scratch)
+  wrong = bad_lengths w (length s) (length window) (length scratch)
 
   abbrev bad : Bool
-  bad = badState w (roomOf w (length window)) s
+  bad = bad_state w (room_of w (length window)) s
 
-  take_by : sharedTake w s window scratch pool i ≡ byFault (takes s window scratch) pool i take-number taken
-  unfolding sharedTake takeFault takeCapped
-  take_by = two-by (takes s window scratch) pool i wrong (badPoolLength (length pool)) bad (noShare pool i) within
+  take_by : shared_take w s window scratch pool i ≡ by_fault (takes s window scratch) pool i take-number taken
+  unfolding shared_take take_fault take_capped
+  take_by = two_by (takes s window scratch) pool i wrong (bad_pool_length (length pool)) bad (no_share pool i) within
 
   plain-turned : (take-number ≡ 0 → ⊥) → taken ≡ (takes s window scratch).back take-number
-  unfolding takeFault takeCapped
-  plain-turned h = two-turned (takes s window scratch) pool i wrong bad within h
+  unfolding take_fault take_capped
+  plain-turned h = two_turned (takes s window scratch) pool i wrong bad within h
 
-  pub take-turned : (n : ℕ) → n ≡ sharedFault take-number pool i → (n ≡ 0 → ⊥)
-      → sharedTake w s window scratch pool i ≡ turned (takes s window scratch) pool i n
-  take-turned n e some = take_by ∙ fault-turned (takes s window scratch) pool i take-number taken plain-turned n e some
+  pub take-turned : (n : ℕ) → n ≡ shared_fault take-number pool i → (n ≡ 0 → ⊥)
+      → shared_take w s window scratch pool i ≡ turned (takes s window scratch) pool i n
+  take-turned n e some = take_by ∙ fault_turned (takes s window scratch) pool i take-number taken plain-turned n e some
 
   -- What is known where nothing turns it back.
   pub record TakePassed : Type 0 where
-    pub pool-long : length pool ≡ 32
+    pub pool_long : length pool ≡ 32
     pub member : i < 8
     pub good : Good w s (length window)
-    pub few-room : roomOf w (length window) ≤ 1024
+    pub few_room : room_of w (length window) ≤ 1024
     pub same : length scratch ≡ length window
     pub goes : taken ≡ within
-    pub whole : sharedTake w s window scratch pool i ≡ went (takes s window scratch) pool i taken
+    pub whole : shared_take w s window scratch pool i ≡ went (takes s window scratch) pool i taken
 
-  pub take-passed : sharedFault take-number pool i ≡ 0 → TakePassed
-  unfolding takeFault takeCapped
-  take-passed h =
-      let p = fault-passed (takes s window scratch) pool i take-number taken h in
+  pub take_passed : shared_fault take-number pool i ≡ 0 → TakePassed
+  unfolding take_fault take_capped
+  take_passed h =
+      let p = fault_passed (takes s window scratch) pool i take-number taken h in
       let n = length window in
       let lengths = passed wrong 6 (cond bad 34 0) (lit< tt) p.0 in
       let sound = (passed bad 34 0 (lit< tt) lengths.1).0 in
-      let after = or-false-e (badRecordLength w (length s)) _ lengths.0 in
-      let last = or-false-e (badWindowLength w n) (not (eqb (length scratch) n)) after.1 in
+      let after = or-false_e (bad_record_length w (length s)) _ lengths.0 in
+      let last = or-false_e (bad_window_length w n) (not (eqb (length scratch) n)) after.1 in
       record {
-        pool-long = p.1;
+        pool_long = p.1;
         member = p.2;
-        good = tests-good w s n (rw (after.0, last.0)) sound;
-        few-room = room-few w n last.0;
+        good = tests_good w s n (rw (after.0, last.0)) sound;
+        few_room = room_few w n last.0;
         same = eqb-true (length scratch) n (not-false _ last.1);
         goes = rw (lengths.0, sound);
         whole = take_by ∙ p.3;
@@ -140,51 +140,51 @@ module _ (w : ℕ) (s window scratch pool : List ℕ) (i : ℕ) where
 -- ---- Close
 
 module _ (w p : ℕ) (s window pool : List ℕ) (i : ℕ) where
-  abbrev close-number : ℕ
-  close-number = watchFault w s (length window)
+  abbrev close_number : ℕ
+  close_number = watch_fault w s (length window)
 
   abbrev closed : Closed
-  closed = closeCall w p s window
+  closed = close_call w p s window
 
   -- ... behind 6 and 34.
   abbrev judged : Closed
   judged =
-      cond (notOpen (processCount s) (closedMask s) p) ((closes s window).back 41)
-      (cond (named_by p (pendingEvents w s)) ((closes s window).back 42) (closeProcess w p s window))
+      cond (not_open (process_count s) (closed_mask s) p) ((closes s window).back 41)
+      (cond (named_by p (pending_events w s)) ((closes s window).back 42) (close_process w p s window))
 
-  abbrev lengths-wrong : Bool
-  lengths-wrong = badRecordLength w (length s) || badWindowLength w (length window)
+  abbrev lengths_wrong : Bool
+  lengths_wrong = bad_record_length w (length s) || bad_window_length w (length window)
 
   abbrev damaged : Bool
-  damaged = badState w (roomOf w (length window)) s
+  damaged = bad_state w (room_of w (length window)) s
 
-  close-by : sharedClose w p s window pool i ≡ byFault (closes s window) pool i close-number closed
-  unfolding sharedClose watchFault closeCall
-  close-by =
-      rw (← or_assoc (badRecordLength w (length s)) (badWindowLength w (length window)) (badPoolLength (length pool)))
-      (two-by (closes s window) pool i lengths-wrong (badPoolLength (length pool)) damaged (noShare pool i) judged)
+  close_by : shared_close w p s window pool i ≡ by_fault (closes s window) pool i close_number closed
+  unfolding shared_close watch_fault close_call
+  close_by =
+      rw (← or_assoc (bad_record_length w (length s)) (bad_window_length w (length window)) (bad_pool_length (length pool)))
+      (two_by (closes s window) pool i lengths_wrong (bad_pool_length (length pool)) damaged (no_share pool i) judged)
 
-  close-plain : (close-number ≡ 0 → ⊥) → closed ≡ (closes s window).back close-number
-  unfolding watchFault closeCall
-  close-plain h = two-turned (closes s window) pool i lengths-wrong damaged judged h
+  close_plain : (close_number ≡ 0 → ⊥) → closed ≡ (closes s window).back close_number
+  unfolding watch_fault close_call
+  close_plain h = two_turned (closes s window) pool i lengths_wrong damaged judged h
 
-  pub close-turned : (n : ℕ) → n ≡ sharedFault close-number pool i → (n ≡ 0 → ⊥)
-      → sharedClose w p s window pool i ≡ turned (closes s window) pool i n
-  close-turned n e some = close-by ∙ fault-turned (closes s window) pool i close-number closed close-plain n e some
+  pub close_turned : (n : ℕ) → n ≡ shared_fault close_number pool i → (n ≡ 0 → ⊥)
+      → shared_close w p s window pool i ≡ turned (closes s window) pool i n
+  close_turned n e some = close_by ∙ fault_turned (closes s window) pool i close_number closed close_plain n e some
 
   -- What is known where its own tests let it pass.
   pub record ClosePassed : Type 0 where
-    pub pool-long : length pool ≡ 32
+    pub pool_long : length pool ≡ 32
     pub member : i < 8
     pub good : Good w s (length window)
-    pub whole : sharedClose w p s window pool i ≡ went (closes s window) pool i closed
+    pub whole : shared_close w p s window pool i ≡ went (closes s window) pool i closed
 
-  pub close_passed : sharedFault close-number pool i ≡ 0 → ClosePassed
+  pub close_passed : shared_fault close_number pool i ≡ 0 → ClosePassed
   close_passed h =
-      let q = fault-passed (closes s window) pool i close-number closed h in
+      let q = fault_passed (closes s window) pool i close_number closed h in
       record {
-        pool-long = q.1;
+        pool_long = q.1;
         member = q.2;
-        good = good-watch w s (length window) q.0;
-        whole = close-by ∙ q.3;
+        good = good_watch w s (length window) q.0;
+        whole = close_by ∙ q.3;
       }

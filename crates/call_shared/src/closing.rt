@@ -2,8 +2,8 @@
 
 ghost use Rattle.std.specs.Prelude.{◌≡◌};
 ghost use Rattle.frontiers.specs.Width.{Width};
-ghost use Rattle.answers.specs.Answer.{replyWord};
-ghost use Rattle.call_shared.specs.Shared.{sharedClose};
+ghost use Rattle.answers.specs.Answer.{reply_word};
+ghost use Rattle.call_shared.specs.Shared.{shared_close};
 
 use crate::lent::{settle_pool, shared_fault};
 use refusals::watch_fault;
@@ -18,13 +18,13 @@ pub fn close(
     number: u64,
 ) -> u64
     requires { Width w }
-    ensures reply { result ≡ replyWord (sharedClose w process «record».old window.old
+    ensures reply { result ≡ reply_word (shared_close w process «record».old window.old
         pool.old number).call.answer }
-    ensures bytes { «record».new ≡ (sharedClose w process «record».old window.old
+    ensures bytes { «record».new ≡ (shared_close w process «record».old window.old
         pool.old number).call.bytes }
-    ensures window { window.new ≡ (sharedClose w process «record».old window.old
+    ensures window { window.new ≡ (shared_close w process «record».old window.old
         pool.old number).call.window }
-    ensures pool { pool.new ≡ (sharedClose w process «record».old window.old
+    ensures pool { pool.new ≡ (shared_close w process «record».old window.old
         pool.old number).pool }
 {
     let plain = watch_fault(w, record, window.len());

@@ -2,8 +2,8 @@
 
 ghost use Rattle.std.specs.Prelude.{◌≡◌};
 ghost use Rattle.frontiers.specs.Width.{Width};
-ghost use Rattle.answers.specs.Answer.{replyWord};
-ghost use Rattle.call_shared.specs.Shared.{sharedOpen};
+ghost use Rattle.answers.specs.Answer.{reply_word};
+ghost use Rattle.call_shared.specs.Shared.{shared_open};
 
 use crate::lent::{settle_pool, shared_fault};
 use call_open::open_fault;
@@ -20,13 +20,13 @@ pub fn open(
     number: u64,
 ) -> u64
     requires { Width w }
-    ensures reply { result ≡ replyWord (sharedOpen w rule.now k labels
+    ensures reply { result ≡ reply_word (shared_open w rule.now k labels
         «record».old window.old pool.old number).call.answer }
-    ensures bytes { «record».new ≡ (sharedOpen w rule.now k labels
+    ensures bytes { «record».new ≡ (shared_open w rule.now k labels
         «record».old window.old pool.old number).call.bytes }
-    ensures window { window.new ≡ (sharedOpen w rule.now k labels
+    ensures window { window.new ≡ (shared_open w rule.now k labels
         «record».old window.old pool.old number).call.window }
-    ensures pool { pool.new ≡ (sharedOpen w rule.now k labels
+    ensures pool { pool.new ≡ (shared_open w rule.now k labels
         «record».old window.old pool.old number).pool }
 {
     let plain = open_fault(w, k, labels, record.len(), window.len());

@@ -2,8 +2,8 @@
 
 ghost use Rattle.std.specs.Prelude.{min, ◌≡◌};
 ghost use Rattle.frontiers.specs.Width.{Width};
-ghost use Rattle.answers.specs.Answer.{replyWord};
-ghost use Rattle.call_shared.specs.Shared.{sharedTake};
+ghost use Rattle.answers.specs.Answer.{reply_word};
+ghost use Rattle.call_shared.specs.Shared.{shared_take};
 
 use crate::lent::{settle_pool, shared_fault};
 use call_take::{take_fault, take_within};
@@ -26,15 +26,15 @@ pub fn take(
     number: u64,
 ) -> u64
     requires { Width w }
-    ensures reply { result ≡ replyWord (sharedTake w «record».old window.old
+    ensures reply { result ≡ reply_word (shared_take w «record».old window.old
         scratch.old pool.old number).call.answer }
-    ensures bytes { «record».new ≡ (sharedTake w «record».old window.old
+    ensures bytes { «record».new ≡ (shared_take w «record».old window.old
         scratch.old pool.old number).call.bytes }
-    ensures window { window.new ≡ (sharedTake w «record».old window.old
+    ensures window { window.new ≡ (shared_take w «record».old window.old
         scratch.old pool.old number).call.window }
-    ensures scratch { scratch.new ≡ (sharedTake w «record».old window.old
+    ensures scratch { scratch.new ≡ (shared_take w «record».old window.old
         scratch.old pool.old number).call.scratch }
-    ensures pool { pool.new ≡ (sharedTake w «record».old window.old
+    ensures pool { pool.new ≡ (shared_take w «record».old window.old
         scratch.old pool.old number).pool }
 {
     let plain = take_fault(w, record, window.len(), scratch.len());

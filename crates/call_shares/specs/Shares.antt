@@ -3,35 +3,35 @@ use Rattle.std.specs.Prelude.{ℕ, ◌-◌, ◌*◌, Bool, cond, ◌||◌, List,
 use Rattle.codec.specs.Little.{bytes_of}
 use Rattle.clocks.specs.Bounded.{any_of}
 use Rattle.clocks.specs.Counts.{at}
-use Rattle.numbers.specs.Limit.{mostFrontiers, mostMembers}
-use Rattle.numbers.specs.Refusal.{lengthNumber, sharesNumber}
+use Rattle.numbers.specs.Limit.{most_frontiers, most_members}
+use Rattle.numbers.specs.Refusal.{length_number, shares_number}
 use Rattle.answers.specs.Result.{Result, refused, gives}
-use Rattle.pool.specs.Pool.{sumBelow, poolLength, badPoolLength}
+use Rattle.pool.specs.Pool.{sum_below, pool_length, bad_pool_length}
 
 -- 49: no share, over eight, a share of 0, or shares that add up to more than 1,024.
-unfoldable pub badShares : (shares : List ℕ) → Bool
-badShares shares =
+unfoldable pub bad_shares : (shares : List ℕ) → Bool
+bad_shares shares =
     eqb (length shares) 0
-    || (ltb mostMembers (length shares)
+    || (ltb most_members (length shares)
     || (any_of (λ share. eqb share 0) shares
-    || ltb mostFrontiers (sumBelow (length shares) (at shares))))
+    || ltb most_frontiers (sum_below (length shares) (at shares))))
 
 -- The shares, two bytes each.
-unfoldable pub sharesBytes : (shares : List ℕ) → List ℕ
-sharesBytes [] = []
-sharesBytes (share ∷ shares) = bytes_of 2 share ++ sharesBytes shares
+unfoldable pub shares_bytes : (shares : List ℕ) → List ℕ
+shares_bytes [] = []
+shares_bytes (share ∷ shares) = bytes_of 2 share ++ shares_bytes shares
 
 -- The pool that is written: all after the shares is 0, the kept numbers too.
-unfoldable pub poolOf : (shares : List ℕ) → List ℕ
-poolOf shares = sharesBytes shares ++ replicate (poolLength - 2 * length shares) 0
+unfoldable pub pool_of : (shares : List ℕ) → List ℕ
+pool_of shares = shares_bytes shares ++ replicate (pool_length - 2 * length shares) 0
 
 -- What the call answers and leaves in the pool.
 pub record SharesSet : Type 0 where
   pub answer : Result
   pub pool : List ℕ
 
-unfoldable pub setShares : (shares pool : List ℕ) → SharesSet
-setShares shares pool =
-    cond (badPoolLength (length pool)) (record { answer = refused lengthNumber; pool = pool })
-    (cond (badShares shares) (record { answer = refused sharesNumber; pool = pool })
-    (record { answer = gives 0; pool = poolOf shares }))
+unfoldable pub set_shares : (shares pool : List ℕ) → SharesSet
+set_shares shares pool =
+    cond (bad_pool_length (length pool)) (record { answer = refused length_number; pool = pool })
+    (cond (bad_shares shares) (record { answer = refused shares_number; pool = pool })
+    (record { answer = gives 0; pool = pool_of shares }))

@@ -1,10 +1,10 @@
 // Setting the shares of a pool (02 [10]).
 
 ghost use Rattle.std.specs.Prelude.{◌≤◌, ◌<◌, ◌≡◌, length};
-ghost use Rattle.numbers.specs.Limit.{mostMembers};
-ghost use Rattle.answers.specs.Result.{resultWord};
-ghost use Rattle.pool.specs.Pool.{poolLength};
-ghost use Rattle.call_shares.specs.Shares.{badShares, poolOf, setShares};
+ghost use Rattle.numbers.specs.Limit.{most_members};
+ghost use Rattle.answers.specs.Result.{result_word};
+ghost use Rattle.pool.specs.Pool.{pool_length};
+ghost use Rattle.call_shares.specs.Shares.{bad_shares, pool_of, set_shares};
 
 use codec::write_u16;
 use frontiers::moving::clear;
@@ -22,7 +22,7 @@ fn wide(share: u16) -> usize
 // 49: no share, over eight, a share of 0, or shares that add up to more than 1,024. Eight are few enough for the sum to
 // fit.
 fn bad_shares(shares: &[u16]) -> bool
-    ensures { result ≡ badShares shares.now }
+    ensures { result ≡ bad_shares shares.now }
 {
     let n = shares.len();
     if n == 0 {
@@ -46,9 +46,9 @@ fn bad_shares(shares: &[u16]) -> bool
 
 // Writes the pool: the shares, and 0 in all other places.
 fn put_shares(shares: &[u16], pool: &mut [u8])
-    requires shares_len_bound { length shares.now ≤ mostMembers }
-    requires pool_len { length pool.old ≡ poolLength }
-    ensures { pool.new ≡ poolOf shares.now }
+    requires shares_len_bound { length shares.now ≤ most_members }
+    requires pool_len { length pool.old ≡ pool_length }
+    ensures { pool.new ≡ pool_of shares.now }
 {
     clear(pool, 0, 32);
     let mut i = 0;
@@ -60,8 +60,8 @@ fn put_shares(shares: &[u16], pool: &mut [u8])
 
 // Sets the shares: the reply, and the pool's bytes. Nothing is written before all is judged.
 pub fn set_shares(shares: &[u16], pool: &mut [u8]) -> u64
-    ensures reply { result ≡ resultWord (setShares shares.now pool.old).answer }
-    ensures pool { pool.new ≡ (setShares shares.now pool.old).pool }
+    ensures reply { result ≡ result_word (set_shares shares.now pool.old).answer }
+    ensures pool { pool.new ≡ (set_shares shares.now pool.old).pool }
 {
     if bad_pool_length(pool.len()) {
         return LENGTH;

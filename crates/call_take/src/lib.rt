@@ -6,15 +6,15 @@ ghost use Rattle.codec.specs.Bit.{bit};
 ghost use Rattle.clocks.specs.Counts.{at};
 ghost use Rattle.frontiers.specs.Width.{Width};
 ghost use Rattle.frontiers.specs.Bytes.{frontiers, replaced};
-ghost use Rattle.window.specs.Step.{keptAfter, stepped};
+ghost use Rattle.window.specs.Step.{kept_after, stepped};
 ghost use Rattle.window.specs.StepCode.{Fitting};
 ghost use Rattle.window.specs.Room.{RoomFor};
 ghost use Rattle.window.specs.Marks.{Marked};
-ghost use Rattle.records.specs.Record.{recordLength, processCount, lineTotal, pendingCount, keptCount, pendingAt, removed, counted, readyIn};
-ghost use Rattle.answers.specs.Answer.{turnedBack, nothingReady, replyWord};
-ghost use Rattle.trial.specs.Trial.{settingIn, chosen};
-ghost use Rattle.call_take.specs.Take.{decided, takeWithin, takeCall};
-ghost use Rattle.call_take.specs.TakeCode.{takeFault};
+ghost use Rattle.records.specs.Record.{record_length, process_count, line_total, pending_count, kept_count, pending_at, removed, counted, ready_in};
+ghost use Rattle.answers.specs.Answer.{turned_back, nothing_ready, reply_word};
+ghost use Rattle.trial.specs.Trial.{setting_in, chosen};
+ghost use Rattle.call_take.specs.Take.{decided, take_within, take_call};
+ghost use Rattle.call_take.specs.TakeCode.{take_fault};
 
 use answers::state_word;
 use clocks::Event;
@@ -39,19 +39,19 @@ fn step_window(
     e: Event,
 )
     requires width { Width w }
-    requires record_len { length «record».now ≡ recordLength w }
-    requires record_bound { (processCount «record».now ≤ 8) × (lineTotal «record».now ≤ 64) }
+    requires record_len { length «record».now ≡ record_length w }
+    requires record_bound { (process_count «record».now ≤ 8) × (line_total «record».now ≤ 64) }
     requires room_for { RoomFor w n window.old }
     requires room_for_2 { RoomFor w kept window.old }
     requires scratch_len { length scratch.old ≡ length window.old }
     requires fitting { Fitting w e }
-    requires t { T (readyIn w «record».now e) }
-    requires kept_value { kept ≡ keptAfter (settingIn w «record».now e) (frontiers w window.old n) }
+    requires t { T (ready_in w «record».now e) }
+    requires kept_value { kept ≡ kept_after (setting_in w «record».now e) (frontiers w window.old n) }
     requires n_in_bounds { n ≤ length marks.now }
-    requires marked { Marked (settingIn w «record».now e) w window.old n marks.now }
-    ensures window { window.new ≡ replaced w window.old n (stepped (settingIn w «record».now e) (frontiers w window.old n)) }
+    requires marked { Marked (setting_in w «record».now e) w window.old n marks.now }
+    ensures window { window.new ≡ replaced w window.old n (stepped (setting_in w «record».now e) (frontiers w window.old n)) }
     ensures scratch { scratch.new ≡ replicate (length scratch.old) 0 }
-    ensures frontiers { frontiers w window.new kept ≡ stepped (settingIn w «record».now e) (frontiers w window.old n) }
+    ensures frontiers { frontiers w window.new kept ≡ stepped (setting_in w «record».now e) (frontiers w window.old n) }
 {
     let k = process_count(record);
     let closed = closed_mask(record) as u64;
@@ -84,10 +84,10 @@ fn verdict(window: &[u8], w: usize, kept: usize, lines: u32) -> bool
 // Pending event number i leaves and is counted as taken.
 fn count_event(record: &mut [u8], w: usize, i: usize, e: Event, kept: u32)
     requires width { Width w }
-    requires record_len { length «record».old ≡ recordLength w }
-    requires i_bound { (i < pendingCount «record».old) × (pendingCount «record».old ≤ 32) }
+    requires record_len { length «record».old ≡ record_length w }
+    requires i_bound { (i < pending_count «record».old) × (pending_count «record».old ≤ 32) }
     requires by_index { (p : ℕ) → at e.clock p < 256 ^ w }
-    requires t { T (readyIn w «record».old e) }
+    requires t { T (ready_in w «record».old e) }
     ensures { «record».new ≡ counted w (removed w «record».old i) e kept }
 {
     remove_event(record, w, i);
@@ -107,17 +107,17 @@ fn take_event(
     kept: usize,
 ) -> u64
     requires width { Width w }
-    requires record_len { length «record».old ≡ recordLength w }
-    requires record_bound { (processCount «record».old ≤ 8) × (1 ≤ lineTotal «record».old) × (lineTotal «record».old ≤ 64) }
+    requires record_len { length «record».old ≡ record_length w }
+    requires record_bound { (process_count «record».old ≤ 8) × (1 ≤ line_total «record».old) × (line_total «record».old ≤ 64) }
     requires room_for { RoomFor w n window.old }
     requires le_kept { (1 ≤ kept) × RoomFor w kept window.old }
     requires scratch_len { length scratch.old ≡ length window.old }
-    requires i_bound { (i < pendingCount «record».old) × (pendingCount «record».old ≤ 32) }
-    requires t { T (readyIn w «record».old (pendingAt w «record».old i)) }
-    requires kept_value { kept ≡ keptAfter (settingIn w «record».old (pendingAt w «record».old i)) (frontiers w window.old n) }
+    requires i_bound { (i < pending_count «record».old) × (pending_count «record».old ≤ 32) }
+    requires t { T (ready_in w «record».old (pending_at w «record».old i)) }
+    requires kept_value { kept ≡ kept_after (setting_in w «record».old (pending_at w «record».old i)) (frontiers w window.old n) }
     requires n_in_bounds { n ≤ length marks.now }
-    requires marked { Marked (settingIn w «record».old (pendingAt w «record».old i)) w window.old n marks.now }
-    ensures reply { result ≡ replyWord (decided w «record».old window.old (frontiers w window.old n) (chosen i)).answer }
+    requires marked { Marked (setting_in w «record».old (pending_at w «record».old i)) w window.old n marks.now }
+    ensures reply { result ≡ reply_word (decided w «record».old window.old (frontiers w window.old n) (chosen i)).answer }
     ensures bytes { «record».new ≡ (decided w «record».old window.old (frontiers w window.old n) (chosen i)).bytes }
     ensures window { window.new ≡ (decided w «record».old window.old (frontiers w window.old n) (chosen i)).window }
     ensures scratch { scratch.new ≡ replicate (length window.old) 0 }
@@ -131,7 +131,7 @@ fn take_event(
 
 // The word of a take that decides on no event: 36 where one was ready, else nothing ready.
 fn undecided_word(seen: bool) -> u64
-    ensures { result ≡ replyWord (cond seen (turnedBack 36 0) nothingReady) }
+    ensures { result ≡ reply_word (cond seen (turned_back 36 0) nothing_ready) }
 {
     if seen { NO_ROOM } else { 0 }
 }
@@ -146,16 +146,16 @@ pub fn take_within(
     scratch: &mut [u8],
 ) -> u64
     requires width { Width w }
-    requires record_len { length «record».old ≡ recordLength w }
-    requires record_bound { (processCount «record».old ≤ 8) × (1 ≤ lineTotal «record».old) × (lineTotal «record».old ≤ 64) }
-    requires record_bound_2 { pendingCount «record».old ≤ 32 }
-    requires room_for { RoomFor w (keptCount «record».old) window.old }
+    requires record_len { length «record».old ≡ record_length w }
+    requires record_bound { (process_count «record».old ≤ 8) × (1 ≤ line_total «record».old) × (line_total «record».old ≤ 64) }
+    requires record_bound_2 { pending_count «record».old ≤ 32 }
+    requires room_for { RoomFor w (kept_count «record».old) window.old }
     requires room_for_2 { RoomFor w allowed window.old }
     requires scratch_len { length scratch.old ≡ length window.old }
-    ensures reply { result ≡ replyWord (takeWithin w allowed «record».old window.old).answer }
-    ensures bytes { «record».new ≡ (takeWithin w allowed «record».old window.old).bytes }
-    ensures window { window.new ≡ (takeWithin w allowed «record».old window.old).window }
-    ensures scratch { scratch.new ≡ (takeWithin w allowed «record».old window.old).scratch }
+    ensures reply { result ≡ reply_word (take_within w allowed «record».old window.old).answer }
+    ensures bytes { «record».new ≡ (take_within w allowed «record».old window.old).bytes }
+    ensures window { window.new ≡ (take_within w allowed «record».old window.old).window }
+    ensures scratch { scratch.new ≡ (take_within w allowed «record».old window.old).scratch }
 {
     let n = kept_count(record) as usize;
     let mut marks = [0u8; 1024];
@@ -179,7 +179,7 @@ pub fn take_within(
 // The number that a take is turned back with; 0 for none.
 pub fn take_fault(w: usize, record: &[u8], n: usize, m: usize) -> u64
     requires { Width w }
-    ensures { result ≡ takeFault w «record».now n m }
+    ensures { result ≡ take_fault w «record».now n m }
 {
     if bad_record_length(w, record.len()) {
         return LENGTH;
@@ -199,10 +199,10 @@ pub fn take_fault(w: usize, record: &[u8], n: usize, m: usize) -> u64
 // Takes the first event that is decided on: the reply, and the bytes of the three buffers after it.
 pub fn take(w: usize, record: &mut [u8], window: &mut [u8], scratch: &mut [u8]) -> u64
     requires { Width w }
-    ensures reply { result ≡ replyWord (takeCall w «record».old window.old scratch.old).answer }
-    ensures bytes { «record».new ≡ (takeCall w «record».old window.old scratch.old).bytes }
-    ensures window { window.new ≡ (takeCall w «record».old window.old scratch.old).window }
-    ensures scratch { scratch.new ≡ (takeCall w «record».old window.old scratch.old).scratch }
+    ensures reply { result ≡ reply_word (take_call w «record».old window.old scratch.old).answer }
+    ensures bytes { «record».new ≡ (take_call w «record».old window.old scratch.old).bytes }
+    ensures window { window.new ≡ (take_call w «record».old window.old scratch.old).window }
+    ensures scratch { scratch.new ≡ (take_call w «record».old window.old scratch.old).scratch }
 {
     let fault = take_fault(w, record, window.len(), scratch.len());
     if fault != 0 {

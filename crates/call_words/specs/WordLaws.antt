@@ -2,9 +2,9 @@
 use Rattle.std.specs.Prelude.{ℕ, ◌<◌, ◌^◌, zero, suc, ◌+◌, ◌*◌, ◌/◌, ◌≡◌, refl, List, [], ◌∷◌, ◌++◌}
 use Rattle.std.proofs.Common.{arith, mod-lt, pow_pos, pow-add}
 use Rattle.std.proofs.Math.Nat.{pow-succ'}
-use Rattle.codec.specs.LittleLaws.{pow-256-pos}
+use Rattle.codec.specs.LittleLaws.{pow_256_pos}
 use Rattle.clocks.specs.Counts.{at, list_of}
-use Rattle.call_words.specs.Words.{part, unpackCounts}
+use Rattle.call_words.specs.Words.{part, unpack_counts}
 
 -- A part of as many bits as w bytes have.
 bits_of : (w : ℕ) → 2 ^ (8 * w) ≡ 256 ^ w
@@ -25,8 +25,8 @@ fits-append zero f rest m h r p = r p
 fits-append (suc n) f rest m h r zero = h 0
 fits-append (suc n) f rest m h r (suc p) = fits-append n (λ q. f (suc q)) rest m (λ q. h (suc q)) r p
 
-pub counts-fit : (w : ℕ) (words : List ℕ) (p : ℕ) → at (unpackCounts w words) p < 256 ^ w
-unfolding unpackCounts
-counts-fit w [] p = pow-256-pos w
-counts-fit w (word ∷ words) p =
-    fits-append (8 / w) (part (8 * w) word) (unpackCounts w words) (256 ^ w) (part-lt w word) (counts-fit w words) p
+pub counts_fit : (w : ℕ) (words : List ℕ) (p : ℕ) → at (unpack_counts w words) p < 256 ^ w
+unfolding unpack_counts
+counts_fit w [] p = pow_256_pos w
+counts_fit w (word ∷ words) p =
+    fits-append (8 / w) (part (8 * w) word) (unpack_counts w words) (256 ^ w) (part-lt w word) (counts_fit w words) p

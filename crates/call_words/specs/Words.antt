@@ -9,10 +9,10 @@ part bits word i = word / 2 ^ (bits * i) % 2 ^ bits
 
 -- Counts of w bytes, as many as a word of eight bytes has, out of each word: eight out of two words for counts of two
 -- bytes, out of four for counts of four (02 [6]).
-unfoldable pub unpackCounts : (w : ℕ) (xs : List ℕ) → List ℕ
-unpackCounts w [] = []
-unpackCounts w (word ∷ words) = list_of (8 / w) (part (8 * w) word) ++ unpackCounts w words
+unfoldable pub unpack_counts : (w : ℕ) (xs : List ℕ) → List ℕ
+unpack_counts w [] = []
+unpack_counts w (word ∷ words) = list_of (8 / w) (part (8 * w) word) ++ unpack_counts w words
 
 -- Eight label bytes.
-unfoldable pub unpackLabels : (word : ℕ) → List ℕ
-unpackLabels word = list_of 8 (part 8 word)
+unfoldable pub unpack_labels : (word : ℕ) → List ℕ
+unpack_labels word = list_of 8 (part 8 word)

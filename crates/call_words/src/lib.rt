@@ -1,7 +1,7 @@
 // Counts and labels out of the words that C hands over.
 
 ghost use Rattle.std.specs.Prelude.{◌<◌, ◌≡◌, [], ◌∷◌};
-ghost use Rattle.call_words.specs.Words.{part, unpackCounts, unpackLabels};
+ghost use Rattle.call_words.specs.Words.{part, unpack_counts, unpack_labels};
 
 // The count in part i of a word: sixteen bits.
 fn count_in(word: u64, i: u32) -> u32
@@ -13,7 +13,7 @@ fn count_in(word: u64, i: u32) -> u32
 
 // Eight counts of two bytes out of two words.
 pub fn unpack_counts(low: u64, high: u64) -> [u32; 8]
-    ensures { result ≡ unpackCounts 2 (low ∷ high ∷ []) }
+    ensures { result ≡ unpack_counts 2 (low ∷ high ∷ []) }
 {
     [
         count_in(low, 0),
@@ -37,7 +37,7 @@ fn wide_count_in(word: u64, i: u32) -> u32
 
 // Eight counts of four bytes out of four words.
 pub fn unpack_wide_counts(c01: u64, c23: u64, c45: u64, c67: u64) -> [u32; 8]
-    ensures { result ≡ unpackCounts 4 (c01 ∷ c23 ∷ c45 ∷ c67 ∷ []) }
+    ensures { result ≡ unpack_counts 4 (c01 ∷ c23 ∷ c45 ∷ c67 ∷ []) }
 {
     [
         wide_count_in(c01, 0),
@@ -61,7 +61,7 @@ fn label_in(word: u64, i: u32) -> u8
 
 // Eight label bytes out of a word.
 pub fn unpack_labels(word: u64) -> [u8; 8]
-    ensures { result ≡ unpackLabels word }
+    ensures { result ≡ unpack_labels word }
 {
     [
         label_in(word, 0),

@@ -5,7 +5,7 @@ use Rattle.clocks.specs.Event.{involved, count}
 
 -- No process takes part in both.
 pub record Apart (e f : Event) : Type 0 where
-  pub none-common : (p : ℕ) → involved e p ≡ true → involved f p ≡ false
+  pub none_common : (p : ℕ) → involved e p ≡ true → involved f p ≡ false
 
 -- The clock of f counts e: it has reached e's count at a process of e.
 abbrev pub Counts : (f e : Event) → Type 0

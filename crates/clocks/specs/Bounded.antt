@@ -7,9 +7,9 @@ all_below zero t = true
 all_below (suc n) t = t n && all_below n t
 
 -- The test passes at some number below n.
-unfoldable pub anyBelow : (n : ℕ) (t : ℕ → Bool) → Bool
-anyBelow zero t = false
-anyBelow (suc n) t = t n || anyBelow n t
+unfoldable pub any_below : (n : ℕ) (t : ℕ → Bool) → Bool
+any_below zero t = false
+any_below (suc n) t = t n || any_below n t
 
 -- The test passes at some element.
 unfoldable pub any_of : {A : Type 0} → (t : A → Bool) → (xs : List A) → Bool

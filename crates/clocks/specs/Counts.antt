@@ -14,5 +14,5 @@ list_of (suc n) f = f 0 ∷ list_of n (λ p. f (suc p))
 
 -- One clock for each process, as a list of lists of counts (01, Clocks and cuts: the clock of each process's last
 -- event, eight counts for each of eight).
-abbrev pub clockRows : (ls : List (List ℕ)) (p : ℕ) → Cut
-clockRows ls p = at (get_or ls p [])
+abbrev pub clock_rows : (ls : List (List ℕ)) (p : ℕ) → Cut
+clock_rows ls p = at (get_or ls p [])

@@ -20,31 +20,31 @@ event [] p n = none
 event (e ∷ ts) p n = cond (is_number e ts p n) (some e) (event ts p n)
 
 -- What is read off an event that may be missing: d where it is.
-abbrev pub ofEvent : {A : Type 0} → (d : A) (v : Event → A) (e : Option Event) → A
-ofEvent d v none = d
-ofEvent d v (some e) = v e
+abbrev pub of_event : {A : Type 0} → (d : A) (v : Event → A) (e : Option Event) → A
+of_event d v none = d
+of_event d v (some e) = v e
 
 -- The clock of process p's event number n; zeros where there is none.
-unfoldable pub clockOf : (ts : List Event) (p n : ℕ) → Cut
-clockOf ts p n q = ofEvent 0 (λ e. count e q) (event ts p n)
+unfoldable pub clock_of : (ts : List Event) (p n : ℕ) → Cut
+clock_of ts p n q = of_event 0 (λ e. count e q) (event ts p n)
 
 -- The mask of process p's event number n; 0 where there is none (01, The window: masks).
 unfoldable pub mask_of : (ts : List Event) (p n : ℕ) → ℕ
-mask_of ts p n = ofEvent 0 (λ e. e.mask) (event ts p n)
+mask_of ts p n = of_event 0 (λ e. e.mask) (event ts p n)
 
 -- The propositions that hold at process p after its event number n; its start labels where there is none (01, The
 -- window: labels).
 unfoldable pub label_of : (start : Cut) (ts : List Event) (p n : ℕ) → ℕ
-label_of start ts p n = ofEvent (start p) (λ e. get_or e.labels p 0) (event ts p n)
+label_of start ts p n = of_event (start p) (λ e. get_or e.labels p 0) (event ts p n)
 
 -- The clock of process p's last event; zeros at the start (01: last clocks).
-unfoldable pub lastClock : (ts : List Event) (p : ℕ) → Cut
-lastClock ts p = clockOf ts p (taken ts p)
+unfoldable pub last_clock : (ts : List Event) (p : ℕ) → Cut
+last_clock ts p = clock_of ts p (taken ts p)
 
 -- A cut of the events taken that has, with an event, all that the event knows of (01: consistent cut).
 pub record Consistent (ts : List Event) (S : Cut) : Type 0 where
   pub within : (p : ℕ) → S p ≤ taken ts p
-  pub closed : (p q : ℕ) → clockOf ts p (S p) q ≤ S q
+  pub closed : (p q : ℕ) → clock_of ts p (S p) q ≤ S q
 
 -- The event is one of those taken.
 abbrev pub In : (e : Event) (ts : List Event) → Type 0

@@ -6,10 +6,10 @@ use Rattle.clocks.specs.Event.{Cut, one, involved, count}
 use Rattle.clocks.specs.Bounded.{all_below}
 
 -- The largest, count by count, of the clocks of those of the first n processes that are members.
-unfoldable pub joinTo : (n : ℕ) (member : ℕ → Bool) (last : ℕ → Cut) → Cut
-joinTo zero member last q = 0
-joinTo (suc p) member last q = cond (member p) (max (last p q) (joinTo p member last q)) (joinTo p member last q)
+unfoldable pub join_to : (n : ℕ) (member : ℕ → Bool) (last : ℕ → Cut) → Cut
+join_to zero member last q = 0
+join_to (suc p) member last q = cond (member p) (max (last p q) (join_to p member last q)) (join_to p member last q)
 
 -- The same as a test, of last clocks that stand somewhere.
-unfoldable pub joinedBy : (n : ℕ) (e : Event) (last : ℕ → Cut) → Bool
-joinedBy n e last = all_below n (λ q. eqb (count e q) (joinTo n (involved e) last q + one (involved e q)))
+unfoldable pub joined_by : (n : ℕ) (e : Event) (last : ℕ → Cut) → Bool
+joined_by n e last = all_below n (λ q. eqb (count e q) (join_to n (involved e) last q + one (involved e q)))

@@ -14,8 +14,8 @@ abbrev pub Kept : (k : ℕ) (opened : ℕ → Bool) (ts : List Event) (S : Cut) 
 Kept k opened ts S = Complete k opened ts S ⊎ (S ≡ taken ts)
 
 -- No process is closed.
-abbrev pub allOpen : (p : ℕ) → Bool
-allOpen p = true
+abbrev pub all_open : (p : ℕ) → Bool
+all_open p = true
 
 -- A consistent cut that is kept.
 pub record KeptCut (k : ℕ) (opened : ℕ → Bool) (ts : List Event) (S : Cut) : Type 0 where

@@ -16,5 +16,5 @@ unfoldable pub key_of : (e : Event) → Key
 key_of e = record { process = lowest e; count = at e.clock (lowest e) }
 
 -- One key comes before another: a lower process, or the same one and a lower count.
-unfoldable pub keyBefore : (a b : Key) → Bool
-keyBefore a b = ltb a.process b.process || (eqb a.process b.process && ltb a.count b.count)
+unfoldable pub key_before : (a b : Key) → Bool
+key_before a b = ltb a.process b.process || (eqb a.process b.process && ltb a.count b.count)

@@ -11,10 +11,10 @@ served k ts S = all_below k (λ p. any_of (λ f. involved f p && ready k f S) ts
 
 -- The source's sufficient condition for dropping, followed at most d events ahead: every process is served, or an
 -- enabled event leads to a cut that meets the condition.
-unfoldable pub redundantWithin : (n k : ℕ) (ts : List Event) (S : Cut) → Bool
-redundantWithin zero k ts S = served k ts S
-redundantWithin (suc d) k ts S = served k ts S || any_of (λ f. ready k f S && redundantWithin d k ts (apply f S)) ts
+unfoldable pub redundant_within : (n k : ℕ) (ts : List Event) (S : Cut) → Bool
+redundant_within zero k ts S = served k ts S
+redundant_within (suc d) k ts S = served k ts S || any_of (λ f. ready k f S && redundant_within d k ts (apply f S)) ts
 
 -- ... as far ahead as there are events.
 unfoldable pub redundant : (k : ℕ) (ts : List Event) (S : Cut) → Bool
-redundant k ts S = redundantWithin (length ts) k ts S
+redundant k ts S = redundant_within (length ts) k ts S

@@ -6,9 +6,9 @@ use Rattle.clocks.specs.Bounded.{all_below}
 use Rattle.clocks.specs.Counts.{at}
 
 -- The two events have the same count and the same label byte at process p.
-abbrev pub sameAt : (e f : Event) (p : ℕ) → Bool
-sameAt e f p = eqb (at e.clock p) (at f.clock p) && eqb (at e.labels p) (at f.labels p)
+abbrev pub same_at : (e f : Event) (p : ℕ) → Bool
+same_at e f p = eqb (at e.clock p) (at f.clock p) && eqb (at e.labels p) (at f.labels p)
 
 -- The two events are the same.
-unfoldable pub sameEvent : (e f : Event) → Bool
-sameEvent e f = eqb e.mask f.mask && all_below 8 (sameAt e f)
+unfoldable pub same_event : (e f : Event) → Bool
+same_event e f = eqb e.mask f.mask && all_below 8 (same_at e f)

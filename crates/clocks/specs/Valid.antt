@@ -22,7 +22,7 @@ pub record WellFormed (k : ℕ) (e : Event) : Type 0 where
 pub record Takeable (k : ℕ) (valid : List Event → Event → Type 0) (ts : List Event) (e : Event) : Type 0 where
   pub formed : WellFormed k e
   pub ready : Ready e (taken ts)
-  pub true-clock : valid ts e
+  pub true_clock : valid ts e
 
 -- A history of a watch: each event could be taken after those before it.
 abbrev pub History : (k : ℕ) (valid : List Event → Event → Type 0) (es : List Event) → Type 0

@@ -3,8 +3,8 @@
 ghost use Rattle.std.specs.Prelude.{max, ◌≡◌};
 ghost use Rattle.codec.specs.Bit.{bit};
 ghost use Rattle.clocks.specs.Bounds.{upper};
-ghost use Rattle.clocks.specs.Joined.{joinTo};
-ghost use Rattle.clocks.specs.Counts.{at, list_of, clockRows};
+ghost use Rattle.clocks.specs.Joined.{join_to};
+ghost use Rattle.clocks.specs.Counts.{at, list_of, clock_rows};
 
 // The larger of two counts.
 fn larger_count(a: u32, b: u32) -> u32
@@ -28,7 +28,7 @@ pub fn larger(a: [u32; 8], b: [u32; 8]) -> [u32; 8]
 
 // The largest, count by count, of the clocks of the processes in a mask.
 pub fn join(last: [[u32; 8]; 8], mask: u8) -> [u32; 8]
-    ensures { result ≡ list_of 8 (joinTo 8 (bit mask) (clockRows last)) }
+    ensures { result ≡ list_of 8 (join_to 8 (bit mask) (clock_rows last)) }
 {
     let word = mask as u64;
     let mut out = [0u32; 8];

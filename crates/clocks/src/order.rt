@@ -1,7 +1,7 @@
 // The order of the pending events (01, The window: held events).
 
 ghost use Rattle.std.specs.Prelude.{◌≡◌};
-ghost use Rattle.clocks.specs.Key.{key_of, keyBefore};
+ghost use Rattle.clocks.specs.Key.{key_of, key_before};
 
 use crate::{Event, Key};
 
@@ -19,7 +19,7 @@ pub fn key(e: Event) -> Key
 
 // Whether one key comes before another: a lower process, or the same one and a lower count.
 pub fn key_before(a: Key, b: Key) -> bool
-    ensures { result ≡ keyBefore a b }
+    ensures { result ≡ key_before a b }
 {
     if a.process < b.process {
         return true;

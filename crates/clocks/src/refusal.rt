@@ -1,15 +1,15 @@
 // What an event or start labels are turned back for (01, Turned back, from the input: 7, 8, 9).
 
 ghost use Rattle.std.specs.Prelude.{◌≤◌, ◌≡◌, not, ◌&&◌, ◌||◌, eqb};
-ghost use Rattle.clocks.specs.Refusal.{badMask, badClock, badLabels, badStart};
-ghost use Rattle.clocks.specs.RefusalCode.{eventFault};
+ghost use Rattle.clocks.specs.Refusal.{bad_mask, bad_clock, bad_labels, bad_start};
+ghost use Rattle.clocks.specs.RefusalCode.{event_fault};
 
 use numbers::refusal::{CLOCK, LABELS, MASK};
 
 // 7: the mask is 0, or has a bit from k up.
 pub fn bad_mask(k: u32, mask: u64) -> bool
     requires { k ≤ 8 }
-    ensures { result ≡ badMask k mask }
+    ensures { result ≡ bad_mask k mask }
 {
     if mask == 0 {
         return true;
@@ -26,7 +26,7 @@ fn bad_count(count: u32, involved: bool, beyond: bool) -> bool
 
 // 8: count 0 at a process that takes part, or not 0 from process k up.
 pub fn bad_clock(k: u32, mask: u64, clock: [u32; 8]) -> bool
-    ensures { result ≡ badClock k mask clock }
+    ensures { result ≡ bad_clock k mask clock }
 {
     let mut p: u32 = 0;
     while p < 8 {
@@ -47,7 +47,7 @@ fn stray(outside: bool, label: u8) -> bool
 
 // 9, of an event: a label byte not 0 at a process that does not take part.
 pub fn bad_labels(mask: u64, labels: [u8; 8]) -> bool
-    ensures { result ≡ badLabels mask labels }
+    ensures { result ≡ bad_labels mask labels }
 {
     let mut p: u32 = 0;
     while p < 8 {
@@ -61,7 +61,7 @@ pub fn bad_labels(mask: u64, labels: [u8; 8]) -> bool
 
 // 9, at open: a label byte not 0 from process k up.
 pub fn bad_start(k: u32, labels: [u8; 8]) -> bool
-    ensures { result ≡ badStart k labels }
+    ensures { result ≡ bad_start k labels }
 {
     let mut p: u32 = 0;
     while p < 8 {
@@ -76,7 +76,7 @@ pub fn bad_start(k: u32, labels: [u8; 8]) -> bool
 // The number that an event is turned back with, in their order; 0 for none.
 pub fn event_fault(k: u32, mask: u64, clock: [u32; 8], labels: [u8; 8]) -> u64
     requires { k ≤ 8 }
-    ensures { result ≡ eventFault k mask clock labels }
+    ensures { result ≡ event_fault k mask clock labels }
 {
     if bad_mask(k, mask) {
         return MASK;

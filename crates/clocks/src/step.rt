@@ -20,7 +20,7 @@ pub fn is_next(n: u32, c: u32) -> bool
 
 // What one process asks of an event with count n there, at a cut with count c there.
 fn ready_at(involved: bool, n: u32, c: u32) -> bool
-    ensures { result ≡ tested.readyAt involved n c }
+    ensures { result ≡ tested.ready_at involved n c }
 {
     if involved {
         return is_next(n, c);

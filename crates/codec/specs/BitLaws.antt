@@ -34,20 +34,20 @@ digits P p q r s (suc zero) (suc zero) h l = s
 digits P p q r s (suc zero) (suc (suc y)) h l = absurd (omega arith)
 digits P p q r s (suc (suc x)) y h l = absurd (omega arith)
 
-same-digit : (a b : ℕ) → eqb (a % 2) 1 ≡ eqb (b % 2) 1 → a % 2 ≡ b % 2
-same-digit a b =
+same_digit : (a b : ℕ) → eqb (a % 2) 1 ≡ eqb (b % 2) 1 → a % 2 ≡ b % 2
+same_digit a b =
     digits (λ x y. eqb x 1 ≡ eqb y 1 → x ≡ y) (λ e. refl) (λ e. absurd (false≢true e)) (λ e. absurd (true≢false e)) (λ e. refl)
     (a % 2) (b % 2) (omega arith) (omega arith)
 
 -- ---- Of two masks
 
 -- An operation that goes digit by digit, by f, goes bit by bit, by g, where g is f as a test.
-bit-of : (op f : ℕ → ℕ → ℕ) (g : Bool → Bool → Bool) → ((a b k : ℕ) → op a b / 2 ^ k ≡ op (a / 2 ^ k) (b / 2 ^ k))
+bit_of : (op f : ℕ → ℕ → ℕ) (g : Bool → Bool → Bool) → ((a b k : ℕ) → op a b / 2 ^ k ≡ op (a / 2 ^ k) (b / 2 ^ k))
     → ((a b : ℕ) → op a b ≡ op (a / 2) (b / 2) * 2 + f (a % 2) (b % 2))
     → ((x y : ℕ) → x < 2 → y < 2 → (f x y < 2) × (eqb (f x y) 1 ≡ g (eqb x 1) (eqb y 1)))
     → (a b p : ℕ) → bit (op a b) p ≡ g (bit a p) (bit b p)
 unfolding bit
-bit-of op f g shr step test a b p =
+bit_of op f g shr step test a b p =
     let x : ℕ = a / 2 ^ p in
     let y : ℕ = b / 2 ^ p in
     let here = test (x % 2) (y % 2) (omega arith) (omega arith) in
@@ -56,70 +56,70 @@ bit-of op f g shr step test a b p =
 
 pub bit-or : (a b p : ℕ) → bit (bit_or a b) p ≡ (bit a p || bit b p)
 bit-or =
-    bit-of bit_or max ◌||◌ or_shr or_step
+    bit_of bit_or max ◌||◌ or_shr or_step
     (digits (λ x y. (max x y < 2) × (eqb (max x y) 1 ≡ (eqb x 1 || eqb y 1))) (lit< tt, refl) (lit< tt, refl) (lit< tt, refl) (lit< tt, refl))
 
 pub bit-and : (a b p : ℕ) → bit (bit_and a b) p ≡ (bit a p && bit b p)
 bit-and =
-    bit-of bit_and min ◌&&◌ and_shr and_step
+    bit_of bit_and min ◌&&◌ and_shr and_step
     (digits (λ x y. (min x y < 2) × (eqb (min x y) 1 ≡ (eqb x 1 && eqb y 1))) (lit< tt, refl) (lit< tt, refl) (lit< tt, refl) (lit< tt, refl))
 
 -- ---- Masks with the same bits are equal
 
 halves : (a b : ℕ) → bit a 0 ≡ bit b 0 → a / 2 ≡ b / 2 → a ≡ b
-halves a b e h = omega (arith, same-digit a b (sym (bit-first a) ∙ e ∙ bit-first b))
+halves a b e h = omega (arith, same_digit a b (sym (bit-first a) ∙ e ∙ bit-first b))
 
 pub bits_none : (m : ℕ) → ((p : ℕ) → bit m p ≡ false) → m ≡ 0
 bits_none =
     bin_ind (λ m. ((p : ℕ) → bit m p ≡ false) → m ≡ 0) (λ h. refl)
     (λ m ih h. halves m 0 (h 0 ∙ sym (bit-zero 0)) (ih (λ p. sym (bit-suc m p) ∙ h (suc p))))
 
-pub bits-equal : (a b : ℕ) → ((p : ℕ) → bit a p ≡ bit b p) → a ≡ b
-bits-equal =
+pub bits_equal : (a b : ℕ) → ((p : ℕ) → bit a p ≡ bit b p) → a ≡ b
+bits_equal =
     bin_ind (λ a. (b : ℕ) → ((p : ℕ) → bit a p ≡ bit b p) → a ≡ b)
     (λ b h. sym (bits_none b (λ p. sym (h p) ∙ bit-zero p)))
     (λ a ih b h. halves a b (h 0) (ih (b / 2) (λ p. sym (bit-suc a p) ∙ h (suc p) ∙ bit-suc b p)))
 
 -- ---- Bounds
 
-pub bit-above : (m k p : ℕ) → m < 2 ^ k → k ≤ p → bit m p ≡ false
+pub bit_above : (m k p : ℕ) → m < 2 ^ k → k ≤ p → bit m p ≡ false
 unfolding bit
-bit-above m k p h l = rw (div-eq_of_lt (lt_of_lt_of_le h (pow_mono l)))
+bit_above m k p h l = rw (div-eq_of_lt (lt_of_lt_of_le h (pow_mono l)))
 
-pub lt-of-bits : (k m : ℕ) → ((p : ℕ) → k ≤ p → bit m p ≡ false) → m < 2 ^ k
-lt-of-bits zero m h = omega (arith, bits_none m (λ p. h p zero-le))
-lt-of-bits (suc k) m h =
-    rw pow-suc (omega (arith, lt-of-bits k (m / 2) (λ p l. sym (bit-suc m p) ∙ h (suc p) (suc-le-suc l))))
+pub lt_of_bits : (k m : ℕ) → ((p : ℕ) → k ≤ p → bit m p ≡ false) → m < 2 ^ k
+lt_of_bits zero m h = omega (arith, bits_none m (λ p. h p zero-le))
+lt_of_bits (suc k) m h =
+    rw pow-suc (omega (arith, lt_of_bits k (m / 2) (λ p l. sym (bit-suc m p) ∙ h (suc p) (suc-le-suc l))))
 
-pub below-iff-bits : (m k : ℕ) → (m < 2 ^ k) ↔ ((p : ℕ) → k ≤ p → bit m p ≡ false)
-below-iff-bits m k = (λ h p l. bit-above m k p h l, lt-of-bits k m)
+pub below_iff_bits : (m k : ℕ) → (m < 2 ^ k) ↔ ((p : ℕ) → k ≤ p → bit m p ≡ false)
+below_iff_bits m k = (λ h p l. bit_above m k p h l, lt_of_bits k m)
 
 -- ---- Setting the top bit
 
-pub bit-top : (v i : ℕ) → v < 2 ^ i → bit (v + 2 ^ i) i ≡ true
+pub bit_top : (v i : ℕ) → v < 2 ^ i → bit (v + 2 ^ i) i ≡ true
 unfolding bit
-bit-top v i h = rw (add-div_right v (pow_pos i), div-eq_of_lt h)
+bit_top v i h = rw (add-div_right v (pow_pos i), div-eq_of_lt h)
 
-pub bit-under-top : (v i j : ℕ) → j < i → bit (v + 2 ^ i) j ≡ bit v j
-bit-under-top v zero j h = absurd (omega arith)
-bit-under-top v (suc i) zero h =
+pub bit_under_top : (v i j : ℕ) → j < i → bit (v + 2 ^ i) j ≡ bit v j
+bit_under_top v zero j h = absurd (omega arith)
+bit_under_top v (suc i) zero h =
     let low : (v + 2 ^ suc i) % 2 ≡ v % 2 = omega (arith, pow-suc 2 i) in
     rw (bit-first v, bit-first (v + 2 ^ suc i), low)
-bit-under-top v (suc i) (suc j) h =
+bit_under_top v (suc i) (suc j) h =
     let half : (v + 2 ^ suc i) / 2 ≡ v / 2 + 2 ^ i = omega (arith, pow-suc 2 i) in
-    rw (bit-suc v j, bit-suc (v + 2 ^ suc i) j, half) (bit-under-top (v / 2) i j (le_of_suc-le-suc h))
+    rw (bit-suc v j, bit-suc (v + 2 ^ suc i) j, half) (bit_under_top (v / 2) i j (le_of_suc-le-suc h))
 
-pub bit-top-other : (v i j : ℕ) → v < 2 ^ i → j ≢ i → bit (v + 2 ^ i) j ≡ bit v j
-bit-top-other v i j h l = go (dec_lt j i)
+pub bit_top_other : (v i j : ℕ) → v < 2 ^ i → j ≢ i → bit (v + 2 ^ i) j ≡ bit v j
+bit_top_other v i j h l = go (dec_lt j i)
   where
     go : Dec (j < i) → bit (v + 2 ^ i) j ≡ bit v j
-    go (yes under) = bit-under-top v i j under
-    go (no not-under) =
-        rw (bit-above v i j h (omega arith), bit-above (v + 2 ^ i) (suc i) j (omega (arith, pow-suc 2 i)) (omega arith))
+    go (yes under) = bit_under_top v i j under
+    go (no not_under) =
+        rw (bit_above v i j h (omega arith), bit_above (v + 2 ^ i) (suc i) j (omega (arith, pow-suc 2 i)) (omega arith))
 
 -- A mask of one bit.
-pub bit-power : (i : ℕ) → bit (2 ^ i) i ≡ true
-bit-power i = rw zero-add at (bit-top 0 i (pow_pos i))
+pub bit_power : (i : ℕ) → bit (2 ^ i) i ≡ true
+bit_power i = rw zero-add at (bit_top 0 i (pow_pos i))
 
-pub bit-power-other : (i j : ℕ) → j ≢ i → bit (2 ^ i) j ≡ false
-bit-power-other i j h = rw (zero-add, bit-zero) at (bit-top-other 0 i j (pow_pos i) h)
+pub bit_power_other : (i j : ℕ) → j ≢ i → bit (2 ^ i) j ≡ false
+bit_power_other i j h = rw (zero-add, bit-zero) at (bit_top_other 0 i j (pow_pos i) h)

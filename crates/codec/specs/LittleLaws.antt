@@ -7,65 +7,65 @@ use Rattle.std.proofs.Math.Arith.{mod-mul}
 use Rattle.codec.specs.Little.{bytes_of, value_of, Bytes}
 
 -- 256 to the width is positive.
-pub pow-256-pos : (n : ℕ) → 0 < 256 ^ n
-pow-256-pos n = one-le-pow n 256 (lit< tt)
+pub pow_256_pos : (n : ℕ) → 0 < 256 ^ n
+pow_256_pos n = one-le-pow n 256 (lit< tt)
 
-pub length-bytesOf : (n v : ℕ) → length (bytes_of n v) ≡ n
+pub length-bytes_of : (n v : ℕ) → length (bytes_of n v) ≡ n
 unfolding bytes_of
-length-bytesOf zero v = refl
-length-bytesOf (suc n) v = ap suc (length-bytesOf n (v / 256))
+length-bytes_of zero v = refl
+length-bytes_of (suc n) v = ap suc (length-bytes_of n (v / 256))
 
 -- The bytes of a number are bytes.
-pub Bytes-bytesOf : (n v : ℕ) → Bytes (bytes_of n v)
+pub Bytes-bytes_of : (n v : ℕ) → Bytes (bytes_of n v)
 unfolding bytes_of
-Bytes-bytesOf zero v i = omega arith
-Bytes-bytesOf (suc n) v zero = omega arith
-Bytes-bytesOf (suc n) v (suc i) = Bytes-bytesOf n (v / 256) i
+Bytes-bytes_of zero v i = omega arith
+Bytes-bytes_of (suc n) v zero = omega arith
+Bytes-bytes_of (suc n) v (suc i) = Bytes-bytes_of n (v / 256) i
 
 -- A number comes back from its bytes, without what the width does not hold.
-pub valueOf-bytesOf-mod : (n v : ℕ) → value_of (bytes_of n v) ≡ v % 256 ^ n
+pub value_of-bytes_of-mod_lem : (n v : ℕ) → value_of (bytes_of n v) ≡ v % 256 ^ n
 unfolding bytes_of value_of
-valueOf-bytesOf-mod zero v = sym (mod-one v)
-valueOf-bytesOf-mod (suc n) v =
-    rw (pow-suc, mod-mul v (pow-256-pos n) (lit< tt), valueOf-bytesOf-mod n (v / 256)) (omega arith)
+value_of-bytes_of-mod_lem zero v = sym (mod-one v)
+value_of-bytes_of-mod_lem (suc n) v =
+    rw (pow-suc, mod-mul v (pow_256_pos n) (lit< tt), value_of-bytes_of-mod_lem n (v / 256)) (omega arith)
 
-pub valueOf-bytesOf : (n v : ℕ) → v < 256 ^ n → value_of (bytes_of n v) ≡ v
-valueOf-bytesOf n v h = valueOf-bytesOf-mod n v ∙ mod-eq_of_lt h
+pub value_of-bytes_of_lem : (n v : ℕ) → v < 256 ^ n → value_of (bytes_of n v) ≡ v
+value_of-bytes_of_lem n v h = value_of-bytes_of-mod_lem n v ∙ mod-eq_of_lt h
 
 -- Bytes come back from their number.
-pub bytesOf-valueOf : (bs : List ℕ) → Bytes bs → bytes_of (length bs) (value_of bs) ≡ bs
+pub bytes_of-value_of_lem : (bs : List ℕ) → Bytes bs → bytes_of (length bs) (value_of bs) ≡ bs
 unfolding bytes_of value_of
-bytesOf-valueOf [] h = refl
-bytesOf-valueOf (b ∷ bs) h =
+bytes_of-value_of_lem [] h = refl
+bytes_of-value_of_lem (b ∷ bs) h =
     let h₀ : b < 256 = h 0 in
     let low : (b + 256 * value_of bs) % 256 ≡ b = omega arith in
     let high : (b + 256 * value_of bs) / 256 ≡ value_of bs = omega arith in
-    rw (low, high, bytesOf-valueOf bs (λ i. h (suc i)))
+    rw (low, high, bytes_of-value_of_lem bs (λ i. h (suc i)))
 
 -- What the width does not hold makes no difference to the bytes.
 pub bytes_of_mod : (n v : ℕ) → bytes_of n (v % 256 ^ n) ≡ bytes_of n v
 bytes_of_mod n v =
-    rw (length-bytesOf n v, valueOf-bytesOf-mod n v) at (bytesOf-valueOf (bytes_of n v) (Bytes-bytesOf n v))
+    rw (length-bytes_of n v, value_of-bytes_of-mod_lem n v) at (bytes_of-value_of_lem (bytes_of n v) (Bytes-bytes_of n v))
 
 -- Bytes are below what their width holds.
-pub valueOf-lt : (bs : List ℕ) → Bytes bs → value_of bs < 256 ^ length bs
+pub value_of-lt_lem : (bs : List ℕ) → Bytes bs → value_of bs < 256 ^ length bs
 unfolding value_of
-valueOf-lt [] h = lit< tt
-valueOf-lt (b ∷ bs) h =
+value_of-lt_lem [] h = lit< tt
+value_of-lt_lem (b ∷ bs) h =
     let h₀ : b < 256 = h 0 in
-    rw pow-suc (omega (arith, valueOf-lt bs (λ i. h (suc i))))
+    rw pow-suc (omega (arith, value_of-lt_lem bs (λ i. h (suc i))))
 
 -- Two runs of bytes, one after the other.
-pub valueOf-append : (xs ys : List ℕ) → value_of (xs ++ ys) ≡ value_of xs + 256 ^ length xs * value_of ys
+pub value_of-append_lem : (xs ys : List ℕ) → value_of (xs ++ ys) ≡ value_of xs + 256 ^ length xs * value_of ys
 unfolding value_of
-valueOf-append [] ys = omega arith
-valueOf-append (x ∷ xs) ys =
-    rw (pow-succ', mul_assoc 256 (256 ^ length xs) (value_of ys), valueOf-append xs ys) (omega arith)
+value_of-append_lem [] ys = omega arith
+value_of-append_lem (x ∷ xs) ys =
+    rw (pow-succ', mul_assoc 256 (256 ^ length xs) (value_of ys), value_of-append_lem xs ys) (omega arith)
 
-pub bytesOf-add : (m n v : ℕ) → bytes_of (m + n) v ≡ bytes_of m v ++ bytes_of n (v / 256 ^ m)
+pub bytes_of-add_lem : (m n v : ℕ) → bytes_of (m + n) v ≡ bytes_of m v ++ bytes_of n (v / 256 ^ m)
 unfolding bytes_of
-bytesOf-add zero n v = rw (zero-add, div-one)
-bytesOf-add (suc m) n v = rw (suc-add, pow-succ', ← div-div-eq-div-mul v 256 (256 ^ m), bytesOf-add m n (v / 256))
+bytes_of-add_lem zero n v = rw (zero-add, div-one)
+bytes_of-add_lem (suc m) n v = rw (suc-add, pow-succ', ← div-div-eq-div-mul v 256 (256 ^ m), bytes_of-add_lem m n (v / 256))
 
 -- Parts of a list of bytes, and bytes stored in it, are bytes.
 pub Bytes-drop : (n : ℕ) (s : List ℕ) → Bytes s → Bytes (drop n s)

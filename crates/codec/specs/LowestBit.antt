@@ -15,8 +15,8 @@ unfolding count_trailing_zeros
 trailing_even k m h = rw h
 
 -- Case split on the lowest digit.
-by-digit : {P : Type 0} (m : ℕ) → (m % 2 ≡ 0 → P) → (m % 2 ≡ 1 → P) → P
-by-digit {P} m f g = go (m % 2) refl
+by_digit : {P : Type 0} (m : ℕ) → (m % 2 ≡ 0 → P) → (m % 2 ≡ 1 → P) → P
+by_digit {P} m f g = go (m % 2) refl
   where
     go : (d : ℕ) → m % 2 ≡ d → P
     go zero e = f e
@@ -28,26 +28,26 @@ pub trailing_lt : (w m : ℕ) → 0 < m → m < 2 ^ w → count_trailing_zeros w
 trailing_lt zero m p h = absurd (omega arith)
 trailing_lt (suc w) m p h =
     let b : m < 2 ^ w * 2 = rw pow-suc at h in
-    by-digit m
+    by_digit m
     (λ e. rw (trailing_even w m e) (suc-le-suc (trailing_lt w (m / 2) (omega arith) (omega arith))))
     (λ e. rw (trailing_odd w m e) (omega arith))
 
 -- No bit below it is set,
-pub bit-below-trailing : (w m q : ℕ) → q < count_trailing_zeros w m → bit m q ≡ false
+pub bit_below_trailing : (w m q : ℕ) → q < count_trailing_zeros w m → bit m q ≡ false
 unfolding count_trailing_zeros
-bit-below-trailing zero m q h = absurd (omega arith)
-bit-below-trailing (suc w) m zero h =
-    by-digit m (λ e. rw (bit-first m, e)) (λ e. absurd (omega (arith, trailing_odd w m e)))
-bit-below-trailing (suc w) m (suc q) h =
-    by-digit m
-    (λ e. bit-suc m q ∙ bit-below-trailing w (m / 2) q (omega (arith, trailing_even w m e)))
+bit_below_trailing zero m q h = absurd (omega arith)
+bit_below_trailing (suc w) m zero h =
+    by_digit m (λ e. rw (bit-first m, e)) (λ e. absurd (omega (arith, trailing_odd w m e)))
+bit_below_trailing (suc w) m (suc q) h =
+    by_digit m
+    (λ e. bit-suc m q ∙ bit_below_trailing w (m / 2) q (omega (arith, trailing_even w m e)))
     (λ e. absurd (omega (arith, trailing_odd w m e)))
 
 -- and it is.
 pub bit-trailing : (w m : ℕ) → count_trailing_zeros w m < w → bit m (count_trailing_zeros w m) ≡ true
 bit-trailing zero m h = absurd (omega arith)
 bit-trailing (suc w) m h =
-    by-digit m
+    by_digit m
     (λ e. rw (trailing_even w m e, bit-suc m (count_trailing_zeros w (m / 2))) (bit-trailing w (m / 2) (omega (arith, trailing_even w m e))))
     (λ e. rw (trailing_odd w m e, bit-first m, e))
 
@@ -55,10 +55,10 @@ le_of_not_lt : {a b : ℕ} → ¬ (b < a) → a ≤ b
 le_of_not_lt h = omega arith
 
 -- It is the only place of which these hold.
-pub trailing-unique : (w m p : ℕ) → p < w → bit m p ≡ true → ((q : ℕ) → q < p → bit m q ≡ false) → count_trailing_zeros w m ≡ p
-trailing-unique w m p h set clear =
-    let not-above : count_trailing_zeros w m ≤ p = le_of_not_lt (λ l. true≢false (sym set ∙ bit-below-trailing w m p l)) in
-    let not-below : p ≤ count_trailing_zeros w m = le_of_not_lt (λ l. true≢false (sym (bit-trailing w m (omega arith)) ∙ clear (count_trailing_zeros w m) l)) in
+pub trailing_unique : (w m p : ℕ) → p < w → bit m p ≡ true → ((q : ℕ) → q < p → bit m q ≡ false) → count_trailing_zeros w m ≡ p
+trailing_unique w m p h set clear =
+    let not_above : count_trailing_zeros w m ≤ p = le_of_not_lt (λ l. true≢false (sym set ∙ bit_below_trailing w m p l)) in
+    let not_below : p ≤ count_trailing_zeros w m = le_of_not_lt (λ l. true≢false (sym (bit-trailing w m (omega arith)) ∙ clear (count_trailing_zeros w m) l)) in
     omega arith
 
 lt-pow : (n : ℕ) → n < 2 ^ n

@@ -6,13 +6,13 @@ use Rattle.std.proofs.Math.Seq.{take-nil, take-set-lt}
 use Rattle.std.proofs.lemmas.List.{set_comm, take-set-le, drop-set-add}
 
 module _ {ℓ} {A : Type ℓ} where
-  sets-nil : (at : ℕ) (vs : List A) → sets [] at vs ≡ []
-  sets-nil at [] = refl
-  sets-nil at (v ∷ vs) = sets-nil (suc at) vs
+  sets_nil : (at : ℕ) (vs : List A) → sets [] at vs ≡ []
+  sets_nil at [] = refl
+  sets_nil at (v ∷ vs) = sets_nil (suc at) vs
 
-  sets-cons : (x : A) (xs : List A) (at : ℕ) (vs : List A) → sets (x ∷ xs) (suc at) vs ≡ x ∷ sets xs at vs
-  sets-cons x xs at [] = refl
-  sets-cons x xs at (v ∷ vs) = sets-cons x (set xs at v) (suc at) vs
+  sets_cons : (x : A) (xs : List A) (at : ℕ) (vs : List A) → sets (x ∷ xs) (suc at) vs ≡ x ∷ sets xs at vs
+  sets_cons x xs at [] = refl
+  sets_cons x xs at (v ∷ vs) = sets_cons x (set xs at v) (suc at) vs
 
   -- Two adjacent runs are one.
   pub sets-append : (s : List A) (at : ℕ) (xs ys : List A) → sets (sets s at xs) (at + length xs) ys ≡ sets s at (xs ++ ys)
@@ -21,10 +21,10 @@ module _ {ℓ} {A : Type ℓ} where
 
   -- What stands there already, stored again, changes nothing.
   pub sets_same : (s : List A) (at n : ℕ) → sets s at (take n (drop at s)) ≡ s
-  sets_same [] at n = sets-nil at (take n (drop at []))
+  sets_same [] at n = sets_nil at (take n (drop at []))
   sets_same (x ∷ xs) zero zero = refl
-  sets_same (x ∷ xs) zero (suc n) = sets-cons x xs 0 (take n xs) ∙ ap (λ (l : List A). x ∷ l) (sets_same xs zero n)
-  sets_same (x ∷ xs) (suc at) n = sets-cons x xs at (take n (drop at xs)) ∙ ap (λ (l : List A). x ∷ l) (sets_same xs at n)
+  sets_same (x ∷ xs) zero (suc n) = sets_cons x xs 0 (take n xs) ∙ ap (λ (l : List A). x ∷ l) (sets_same xs zero n)
+  sets_same (x ∷ xs) (suc at) n = sets_cons x xs at (take n (drop at xs)) ∙ ap (λ (l : List A). x ∷ l) (sets_same xs at n)
 
   -- Stores into the part from a on are stores into the whole.
   pub sets-tail : (xs : List A) (a i : ℕ) (bs : List A) → take a xs ++ sets (drop a xs) i bs ≡ sets xs (a + i) bs
@@ -33,15 +33,15 @@ module _ {ℓ} {A : Type ℓ} where
       rw (← drop-set-add a xs i b, ← take-set-le a xs (a + i) b (omega arith), ← add-suc) (sets-tail (set xs (a + i) b) a (suc i) bs)
 
   -- Stores into the first k are stores into the whole.
-  pub sets-front : (l : List A) (k i : ℕ) (bs : List A) → i + length bs ≤ k → sets (take k l) i bs ++ drop k l ≡ sets l i bs
-  sets-front l k i [] h = take-append-drop k l
-  sets-front l k i (b ∷ bs) h =
-      rw (← take-set-lt k l i b (omega arith), ← drop-set-lt k l i b (omega arith)) (sets-front (set l i b) k (suc i) bs (omega arith))
+  pub sets_front : (l : List A) (k i : ℕ) (bs : List A) → i + length bs ≤ k → sets (take k l) i bs ++ drop k l ≡ sets l i bs
+  sets_front l k i [] h = take-append-drop k l
+  sets_front l k i (b ∷ bs) h =
+      rw (← take-set-lt k l i b (omega arith), ← drop-set-lt k l i b (omega arith)) (sets_front (set l i b) k (suc i) bs (omega arith))
 
   -- Stores into a part that was lent, the k elements from a on, are stores into the whole.
-  pub sets-middle : (xs : List A) (a k i : ℕ) (bs : List A) → i + length bs ≤ k
+  pub sets_middle : (xs : List A) (a k i : ℕ) (bs : List A) → i + length bs ≤ k
       → take a xs ++ (sets (take k (drop a xs)) i bs ++ drop k (drop a xs)) ≡ sets xs (a + i) bs
-  sets-middle xs a k i bs h = rw (sets-front (drop a xs) k i bs h) (sets-tail xs a i bs)
+  sets_middle xs a k i bs h = rw (sets_front (drop a xs) k i bs h) (sets-tail xs a i bs)
 
   -- What stands before and after the run is as it was.
   pub take-sets : (a : ℕ) (s : List A) (at : ℕ) (bs : List A) → a ≤ at → take a (sets s at bs) ≡ take a s
@@ -57,10 +57,10 @@ module _ {ℓ} {A : Type ℓ} where
   get_d_sets_before s at (b ∷ bs) i d h =
       get_d_sets_before (set s at b) (suc at) bs i d (omega arith) ∙ get_or-set_other s at i b d (omega arith)
 
-  pub getD-sets-after : (s : List A) (at : ℕ) (bs : List A) (i : ℕ) (d : A) → at + length bs ≤ i → get_or (sets s at bs) i d ≡ get_or s i d
-  getD-sets-after s at [] i d h = refl
-  getD-sets-after s at (b ∷ bs) i d h =
-      getD-sets-after (set s at b) (suc at) bs i d (omega arith) ∙ get_or-set_other s at i b d (omega arith)
+  pub get_d_sets-after : (s : List A) (at : ℕ) (bs : List A) (i : ℕ) (d : A) → at + length bs ≤ i → get_or (sets s at bs) i d ≡ get_or s i d
+  get_d_sets-after s at [] i d h = refl
+  get_d_sets-after s at (b ∷ bs) i d h =
+      get_d_sets-after (set s at b) (suc at) bs i d (omega arith) ∙ get_or-set_other s at i b d (omega arith)
 
   -- The run itself stands where it was stored.
   pub part-sets : (s : List A) (at : ℕ) (bs : List A) → at + length bs ≤ length s → take (length bs) (drop at (sets s at bs)) ≡ bs
@@ -87,11 +87,11 @@ module _ {ℓ} {A : Type ℓ} where
       set-sets (set s at x) i y (suc at) xs (omega arith)
       ∙ ap (λ (l : List A). sets l (suc at) xs) (set_comm s at i x y (omega arith))
 
-  pub sets-comm : (s : List A) (at : ℕ) (xs : List A) (at' : ℕ) (ys : List A) → at + length xs ≤ at'
+  pub sets_comm : (s : List A) (at : ℕ) (xs : List A) (at' : ℕ) (ys : List A) → at + length xs ≤ at'
       → sets (sets s at xs) at' ys ≡ sets (sets s at' ys) at xs
-  sets-comm s at [] at' ys h = refl
-  sets-comm s at (x ∷ xs) at' ys h =
-      rw (set-sets s at x at' ys (omega arith)) (sets-comm (set s at x) (suc at) xs at' ys (omega arith))
+  sets_comm s at [] at' ys h = refl
+  sets_comm s at (x ∷ xs) at' ys h =
+      rw (set-sets s at x at' ys (omega arith)) (sets_comm (set s at x) (suc at) xs at' ys (omega arith))
 
   pub sets-sets : (s : List A) (at : ℕ) (xs ys : List A) → length xs ≡ length ys → sets (sets s at xs) at ys ≡ sets s at ys
   sets-sets s at [] ys h = refl
@@ -108,7 +108,7 @@ module _ {ℓ} {A : Type ℓ} where
       ∙ rw set-set)
 
   -- A whole list stored over another.
-  pub sets-whole : (s bs : List A) → length bs ≡ length s → sets s 0 bs ≡ bs
-  sets-whole s bs e =
+  pub sets_whole : (s bs : List A) → length bs ≡ length s → sets s 0 bs ≡ bs
+  sets_whole s bs e =
       sets-eq bs s 0 (omega arith)
       ∙ rw (zero-add (length bs), drop_of_length-le s {i = length bs} (omega arith)) (append-nil bs)

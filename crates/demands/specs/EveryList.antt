@@ -3,24 +3,24 @@ use Rattle.std.specs.Prelude.{ℕ, ◌<◌, ◌≡◌, Bool, true, false, length
 use mathlib.Core.List.{List, ◌∷◌, Memᴰ, ◌++◌}
 use Rattle.codec.specs.Bit.{bit}
 use Rattle.clocks.specs.Counts.{at}
-use Rattle.call_open.specs.Open.{openCall}
-use Rattle.answers.specs.Answer.{state, Answer, nothingReady}
+use Rattle.call_open.specs.Open.{open_call}
+use Rattle.answers.specs.Answer.{state, Answer, nothing_ready}
 use Rattle.demands.specs.Ledger.{occurrences}
 use Rattle.demands.specs.Run.{Call, Passed, Watch, run, opened}
 use Rattle.clocks.specs.declared.Event.{Event}
 use Rattle.rules.specs.Formula.{Formula}
 use Rattle.rules.specs.Text.{text_of}
-use Rattle.rules.specs.Reader.{readRule, formed}
+use Rattle.rules.specs.Reader.{read_rule, formed}
 use Rattle.clocks.specs.Event.{Cut, involved}
 use Rattle.demands.specs.World.{Open}
-use Rattle.refusals.specs.Refusals.{badWindowLength}
-use Rattle.call_take.specs.Take.{takeCapped, Taken}
+use Rattle.refusals.specs.Refusals.{bad_window_length}
+use Rattle.call_take.specs.Take.{take_capped, Taken}
 
 -- Open accepted the text, the number of processes and the start labels (01: answers as for a taken event).
 abbrev pub Accepts : (w : ℕ) (text : List ℕ) (k : ℕ) (labels s window : List ℕ) → Type 0
 Accepts w text k labels s window =
     (counts : List ℕ) × (truth : Bool) × (kept : ℕ)
-    × ((openCall w text k labels s window).answer ≡ state counts truth kept)
+    × ((open_call w text k labels s window).answer ≡ state counts truth kept)
 
 -- The start labels are such as the machine passes: eight bytes.
 abbrev pub EightBytes : (labels : List ℕ) → Type 0
@@ -31,12 +31,12 @@ abbrev pub AllPassed : (w : ℕ) (cs : List Call) → Type 0
 AllPassed w cs = (c : Call) → Memᴰ c cs → Passed w c
 
 -- The watch at the end of a list of calls after open.
-abbrev pub atEnd : (w : ℕ) (text : List ℕ) (k : ℕ) (labels s window : List ℕ) (cs : List Call) → Watch
-atEnd w text k labels s window cs = run w cs (opened (openCall w text k labels s window))
+abbrev pub at_end : (w : ℕ) (text : List ℕ) (k : ℕ) (labels s window : List ℕ) (cs : List Call) → Watch
+at_end w text k labels s window cs = run w cs (opened (open_call w text k labels s window))
 
 -- The last answer was "nothing ready".
 abbrev pub EndsQuiet : (W : Watch) → Type 0
-EndsQuiet W = (prior : List Answer) × (W.answers ≡ nothingReady ∷ prior)
+EndsQuiet W = (prior : List Answer) × (W.answers ≡ nothing_ready ∷ prior)
 
 -- Each event, by mask, clock and labels, was accepted as often in one list as in the other.
 abbrev pub SameAccepted : (Y Z : Watch) → Type 0
@@ -60,20 +60,20 @@ abbrev pub AfterEveryList : (P : ℕ → ℕ → Formula → Cut → Watch → T
 AfterEveryList P =
     (w : ℕ) → 0 < w → (text : List ℕ) (k : ℕ) (labels : List ℕ) → EightBytes labels
     → (s window : List ℕ) → Accepts w text k labels s window → (cs : List Call) → AllPassed w cs
-    → (f : Formula) × (i : ℕ) × (readRule text k ≡ formed i f) × (text_of f ≡ text)
-    × P w k f (at labels) (atEnd w text k labels s window cs)
+    → (f : Formula) × (i : ℕ) × (read_rule text k ≡ formed i f) × (text_of f ≡ text)
+    × P w k f (at labels) (at_end w text k labels s window cs)
 
 -- ---- The next take
 
 -- The window that it is lent: with zeros appended.
-abbrev pub lentWindow : (Z : Watch) (more : ℕ) → List ℕ
-lentWindow Z more = Z.window ++ replicate more 0
+abbrev pub lent_window : (Z : Watch) (more : ℕ) → List ℕ
+lent_window Z more = Z.window ++ replicate more 0
 
 -- Window and scratch have right lengths: 6 does not come.
 abbrev pub RightLengths : (w : ℕ) (Z : Watch) (more : ℕ) (scratch : List ℕ) → Type 0
 RightLengths w Z more scratch =
-    (badWindowLength w (length (lentWindow Z more)) ≡ false) × (length scratch ≡ length (lentWindow Z more))
+    (bad_window_length w (length (lent_window Z more)) ≡ false) × (length scratch ≡ length (lent_window Z more))
 
 -- What the next take, under a cap, answers and leaves.
-abbrev pub nextTake : (w : ℕ) (Z : Watch) (cap more : ℕ) (scratch : List ℕ) → Taken
-nextTake w Z cap more scratch = takeCapped w cap Z.bytes (lentWindow Z more) scratch
+abbrev pub next_take : (w : ℕ) (Z : Watch) (cap more : ℕ) (scratch : List ℕ) → Taken
+next_take w Z cap more scratch = take_capped w cap Z.bytes (lent_window Z more) scratch

@@ -5,13 +5,13 @@ use mathlib.Core.List.{List, [], ◌∷◌, Memᴰ}
 use Rattle.clocks.specs.declared.Event.{Event}
 use Rattle.clocks.specs.Event.{count, one, involved, Ready}
 use Rattle.clocks.specs.History.{taken}
-use Rattle.clocks.specs.SameEvent.{sameEvent}
-use Rattle.clocks.specs.Key.{key_of, keyBefore}
+use Rattle.clocks.specs.SameEvent.{same_event}
+use Rattle.clocks.specs.Key.{key_of, key_before}
 
 -- How often an event, by mask, clock and labels, stands in a list.
 unfoldable pub occurrences : (e : Event) (es : List Event) → ℕ
 occurrences e [] = 0
-occurrences e (f ∷ fs) = one (sameEvent e f) + occurrences e fs
+occurrences e (f ∷ fs) = one (same_event e f) + occurrences e fs
 
 -- The events taken, newest first; those pending; those that left with a false clock (35); the mask of the closed
 -- processes.
@@ -32,7 +32,7 @@ Settled L = (e : Event) → Memᴰ e L.pending → Ready e (taken L.history) →
 -- Pending events stand in the order of their keys (01, The window: by lowest process and then its count).
 abbrev pub Ordered : (es : List Event) → Type 0
 Ordered [] = Unit {0}
-Ordered (e ∷ es) = ((f : Event) → Memᴰ f es → T (keyBefore (key_of e) (key_of f))) × Ordered es
+Ordered (e ∷ es) = ((f : Event) → Memᴰ f es → T (key_before (key_of e) (key_of f))) × Ordered es
 
 -- Two events have no count at a common process in common.
 abbrev pub NoClash : (e f : Event) → Type 0

@@ -4,18 +4,18 @@ use Rattle.std.specs.Prelude.{ℕ, ◌^◌, ◌<◌, ◌≡◌, cond, List, [], 
 use Rattle.clocks.specs.declared.Event.{Event}
 use Rattle.frontiers.specs.Bytes.{frontiers}
 use Rattle.clocks.specs.Counts.{at}
-use Rattle.call_find.specs.Find.{findCall}
-use Rattle.trial.specs.Trial.{Decision, undecided, false-clock, chosen, trial}
-use Rattle.call_take.specs.Take.{Taken, allowedOf, takeCapped}
-use Rattle.records.specs.Record.{keptCount, pendingAt, pendingEvents}
-use Rattle.call_close.specs.Close.{Closed, closing, closeCall}
+use Rattle.call_find.specs.Find.{find_call}
+use Rattle.trial.specs.Trial.{Decision, undecided, false_clock, chosen, trial}
+use Rattle.call_take.specs.Take.{Taken, allowed_of, take_capped}
+use Rattle.records.specs.Record.{kept_count, pending_at, pending_events}
+use Rattle.call_close.specs.Close.{Closed, closing, close_call}
 use Rattle.call_open.specs.Open.{Opened}
 use Rattle.answers.specs.Answer.{Answer}
-use Rattle.call_offer.specs.Offer.{placeAmong, offeredEvent, offerCall}
-use Rattle.answers.specs.Kinds.{is_held, isState, isFalseClock, isClosed}
+use Rattle.call_offer.specs.Offer.{place_among, offered_event, offer_call}
+use Rattle.answers.specs.Kinds.{is_held, is_state, is_false_clock, is_closed}
 use Rattle.demands.specs.Ledger.{Ledger}
-use Rattle.demands.specs.Mislent.{Mislent, TurnedAway, answerTo}
-use Rattle.demands.specs.Status.{insertAt, removeAt}
+use Rattle.demands.specs.Mislent.{Mislent, TurnedAway, answer_to}
+use Rattle.demands.specs.Status.{insert_at, remove_at}
 
 -- A call: an offer of an event by its mask, clock and labels; a take under a cap (watch_take has 1,024), lent the
 -- window with so many zeros appended, and a scratch of any length and content; a find of a line; a close of a process;
@@ -48,8 +48,8 @@ pub record Watch : Type 0 where
   pub answers : List Answer
 
 -- With one answer more, and the same in all else.
-abbrev pub answeredBy : (a : Answer) (W : Watch) → Watch
-answeredBy a W = record {
+abbrev pub answered_by : (a : Answer) (W : Watch) → Watch
+answered_by a W = record {
   bytes = W.bytes;
   window = W.window;
   ledger = W.ledger;
@@ -59,54 +59,54 @@ answeredBy a W = record {
 
 -- ---- What a call does
 
--- The trial of the pending events that a take makes (call_take Take: takeWithin), and the number of the event at
+-- The trial of the pending events that a take makes (call_take Take: take_within), and the number of the event at
 -- which it stopped.
-unfoldable pub trialOf : (w cap : ℕ) (s window : List ℕ) → Decision
-trialOf w cap s window = trial w s (allowedOf w cap window) (frontiers w window (keptCount s))
+unfoldable pub trial_of : (w cap : ℕ) (s window : List ℕ) → Decision
+trial_of w cap s window = trial w s (allowed_of w cap window) (frontiers w window (kept_count s))
 
-unfoldable pub stoppedAt : (d : Decision) → ℕ
-stoppedAt (undecided seen) = 0
-stoppedAt (false-clock i) = i
-stoppedAt (chosen i) = i
+unfoldable pub stopped_at : (d : Decision) → ℕ
+stopped_at (undecided seen) = 0
+stopped_at (false_clock i) = i
+stopped_at (chosen i) = i
 
 -- The ledger after a take's answer: by a state pending event i was taken, by 35 it left with a false clock.
-unfoldable pub takenLedger : (w : ℕ) (s : List ℕ) (i : ℕ) (L : Ledger) (a : Answer) → Ledger
-takenLedger w s i L a =
-    cond (isState a)
+unfoldable pub taken_ledger : (w : ℕ) (s : List ℕ) (i : ℕ) (L : Ledger) (a : Answer) → Ledger
+taken_ledger w s i L a =
+    cond (is_state a)
     (record {
-      history = pendingAt w s i ∷ L.history;
-      pending = removeAt i L.pending;
+      history = pending_at w s i ∷ L.history;
+      pending = remove_at i L.pending;
       falsified = L.falsified;
       closed = L.closed;
     })
-    (cond (isFalseClock a)
+    (cond (is_false_clock a)
     (record {
       history = L.history;
-      pending = removeAt i L.pending;
-      falsified = pendingAt w s i ∷ L.falsified;
+      pending = remove_at i L.pending;
+      falsified = pending_at w s i ∷ L.falsified;
       closed = L.closed;
     })
     L)
 
 -- The ledger and the accepted events after an offer's answer: "again" is none that accepts.
-unfoldable pub offeredLedger : (w : ℕ) (s : List ℕ) (e : Event) (L : Ledger) (a : Answer) → Ledger
-offeredLedger w s e L a =
+unfoldable pub offered_ledger : (w : ℕ) (s : List ℕ) (e : Event) (L : Ledger) (a : Answer) → Ledger
+offered_ledger w s e L a =
     cond (is_held a)
     (record {
       history = L.history;
-      pending = insertAt (placeAmong e (pendingEvents w s)) e L.pending;
+      pending = insert_at (place_among e (pending_events w s)) e L.pending;
       falsified = L.falsified;
       closed = L.closed;
     })
     L
 
-unfoldable pub acceptedBy : (e : Event) (es : List Event) (a : Answer) → List Event
-acceptedBy e es a = cond (is_held a) (e ∷ es) es
+unfoldable pub accepted_by : (e : Event) (es : List Event) (a : Answer) → List Event
+accepted_by e es a = cond (is_held a) (e ∷ es) es
 
 -- The ledger after a close's answer: accepted, process p is closed.
-unfoldable pub closedLedger : (p : ℕ) (L : Ledger) (a : Answer) → Ledger
-closedLedger p L a =
-    cond (isClosed a)
+unfoldable pub closed_ledger : (p : ℕ) (L : Ledger) (a : Answer) → Ledger
+closed_ledger p L a =
+    cond (is_closed a)
     (record {
       history = L.history;
       pending = L.pending;
@@ -116,42 +116,42 @@ closedLedger p L a =
     L
 
 -- The watch after a take, by what it answered and left and by its trial.
-abbrev pub afterTake : (w : ℕ) (r : Taken) (d : Decision) (W : Watch) → Watch
-afterTake w r d W = record {
+abbrev pub after_take : (w : ℕ) (r : Taken) (d : Decision) (W : Watch) → Watch
+after_take w r d W = record {
   bytes = r.bytes;
   window = r.window;
-  ledger = takenLedger w W.bytes (stoppedAt d) W.ledger r.answer;
+  ledger = taken_ledger w W.bytes (stopped_at d) W.ledger r.answer;
   accepted = W.accepted;
   answers = r.answer ∷ W.answers;
 }
 
 -- The watch after a close, by what it answered and left.
-abbrev pub afterClose : (p : ℕ) (r : Closed) (W : Watch) → Watch
-afterClose p r W = record {
+abbrev pub after_close : (p : ℕ) (r : Closed) (W : Watch) → Watch
+after_close p r W = record {
   bytes = r.bytes;
   window = r.window;
-  ledger = closedLedger p W.ledger r.answer;
+  ledger = closed_ledger p W.ledger r.answer;
   accepted = W.accepted;
   answers = r.answer ∷ W.answers;
 }
 
 unfoldable pub after : (w : ℕ) (c : Call) (W : Watch) → Watch
 after w (offers mask clock labels) W =
-    let r = offerCall w mask clock labels W.bytes in
-    let e = offeredEvent mask clock labels in
+    let r = offer_call w mask clock labels W.bytes in
+    let e = offered_event mask clock labels in
     record {
       bytes = r.bytes;
       window = W.window;
-      ledger = offeredLedger w W.bytes e W.ledger r.answer;
-      accepted = acceptedBy e W.accepted r.answer;
+      ledger = offered_ledger w W.bytes e W.ledger r.answer;
+      accepted = accepted_by e W.accepted r.answer;
       answers = r.answer ∷ W.answers;
     }
 after w (takes cap more scratch) W =
     let lent = W.window ++ replicate more 0 in
-    afterTake w (takeCapped w cap W.bytes lent scratch) (trialOf w cap W.bytes lent) W
-after w (finds line) W = answeredBy (findCall w line W.bytes W.window) W
-after w (closes p) W = afterClose p (closeCall w p W.bytes W.window) W
-after w (mislends m) W = answeredBy (answerTo w m) W
+    after_take w (take_capped w cap W.bytes lent scratch) (trial_of w cap W.bytes lent) W
+after w (finds line) W = answered_by (find_call w line W.bytes W.window) W
+after w (closes p) W = after_close p (close_call w p W.bytes W.window) W
+after w (mislends m) W = answered_by (answer_to w m) W
 
 -- The calls of a list, one after the other.
 unfoldable pub run : (w : ℕ) (cs : List Call) (W : Watch) → Watch

@@ -3,11 +3,11 @@ use Rattle.std.specs.Prelude.{ℕ, suc, ◌-◌, ◌*◌, List, [], ◌∷◌, �
 use Rattle.pactl.specs.declared.Line.{Line}
 use Rattle.clocks.specs.declared.Event.{Event}
 use Rattle.codec.specs.Little.{bytes_of}
-use Rattle.frontiers.specs.Bytes.{countBytes}
-use Rattle.pactl.specs.Table.{tableBytes}
+use Rattle.frontiers.specs.Bytes.{count_bytes}
+use Rattle.pactl.specs.Table.{table_bytes}
 use Rattle.clocks.specs.Event.{Cut}
 use Rattle.clocks.specs.Counts.{list_of}
-use Rattle.records.specs.Record.{eventLength, eventsBytes}
+use Rattle.records.specs.Record.{event_length, events_bytes}
 
 -- What a record says: the number of processes, the table, the closed processes, the frontiers kept, the taken counts,
 -- each process's last clock, the pending events in their order.
@@ -21,24 +21,24 @@ pub record Status : Type 0 where
   pub pending : List Event
 
 -- The bytes of eight clocks.
-unfoldable pub clockBytes : (w : ℕ) → (lists : List (List ℕ)) → List ℕ
-clockBytes w [] = []
-clockBytes w (c ∷ cs) = countBytes w c ++ clockBytes w cs
+unfoldable pub clock_bytes : (w : ℕ) → (lists : List (List ℕ)) → List ℕ
+clock_bytes w [] = []
+clock_bytes w (c ∷ cs) = count_bytes w c ++ clock_bytes w cs
 
 -- The record's bytes; unused bytes are 0 (01, The window: the record).
-unfoldable pub recordBytes : (w : ℕ) (t : Status) → List ℕ
-recordBytes w t =
+unfoldable pub record_bytes : (w : ℕ) (t : Status) → List ℕ
+record_bytes w t =
     t.processes ∷ length t.table ∷ length t.pending ∷ t.closed ∷ bytes_of 4 t.kept
-    ++ countBytes w (list_of 8 t.counts)
-    ++ clockBytes w (list_of 8 (λ p. list_of 8 (t.clocks p)))
-    ++ (tableBytes t.table ++ replicate (192 - 3 * length t.table) 0)
-    ++ (eventsBytes w t.pending ++ replicate ((32 - length t.pending) * eventLength w) 0)
+    ++ count_bytes w (list_of 8 t.counts)
+    ++ clock_bytes w (list_of 8 (λ p. list_of 8 (t.clocks p)))
+    ++ (table_bytes t.table ++ replicate (192 - 3 * length t.table) 0)
+    ++ (events_bytes w t.pending ++ replicate ((32 - length t.pending) * event_length w) 0)
 
 -- ---- What the calls change
 
 -- A list with an element put in at a place, or the element at a place left out.
-unfoldable pub insertAt : {A : Type 0} → (i : ℕ) (x : A) (xs : List A) → List A
-insertAt i x xs = take i xs ++ (x ∷ drop i xs)
+unfoldable pub insert_at : {A : Type 0} → (i : ℕ) (x : A) (xs : List A) → List A
+insert_at i x xs = take i xs ++ (x ∷ drop i xs)
 
-unfoldable pub removeAt : {A : Type 0} → (i : ℕ) (xs : List A) → List A
-removeAt i xs = take i xs ++ drop (suc i) xs
+unfoldable pub remove_at : {A : Type 0} → (i : ℕ) (xs : List A) → List A
+remove_at i xs = take i xs ++ drop (suc i) xs

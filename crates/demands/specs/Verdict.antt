@@ -9,15 +9,15 @@ use Rattle.clocks.specs.History.{Consistent}
 use Rattle.clocks.specs.Event.{Cut}
 use Rattle.clocks.specs.Counts.{list_of}
 use Rattle.answers.specs.Answer.{Answer, state}
-use Rattle.demands.specs.World.{modelAfter}
+use Rattle.demands.specs.World.{model_after}
 
 -- A reported verdict: the rule's truth in an answer of open or take, for the counts beside it.
 pub record TrueVerdict (k : ℕ) (f : Formula) (start : Cut) (ts : List Event) (counts : List ℕ) (truth : Bool)
     : Type 0 where
   pub cut : Cut
   pub consistent : Consistent ts cut
-  pub counts-are : counts ≡ list_of 8 cut
-  pub truth-is : truth ≡ holds (modelAfter k f start ts) (meaning f) cut
+  pub counts_are : counts ≡ list_of 8 cut
+  pub truth_is : truth ≡ holds (model_after k f start ts) (meaning f) cut
 
 -- So is every verdict in these answers.
 abbrev pub Truthful : (k : ℕ) (f : Formula) (start : Cut) (ts : List Event) (answers : List Answer) → Type 0

@@ -4,29 +4,29 @@ use Rattle.std.specs.Prelude.{ℕ, ◌<◌, ◌≡◌, false, ◌⊎◌, ◌↔�
 use mathlib.Core.List.{List, Memᴰ}
 use Rattle.pactl.specs.declared.Line.{Line}
 use Rattle.clocks.specs.declared.Event.{Event}
-use Rattle.window_laws.specs.FrontierOf.{World, Sorted, modelOf, frontierOf}
+use Rattle.window_laws.specs.FrontierOf.{World, Sorted, model_of, frontier_of}
 use Rattle.clocks.specs.Event.{Cut}
-use Rattle.clocks.specs.History.{taken, lastClock, Consistent}
+use Rattle.clocks.specs.History.{taken, last_clock, Consistent}
 use Rattle.clocks.specs.Valid.{Known}
 use Rattle.demands.specs.Ledger.{Ledger}
 use Rattle.demands.specs.Status.{Status}
 use Rattle.codec.specs.Bit.{bit}
 use Rattle.rules.specs.Formula.{Formula}
-use Rattle.rules.specs.Line.{linesAt}
+use Rattle.rules.specs.Line.{lines_at}
 use Rattle.pactl.specs.Truth.{Model}
 use Rattle.frontiers.specs.declared.Frontier.{Frontier}
 
 -- The world of a watch: eight processes stored, k there, those of a mask closed.
-abbrev pub worldOf : (k closed : ℕ) (table : List Line) (start : Cut) → World
-worldOf k closed table start = record { stored = 8; processes = k; closed = closed; start = start; table = table }
+abbrev pub world_of : (k closed : ℕ) (table : List Line) (start : Cut) → World
+world_of k closed table start = record { stored = 8; processes = k; closed = closed; start = start; table = table }
 
 -- With the rule of a formula: the model in which it is judged after a history, and the frontier of a cut. Which
 -- processes are closed makes no difference to either.
-abbrev pub modelAfter : (k : ℕ) (f : Formula) (start : Cut) (ts : List Event) → Model
-modelAfter k f start ts = modelOf (worldOf k 0 (linesAt 0 f) start) ts
+abbrev pub model_after : (k : ℕ) (f : Formula) (start : Cut) (ts : List Event) → Model
+model_after k f start ts = model_of (world_of k 0 (lines_at 0 f) start) ts
 
-abbrev pub frontierAfter : (k : ℕ) (f : Formula) (start : Cut) (ts : List Event) (S : Cut) → Frontier
-frontierAfter k f start ts S = frontierOf (worldOf k 0 (linesAt 0 f) start) ts S
+abbrev pub frontier_after : (k : ℕ) (f : Formula) (start : Cut) (ts : List Event) (S : Cut) → Frontier
+frontier_after k f start ts S = frontier_of (world_of k 0 (lines_at 0 f) start) ts S
 
 -- The rule for valid clocks of a watch: what the event knows of is a consistent cut of the events taken (02 [2]; 01,
 -- Clocks and cuts: true).
@@ -52,13 +52,13 @@ abbrev pub KeptNumber : (k closed : ℕ) (ts : List Event) (n : ℕ) → Type 0
 KeptNumber k closed ts n = (cuts : List Cut) × KeptCuts k closed ts cuts × (length cuts ≡ n)
 
 -- The record's contents after a history.
-abbrev pub statusOf : (k : ℕ) (table : List Line) (kept : ℕ) (L : Ledger) → Status
-statusOf k table kept L = record {
+abbrev pub status_of : (k : ℕ) (table : List Line) (kept : ℕ) (L : Ledger) → Status
+status_of k table kept L = record {
   processes = k;
   table = table;
   closed = L.closed;
   kept = kept;
   counts = taken L.history;
-  clocks = lastClock L.history;
+  clocks = last_clock L.history;
   pending = L.pending;
 }

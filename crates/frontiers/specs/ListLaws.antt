@@ -8,20 +8,20 @@ use Rattle.codec.specs.SetsLaws.{take-drop}
 use Rattle.clocks.specs.Counts.{list_of}
 
 module _ {A : Type 0} where
-  pub place-member : (xs : List A) (i : ℕ) (d : A) → i < length xs → Memᴰ (get_or xs i d) xs
-  place-member [] i d l = absurd (omega arith)
-  place-member (x ∷ xs) zero d l = Memᴰ.head refl
-  place-member (x ∷ xs) (suc i) d l = Memᴰ.tail (place-member xs i d (le_of_suc-le-suc l))
+  pub place_member : (xs : List A) (i : ℕ) (d : A) → i < length xs → Memᴰ (get_or xs i d) xs
+  place_member [] i d l = absurd (omega arith)
+  place_member (x ∷ xs) zero d l = Memᴰ.head refl
+  place_member (x ∷ xs) (suc i) d l = Memᴰ.tail (place_member xs i d (le_of_suc-le-suc l))
 
-  pub member-place : (xs : List A) (x d : A) → Memᴰ x xs → (i : ℕ) × (i < length xs) × (get_or xs i d ≡ x)
-  member-place (y ∷ ys) x d (Memᴰ.head e) = (0, omega arith, sym e)
-  member-place (y ∷ ys) x d (Memᴰ.tail m) = let r = member-place ys x d m in (suc r.0, suc-le-suc r.1, r.2)
+  pub member_place : (xs : List A) (x d : A) → Memᴰ x xs → (i : ℕ) × (i < length xs) × (get_or xs i d ≡ x)
+  member_place (y ∷ ys) x d (Memᴰ.head e) = (0, omega arith, sym e)
+  member_place (y ∷ ys) x d (Memᴰ.tail m) = let r = member_place ys x d m in (suc r.0, suc-le-suc r.1, r.2)
 
   -- One more value of a function stands at the end.
-  pub listOf-more : (n : ℕ) (f : ℕ → A) → list_of (suc n) f ≡ list_of n f ++ (f n ∷ [])
+  pub list_of_more : (n : ℕ) (f : ℕ → A) → list_of (suc n) f ≡ list_of n f ++ (f n ∷ [])
   unfolding list_of
-  listOf-more zero f = refl
-  listOf-more (suc n) f = ap (λ (l : List A). f 0 ∷ l) (listOf-more n (λ p. f (suc p)))
+  list_of_more zero f = refl
+  list_of_more (suc n) f = ap (λ (l : List A). f 0 ∷ l) (list_of_more n (λ p. f (suc p)))
 
   -- A part within the first m elements depends on these only.
   pub part-alike : (s t : List A) (m a n : ℕ) → a + n ≤ m → take m s ≡ take m t → take n (drop a s) ≡ take n (drop a t)

@@ -7,13 +7,13 @@ use Rattle.frontiers.specs.declared.Frontier.{Frontier}
 
 -- A frontier of proper shape, for counts of w bytes.
 pub record Shaped (w : ℕ) (f : Frontier) : Type 0 where
-  pub eight-counts : length f.counts ≡ 8
-  pub counts-fit : (p : ℕ) → at f.counts p < 256 ^ w
-  pub eight-labels : length f.labels ≡ 8
-  pub labels-fit : Bytes f.labels
-  pub eight-masks : length f.masks ≡ 8
-  pub masks-fit : Bytes f.masks
-  pub values-fit : f.values < 256 ^ 8
+  pub eight_counts : length f.counts ≡ 8
+  pub counts_fit : (p : ℕ) → at f.counts p < 256 ^ w
+  pub eight_labels : length f.labels ≡ 8
+  pub labels_fit : Bytes f.labels
+  pub eight_masks : length f.masks ≡ 8
+  pub masks_fit : Bytes f.masks
+  pub values_fit : f.values < 256 ^ 8
 
 -- Each of a list of frontiers is so.
 abbrev pub AllShaped : ℕ → List Frontier → Type 0

@@ -5,8 +5,8 @@ use Rattle.std.proofs.lemmas.List.Edits.{sets}
 use Rattle.codec.specs.Little.{bytes_of, put}
 use Rattle.codec.specs.SetsLaws.{sets-append, sets-tail}
 use Rattle.clocks.specs.Counts.{at}
-use Rattle.frontiers.specs.BytesLaws.{length-countBytes, countBytes-append, countBytes-one}
-use Rattle.frontiers.specs.Bytes.{countBytes, frontierBytes}
+use Rattle.frontiers.specs.BytesLaws.{length-count_bytes, count_bytes-append_lem, count_bytes-one_lem}
+use Rattle.frontiers.specs.Bytes.{count_bytes, frontier_bytes}
 use Rattle.frontiers.specs.declared.Frontier.{Frontier}
 
 -- ---- Places of counts
@@ -26,40 +26,40 @@ sets_more s a bs p l =
     rw (add-one, take-suc bs p 0 l) seam
 
 -- The next count, stored behind the first p.
-pub counts-more : (w : ℕ) (s cs : List ℕ) (p : ℕ) → p < length cs
-    → put (sets s 0 (countBytes w (take p cs))) (p * w) w (get_or cs p 0) ≡ sets s 0 (countBytes w (take (p + 1) cs))
+pub counts_more : (w : ℕ) (s cs : List ℕ) (p : ℕ) → p < length cs
+    → put (sets s 0 (count_bytes w (take p cs))) (p * w) w (get_or cs p 0) ≡ sets s 0 (count_bytes w (take (p + 1) cs))
 unfolding put
-counts-more w s cs p l =
-    let front : List ℕ = countBytes w (take p cs) in
+counts_more w s cs p l =
+    let front : List ℕ = count_bytes w (take p cs) in
     let long : 0 + length front ≡ p * w =
-    zero-add (length front) ∙ length-countBytes w (take p cs) ∙ ap (λ (n : ℕ). n * w) (length-take-le p cs (omega arith)) in
+    zero-add (length front) ∙ length-count_bytes w (take p cs) ∙ ap (λ (n : ℕ). n * w) (length-take-le p cs (omega arith)) in
     let seam : sets (sets s 0 front) (p * w) (bytes_of w (get_or cs p 0)) ≡ sets s 0 (front ++ bytes_of w (get_or cs p 0)) =
     rw long at (sets-append s 0 front (bytes_of w (get_or cs p 0))) in
-    rw (add-one, take-suc cs p 0 l, countBytes-append w (take p cs) (get_or cs p 0 ∷ []), countBytes-one w (get_or cs p 0)) seam
+    rw (add-one, take-suc cs p 0 l, count_bytes-append_lem w (take p cs) (get_or cs p 0 ∷ []), count_bytes-one_lem w (get_or cs p 0)) seam
 
 -- The four parts of a frontier, stored one behind the other.
-pub stored-four : (w : ℕ) (s : List ℕ) (f : Frontier) → length f.counts ≡ 8 → length f.labels ≡ 8 → length f.masks ≡ 8
-    → put (sets (sets (sets s 0 (countBytes w f.counts)) (8 * w) f.labels) (8 * w + 8) f.masks) (8 * w + 16) 8 f.values ≡ sets s 0 (frontierBytes w f)
-unfolding put frontierBytes
-stored-four w s f c l m =
-    rw (behind (countBytes w f.counts) f.labels (8 * w) counts_end, behind (countBytes w f.counts ++ f.labels) f.masks (8 * w + 8) labels-end, behind (countBytes w f.counts ++ f.labels ++ f.masks) (bytes_of 8 f.values) (8 * w + 16) masks-end)
+pub stored_four : (w : ℕ) (s : List ℕ) (f : Frontier) → length f.counts ≡ 8 → length f.labels ≡ 8 → length f.masks ≡ 8
+    → put (sets (sets (sets s 0 (count_bytes w f.counts)) (8 * w) f.labels) (8 * w + 8) f.masks) (8 * w + 16) 8 f.values ≡ sets s 0 (frontier_bytes w f)
+unfolding put frontier_bytes
+stored_four w s f c l m =
+    rw (behind (count_bytes w f.counts) f.labels (8 * w) counts_end, behind (count_bytes w f.counts ++ f.labels) f.masks (8 * w + 8) labels_end, behind (count_bytes w f.counts ++ f.labels ++ f.masks) (bytes_of 8 f.values) (8 * w + 16) masks_end)
   where
     behind : (front back : List ℕ) (n : ℕ) → length front ≡ n → sets (sets s 0 front) n back ≡ sets s 0 (front ++ back)
     behind front back n e = rw (zero-add (length front) ∙ e) at (sets-append s 0 front back)
 
-    counts_end : length (countBytes w f.counts) ≡ 8 * w
-    counts_end = length-countBytes w f.counts ∙ ap (λ (n : ℕ). n * w) c
+    counts_end : length (count_bytes w f.counts) ≡ 8 * w
+    counts_end = length-count_bytes w f.counts ∙ ap (λ (n : ℕ). n * w) c
 
-    labels-end : length (countBytes w f.counts ++ f.labels) ≡ 8 * w + 8
-    labels-end = rw (length-append, counts_end, l)
+    labels_end : length (count_bytes w f.counts ++ f.labels) ≡ 8 * w + 8
+    labels_end = rw (length-append, counts_end, l)
 
-    masks-end : length (countBytes w f.counts ++ f.labels ++ f.masks) ≡ 8 * w + 16
-    masks-end = rw (length-append, labels-end, m) (omega arith)
+    masks_end : length (count_bytes w f.counts ++ f.labels ++ f.masks) ≡ 8 * w + 16
+    masks_end = rw (length-append, labels_end, m) (omega arith)
 
 -- What is stored at the start of a tail that was lent is stored at the tail's place.
-pub lent-tail : (s : List ℕ) (a : ℕ) (bs : List ℕ)
+pub lent_tail : (s : List ℕ) (a : ℕ) (bs : List ℕ)
     → take a s ++ (sets (take (length s - a) (drop a s)) 0 bs ++ drop (length s - a) (drop a s)) ≡ sets s a bs
-lent-tail s a bs =
+lent_tail s a bs =
     let long : length (drop a s) ≤ length s - a = simp length-drop (omega arith) in
     rw (take_all (length s - a) (drop a s) long, drop_of_length-le (drop a s) long, append-nil, sets-tail s a 0 bs, add-zero)
 

@@ -5,7 +5,7 @@ ghost use Rattle.std.proofs.lemmas.List.Edits.{sets};
 ghost use Rattle.codec.specs.Little.{number, put};
 ghost use Rattle.clocks.specs.Counts.{at, list_of};
 ghost use Rattle.frontiers.specs.Width.{Width};
-ghost use Rattle.frontiers.specs.Bytes.{countBytes};
+ghost use Rattle.frontiers.specs.Bytes.{count_bytes};
 
 // The count at a place.
 pub fn read_count(s: &[u8], place: usize, w: usize) -> u32
@@ -56,7 +56,7 @@ pub fn write_counts(s: &mut [u8], w: usize, counts: [u32; 8])
     requires width { Width w }
     requires w_in_bounds { 8 * w ≤ length s.old }
     requires by_index { (p : ℕ) → at counts p < 256 ^ w }
-    ensures { s.new ≡ sets s.old 0 (countBytes w counts) }
+    ensures { s.new ≡ sets s.old 0 (count_bytes w counts) }
 {
     let mut next = 0;
     let mut p = 0;

@@ -2,12 +2,12 @@
 
 ghost use Rattle.std.specs.Prelude.{◌+◌, ◌*◌, ◌≤◌, ◌≡◌};
 ghost use Rattle.frontiers.specs.Width.{Width};
-ghost use Rattle.frontiers.specs.Bytes.{frontierLength};
+ghost use Rattle.frontiers.specs.Bytes.{frontier_length};
 
 // The length of a frontier.
 pub fn frontier_length(w: usize) -> usize
     requires { Width w }
-    ensures { (result ≡ frontierLength w) × (result ≤ 56) }
+    ensures { (result ≡ frontier_length w) × (result ≤ 56) }
 {
     8 * w + 24
 }
@@ -16,7 +16,7 @@ pub fn frontier_length(w: usize) -> usize
 pub fn frontier_place(w: usize, i: usize) -> usize
     requires width { Width w }
     requires i_bound { i ≤ 1024 }
-    ensures { (result ≡ i * frontierLength w) × (result ≤ 57344) }
+    ensures { (result ≡ i * frontier_length w) × (result ≤ 57344) }
 {
     if w == 2 { i * 40 } else { i * 56 }
 }

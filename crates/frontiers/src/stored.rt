@@ -4,7 +4,7 @@ ghost use Rattle.std.specs.Prelude.{ℕ, ◌+◌, ◌*◌, ◌^◌, ◌≤◌, �
 ghost use Rattle.std.proofs.lemmas.List.Edits.{sets};
 ghost use Rattle.clocks.specs.Counts.{at};
 ghost use Rattle.frontiers.specs.Width.{Width};
-ghost use Rattle.frontiers.specs.Bytes.{frontierLength, frontierBytes, frontierFrom, frontierAt};
+ghost use Rattle.frontiers.specs.Bytes.{frontier_length, frontier_bytes, frontier_from, frontier_at};
 
 use crate::Frontier;
 
@@ -37,8 +37,8 @@ pub fn write_eight(s: &mut [u8], place: usize, bytes: [u8; 8])
 // The values of the frontier whose bytes begin at a place.
 pub fn read_values(s: &[u8], place: usize, w: usize) -> u64
     requires width { Width w }
-    requires w_in_bounds { place + frontierLength w ≤ length s.now }
-    ensures { result ≡ (frontierFrom w s.now place).values }
+    requires w_in_bounds { place + frontier_length w ≤ length s.now }
+    ensures { result ≡ (frontier_from w s.now place).values }
 {
     codec::read_u64(s, place + 8 * w + 16)
 }
@@ -47,8 +47,8 @@ pub fn read_values(s: &[u8], place: usize, w: usize) -> u64
 pub fn counts_at(s: &[u8], w: usize, i: usize) -> [u32; 8]
     requires width { Width w }
     requires i_bound { i ≤ 1024 }
-    requires w_in_bounds { i * frontierLength w + frontierLength w ≤ length s.now }
-    ensures { result ≡ (frontierAt w s.now i).counts }
+    requires w_in_bounds { i * frontier_length w + frontier_length w ≤ length s.now }
+    ensures { result ≡ (frontier_at w s.now i).counts }
 {
     let place = crate::place::frontier_place(w, i);
     crate::counts::read_counts(s, place, w)
@@ -58,8 +58,8 @@ pub fn counts_at(s: &[u8], w: usize, i: usize) -> [u32; 8]
 pub fn values_at(s: &[u8], w: usize, i: usize) -> u64
     requires width { Width w }
     requires i_bound { i ≤ 1024 }
-    requires w_in_bounds { i * frontierLength w + frontierLength w ≤ length s.now }
-    ensures { result ≡ (frontierAt w s.now i).values }
+    requires w_in_bounds { i * frontier_length w + frontier_length w ≤ length s.now }
+    ensures { result ≡ (frontier_at w s.now i).values }
 {
     let place = crate::place::frontier_place(w, i);
     read_values(s, place, w)
@@ -68,8 +68,8 @@ pub fn values_at(s: &[u8], w: usize, i: usize) -> u64
 // The frontier whose bytes begin at a place.
 pub fn read_frontier(s: &[u8], place: usize, w: usize) -> Frontier
     requires width { Width w }
-    requires w_in_bounds { place + frontierLength w ≤ length s.now }
-    ensures { result ≡ frontierFrom w s.now place }
+    requires w_in_bounds { place + frontier_length w ≤ length s.now }
+    ensures { result ≡ frontier_from w s.now place }
 {
     let counts = crate::counts::read_counts(s, place, w);
     let labels = read_eight(s, place + 8 * w);
@@ -87,8 +87,8 @@ pub fn read_frontier(s: &[u8], place: usize, w: usize) -> Frontier
 pub fn frontier_at(s: &[u8], w: usize, i: usize) -> Frontier
     requires width { Width w }
     requires i_bound { i ≤ 1024 }
-    requires w_in_bounds { i * frontierLength w + frontierLength w ≤ length s.now }
-    ensures { result ≡ frontierAt w s.now i }
+    requires w_in_bounds { i * frontier_length w + frontier_length w ≤ length s.now }
+    ensures { result ≡ frontier_at w s.now i }
 {
     let place = crate::place::frontier_place(w, i);
     read_frontier(s, place, w)
@@ -97,9 +97,9 @@ pub fn frontier_at(s: &[u8], w: usize, i: usize) -> Frontier
 // Stores a frontier's bytes at the start of what is lent.
 pub fn write_frontier(s: &mut [u8], w: usize, f: Frontier)
     requires width { Width w }
-    requires w_in_bounds { frontierLength w ≤ length s.old }
+    requires w_in_bounds { frontier_length w ≤ length s.old }
     requires by_index { (p : ℕ) → at f.counts p < 256 ^ w }
-    ensures { s.new ≡ sets s.old 0 (frontierBytes w f) }
+    ensures { s.new ≡ sets s.old 0 (frontier_bytes w f) }
 {
     let counts = f.counts;
     let labels = f.labels;
@@ -114,9 +114,9 @@ pub fn write_frontier(s: &mut [u8], w: usize, f: Frontier)
 pub fn lay_frontier(scratch: &mut [u8], w: usize, i: usize, f: Frontier)
     requires width { Width w }
     requires i_bound { i ≤ 1024 }
-    requires w_in_bounds { i * frontierLength w + frontierLength w ≤ length scratch.old }
+    requires w_in_bounds { i * frontier_length w + frontier_length w ≤ length scratch.old }
     requires by_index { (p : ℕ) → at f.counts p < 256 ^ w }
-    ensures { scratch.new ≡ sets scratch.old (i * frontierLength w) (frontierBytes w f) }
+    ensures { scratch.new ≡ sets scratch.old (i * frontier_length w) (frontier_bytes w f) }
 {
     let place = crate::place::frontier_place(w, i);
     write_frontier(&mut scratch[place..], w, f);

@@ -4,13 +4,13 @@ use Rattle.std.specs.Prelude.{ℕ, ◌+◌, ◌<◌, ◌≡◌, ◌⊎◌, Bool,
 use Rattle.codec.specs.Ascii.{ascii}
 use Rattle.rules.specs.Text.{byte_at}
 use Rattle.rules.specs.Fault.{StandsAt}
-use Rattle.codec.specs.Decimal.{isDigit}
-use Rattle.lines.specs.Lines.{kLimit, countLimit, labelLimit, processLimit, roomLimit}
+use Rattle.codec.specs.Decimal.{is_digit}
+use Rattle.lines.specs.Lines.{kLimit, count_limit, label_limit, process_limit, room_limit}
 
 -- The text of a number: digits, the first of them no needless 0.
 unfoldable pub AllDigits : (xs : List ℕ) → Type 0
 AllDigits [] = Unit {0}
-AllDigits (d ∷ ds) = (isDigit d ≡ true) × AllDigits ds
+AllDigits (d ∷ ds) = (is_digit d ≡ true) × AllDigits ds
 
 pub record Numeral (ds : List ℕ) : Type 0 where
   pub some : 0 < length ds
@@ -37,31 +37,31 @@ pub data Piece : Type 0 where
   aByte : (b : ℕ) → Piece
   a_number : (least most b : ℕ) → Piece
   list : (ascending : Bool) (most fewest fullest : ℕ) → Piece
-  spacedList : (most fewest fullest : ℕ) → Piece
+  spaced_list : (most fewest fullest : ℕ) → Piece
 
 -- The texts of a piece, and of pieces one after the other.
 unfoldable pub PieceText : (piece : Piece) (x : List ℕ) → Type 0
 PieceText (aByte b) x = x ≡ b ∷ []
 PieceText (a_number least most b) x = (ds : List ℕ) × (Numeral ds × (x ≡ ds ++ b ∷ []))
 PieceText (list ascending most fewest fullest) x = (ns : List (List ℕ)) × (Numerals ns × (x ≡ between ns ++ 41 ∷ []))
-PieceText (spacedList most fewest fullest) x = (ns : List (List ℕ)) × (Numerals ns × (x ≡ spaced ns ++ 41 ∷ []))
+PieceText (spaced_list most fewest fullest) x = (ns : List (List ℕ)) × (Numerals ns × (x ≡ spaced ns ++ 41 ∷ []))
 
 unfoldable pub TextOf : (pieces : List Piece) (t : List ℕ) → Type 0
 TextOf [] t = t ≡ []
 TextOf (p ∷ ps) t = (x y : List ℕ) × (PieceText p x × (TextOf ps y × (t ≡ x ++ y)))
 
 -- The lines: (watch k room), (start l ..) and (did (p ..) (c ..) (l ..)), for k processes of which n take part.
-unfoldable pub watchPieces : List Piece
-watchPieces = map aByte (ascii "(watch ") ++ a_number 0 kLimit 32 ∷ a_number 1 roomLimit 41 ∷ []
+unfoldable pub watch_pieces : List Piece
+watch_pieces = map aByte (ascii "(watch ") ++ a_number 0 kLimit 32 ∷ a_number 1 room_limit 41 ∷ []
 
-unfoldable pub startPieces : (k : ℕ) → List Piece
-startPieces k = map aByte (ascii "(start") ++ spacedList labelLimit k k ∷ []
+unfoldable pub start_pieces : (k : ℕ) → List Piece
+start_pieces k = map aByte (ascii "(start") ++ spaced_list label_limit k k ∷ []
 
-unfoldable pub didPieces : (k n : ℕ) → List Piece
-didPieces k n =
-    map aByte (ascii "(did (") ++ list true processLimit 1 8
-    ∷ aByte 32 ∷ aByte 40 ∷ list false countLimit k k
-    ∷ aByte 32 ∷ aByte 40 ∷ list false labelLimit n n
+unfoldable pub did_pieces : (k n : ℕ) → List Piece
+did_pieces k n =
+    map aByte (ascii "(did (") ++ list true process_limit 1 8
+    ∷ aByte 32 ∷ aByte 40 ∷ list false count_limit k k
+    ∷ aByte 32 ∷ aByte 40 ∷ list false label_limit n n
     ∷ aByte 41 ∷ []
 
 -- An event's line names n processes, if it names any.

@@ -6,15 +6,15 @@ use Rattle.clocks.specs.Counts.{at}
 use Rattle.rules.specs.Formula.{Formula}
 use Rattle.codec.specs.Ascii.{ascii}
 use Rattle.rules.specs.Text.{text_of, Grammatical, WithinLimits}
-use Rattle.call_words.specs.Words.{unpackCounts, unpackLabels}
+use Rattle.call_words.specs.Words.{unpack_counts, unpack_labels}
 use Rattle.codec.specs.Decimal.{value}
-use Rattle.line_pieces.specs.Reading.{lineLimit}
-use Rattle.line_pieces.specs.NumberList.{eightValues}
+use Rattle.line_pieces.specs.Reading.{line_limit}
+use Rattle.line_pieces.specs.NumberList.{eight_values}
 use Rattle.lines.specs.declared.WatchLine.TheVariants.{Watch}
 use Rattle.lines.specs.declared.StartLine.TheVariants.{Start}
 use Rattle.lines.specs.declared.DidLine.TheVariants.{Did}
 use Rattle.lines.specs.declared.RuleLine.TheVariants.{Rule}
-use Rattle.lines.specs.Lines.{ruleText, ruleLine, kLimit, countLimit, labelLimit, processLimit, roomLimit, watchLine, startLine, didLine}
+use Rattle.lines.specs.Lines.{rule_text, rule_line, kLimit, count_limit, label_limit, process_limit, room_limit, watch_line, start_line, did_line}
 use Rattle.line_laws.specs.Grammar.{Numeral, Numerals, spaced, between}
 
 -- Numbers that a list may have: none is above `most`, the first is not below `least`, and in an ascending list each
@@ -26,44 +26,44 @@ InLimits ascending least most (v ∷ vs) =
 
 -- (watch k room), with the numbers in decimal.
 pub record WatchSays (s : List ℕ) (k room : ℕ) : Type 0 where
-  pub k-digits : List ℕ
-  pub room-digits : List ℕ
-  pub numerals : Numeral k-digits × Numeral room-digits
-  pub text : s ≡ ascii "(watch " ++ (k-digits ++ 32 ∷ (room-digits ++ 41 ∷ []))
-  pub values : (value k-digits ≡ k) × (value room-digits ≡ room)
-  pub limits : (k ≤ kLimit) × ((1 ≤ room) × (room ≤ roomLimit))
-  pub short : length s ≤ lineLimit
+  pub k_digits : List ℕ
+  pub room_digits : List ℕ
+  pub numerals : Numeral k_digits × Numeral room_digits
+  pub text : s ≡ ascii "(watch " ++ (k_digits ++ 32 ∷ (room_digits ++ 41 ∷ []))
+  pub values : (value k_digits ≡ k) × (value room_digits ≡ room)
+  pub limits : (k ≤ kLimit) × ((1 ≤ room) × (room ≤ room_limit))
+  pub short : length s ≤ line_limit
 
 -- (start l ..), with a label byte for each of k processes.
 pub record StartSays (s : List ℕ) (k : ℕ) (ls : List ℕ) : Type 0 where
-  pub label-digits : List (List ℕ)
-  pub numerals : Numerals label-digits
-  pub text : s ≡ ascii "(start" ++ (spaced label-digits ++ 41 ∷ [])
-  pub values : map value label-digits ≡ ls
-  pub limits : InLimits false 0 labelLimit ls
+  pub label_digits : List (List ℕ)
+  pub numerals : Numerals label_digits
+  pub text : s ≡ ascii "(start" ++ (spaced label_digits ++ 41 ∷ [])
+  pub values : map value label_digits ≡ ls
+  pub limits : InLimits false 0 label_limit ls
   pub many : length ls ≡ k
-  pub short : length s ≤ lineLimit
+  pub short : length s ≤ line_limit
 
 -- (did (p ..) (c ..) (l ..)), from the digits of its numbers.
-abbrev pub didText : (processes counts labels : List (List ℕ)) → List ℕ
-didText processes counts labels =
+abbrev pub did_text : (processes counts labels : List (List ℕ)) → List ℕ
+did_text processes counts labels =
     ascii "(did (" ++ (between processes
     ++ (ascii ") (" ++ (between counts
     ++ (ascii ") (" ++ (between labels ++ ascii "))")))))
 
 -- Such a line: the processes ps, ascending; a count for each of k processes; a label byte for each process of ps.
 pub record DidSays (s : List ℕ) (k : ℕ) (ps cs ls : List ℕ) : Type 0 where
-  pub process-digits : List (List ℕ)
-  pub count-digits : List (List ℕ)
-  pub label-digits : List (List ℕ)
-  pub numerals : Numerals process-digits × (Numerals count-digits × Numerals label-digits)
-  pub text : s ≡ didText process-digits count-digits label-digits
-  pub values : (map value process-digits ≡ ps) × ((map value count-digits ≡ cs) × (map value label-digits ≡ ls))
-  pub limits : InLimits true 0 processLimit ps × (InLimits false 0 countLimit cs × InLimits false 0 labelLimit ls)
+  pub process_digits : List (List ℕ)
+  pub count_digits : List (List ℕ)
+  pub label_digits : List (List ℕ)
+  pub numerals : Numerals process_digits × (Numerals count_digits × Numerals label_digits)
+  pub text : s ≡ did_text process_digits count_digits label_digits
+  pub values : (map value process_digits ≡ ps) × ((map value count_digits ≡ cs) × (map value label_digits ≡ ls))
+  pub limits : InLimits true 0 process_limit ps × (InLimits false 0 count_limit cs × InLimits false 0 label_limit ls)
   pub some : 1 ≤ length ps
-  pub counts-many : length cs ≡ k
-  pub labels-many : length ls ≡ length ps
-  pub short : length s ≤ lineLimit
+  pub counts_many : length cs ≡ k
+  pub labels_many : length ls ≡ length ps
+  pub short : length s ≤ line_limit
 
 -- A process is one of ps.
 abbrev pub Named : (p : ℕ) (ps : List ℕ) → Type 0
@@ -73,52 +73,52 @@ Named p ps = (j : ℕ) × ((j < length ps) × (at ps j ≡ p))
 -- words are these numbers.
 pub record Offers (mask c01 c23 c45 c67 labels : ℕ) (ps cs ls : List ℕ) : Type 0 where
   pub take_part : (p : ℕ) → (bit mask p ≡ true) ↔ Named p ps
-  pub counts : unpackCounts 4 (c01 ∷ c23 ∷ c45 ∷ c67 ∷ []) ≡ eightValues cs
-  pub labelled : (j : ℕ) → j < length ps → at (unpackLabels labels) (at ps j) ≡ at ls j
-  pub unlabelled : (p : ℕ) → (Named p ps → ⊥) → at (unpackLabels labels) p ≡ 0
+  pub counts : unpack_counts 4 (c01 ∷ c23 ∷ c45 ∷ c67 ∷ []) ≡ eight_values cs
+  pub labelled : (j : ℕ) → j < length ps → at (unpack_labels labels) (at ps j) ≡ at ls j
+  pub unlabelled : (p : ℕ) → (Named p ps → ⊥) → at (unpack_labels labels) p ≡ 0
 
 -- (rule form), where the form is one of the grammar and within the limits for k processes.
 pub record RuleSays (s : List ℕ) (k : ℕ) (f : Formula) : Type 0 where
   pub text : s ≡ ascii "(rule " ++ (text_of f ++ 41 ∷ [])
   pub grammatical : Grammatical f
   pub limits : WithinLimits k f
-  pub short : length s ≤ lineLimit
+  pub short : length s ≤ line_limit
 
 -- The statements (proved in LinesSay and RuleLineSays)
 
 -- A line is read to a watch exactly if it says that watch.
 abbrev pub WatchIsAsSaid : Type 0
-WatchIsAsSaid = (s : List ℕ) (k room : ℕ) → (watchLine s ≡ Watch k room) ↔ WatchSays s k room
+WatchIsAsSaid = (s : List ℕ) (k room : ℕ) → (watch_line s ≡ Watch k room) ↔ WatchSays s k room
 
 -- The start labels that the call reads are those that the line says; and a line that says some is read.
 abbrev pub StartIsAsSaid : Type 0
 StartIsAsSaid =
-    (s : List ℕ) (k labels : ℕ) → startLine s k ≡ Start labels
-    → (ls : List ℕ) × (StartSays s k ls × (unpackLabels labels ≡ eightValues ls))
+    (s : List ℕ) (k labels : ℕ) → start_line s k ≡ Start labels
+    → (ls : List ℕ) × (StartSays s k ls × (unpack_labels labels ≡ eight_values ls))
 
 abbrev pub StartSaidIsRead : Type 0
 StartSaidIsRead =
     (s : List ℕ) (k : ℕ) (ls : List ℕ) → StartSays s k ls
-    → (labels : ℕ) × ((startLine s k ≡ Start labels) × (unpackLabels labels ≡ eightValues ls))
+    → (labels : ℕ) × ((start_line s k ≡ Start labels) × (unpack_labels labels ≡ eight_values ls))
 
 -- The event that is offered is the one that the line says; and a line that says an event is read, and offers it.
 abbrev pub EventIsAsSaid : Type 0
 EventIsAsSaid =
-    (s : List ℕ) (k mask c01 c23 c45 c67 labels : ℕ) → didLine s k ≡ Did mask c01 c23 c45 c67 labels
+    (s : List ℕ) (k mask c01 c23 c45 c67 labels : ℕ) → did_line s k ≡ Did mask c01 c23 c45 c67 labels
     → (ps cs ls : List ℕ) × (DidSays s k ps cs ls × Offers mask c01 c23 c45 c67 labels ps cs ls)
 
 abbrev pub EventSaidIsRead : Type 0
 EventSaidIsRead =
     (s : List ℕ) (k : ℕ) (ps cs ls : List ℕ) → DidSays s k ps cs ls
     → (mask c01 c23 c45 c67 labels : ℕ)
-    × ((didLine s k ≡ Did mask c01 c23 c45 c67 labels) × Offers mask c01 c23 c45 c67 labels ps cs ls)
+    × ((did_line s k ≡ Did mask c01 c23 c45 c67 labels) × Offers mask c01 c23 c45 c67 labels ps cs ls)
 
 -- A rule's line is accepted exactly if it says a form; the rule is handed over from behind the head to before the
 -- last byte, and these bytes are the form's text.
 abbrev pub RuleIsAsSaid : Type 0
 RuleIsAsSaid =
     (s : List ℕ) (k start end : ℕ)
-    → (ruleLine s k ≡ Rule start end) ↔ ((start ≡ 6) × ((end ≡ length s - 1) × ((f : Formula) × RuleSays s k f)))
+    → (rule_line s k ≡ Rule start end) ↔ ((start ≡ 6) × ((end ≡ length s - 1) × ((f : Formula) × RuleSays s k f)))
 
 abbrev pub RuleBytesAreTheForm : Type 0
-RuleBytesAreTheForm = (s : List ℕ) (k : ℕ) (f : Formula) → RuleSays s k f → ruleText s ≡ text_of f
+RuleBytesAreTheForm = (s : List ℕ) (k : ℕ) (f : Formula) → RuleSays s k f → rule_text s ≡ text_of f

@@ -1,9 +1,9 @@
 // Lists of numbers, single spaces between them.
 
 ghost use Rattle.std.specs.Prelude.{◌+◌, ◌≤◌, ◌<◌, ◌≡◌, cond, [], set};
-ghost use Rattle.line_pieces.specs.Reading.{valueRead};
-ghost use Rattle.line_pieces.specs.NumberList.{listRead, allNumbersAt, thenList, thenSpacedList, thenClose};
-ghost use Rattle.line_pieces.specs.NumberListCode.{numbersRead};
+ghost use Rattle.line_pieces.specs.Reading.{value_read};
+ghost use Rattle.line_pieces.specs.NumberList.{list_read, all_numbers_at, then_list, then_spaced_list, then_close};
+ghost use Rattle.line_pieces.specs.NumberListCode.{numbers_read};
 
 use crate::number::{byte_at, read_number};
 use crate::{Numbers, Read};
@@ -30,7 +30,7 @@ fn least_behind(ascending: bool, v: u64) -> u64
 // All the numbers from a place on.
 fn read_numbers(line: &[u8], start: usize, ascending: bool, most: u64) -> Numbers
     requires { most ≤ 4294967295 }
-    ensures { result ≡ numbersRead (allNumbersAt line.now ascending most start) }
+    ensures { result ≡ numbers_read (all_numbers_at line.now ascending most start) }
 {
     let mut values = [0u64; 8];
     let mut count: u64 = 0;
@@ -63,7 +63,7 @@ fn read_numbers(line: &[u8], start: usize, ascending: bool, most: u64) -> Number
 
 // No numbers, where a reading stands or with its fault.
 fn no_numbers(read: Read) -> Numbers
-    ensures { result ≡ numbersRead (listRead [] read) }
+    ensures { result ≡ numbers_read (list_read [] read) }
 {
     Numbers {
         values: [0u64; 8],
@@ -74,7 +74,7 @@ fn no_numbers(read: Read) -> Numbers
 // A list behind its opening bracket: it may be empty.
 pub fn then_list(line: &[u8], ascending: bool, most: u64, r: Read) -> Numbers
     requires { most ≤ 4294967295 }
-    ensures { result ≡ numbersRead (thenList line.now ascending most r) }
+    ensures { result ≡ numbers_read (then_list line.now ascending most r) }
 {
     match r {
         Read::At { place, value: _ } => {
@@ -90,7 +90,7 @@ pub fn then_list(line: &[u8], ascending: bool, most: u64, r: Read) -> Numbers
 // A list behind a line's word, with a space before its first number.
 pub fn then_spaced_list(line: &[u8], most: u64, r: Read) -> Numbers
     requires { most ≤ 4294967295 }
-    ensures { result ≡ numbersRead (thenSpacedList line.now most r) }
+    ensures { result ≡ numbers_read (then_spaced_list line.now most r) }
 {
     match r {
         Read::At { place, value: _ } => {
@@ -105,7 +105,7 @@ pub fn then_spaced_list(line: &[u8], most: u64, r: Read) -> Numbers
 
 // The closing bracket of a list that has `least` to `most` numbers.
 pub fn then_close(line: &[u8], least: u64, most: u64, r: Read) -> Read
-    ensures { (result ≡ thenClose line.now least most r) × (valueRead result ≤ most) }
+    ensures { (result ≡ then_close line.now least most r) × (value_read result ≤ most) }
 {
     match r {
         Read::At { place, value } => {

@@ -2,7 +2,7 @@
 
 ghost use Rattle.std.specs.Prelude.{◌≤◌, ◌<◌, ◌≡◌};
 ghost use Rattle.rules.specs.Text.{byte_at};
-ghost use Rattle.codec.specs.Decimal.{isDigit};
+ghost use Rattle.codec.specs.Decimal.{is_digit};
 ghost use Rattle.line_pieces.specs.Number.{number_at};
 ghost use Rattle.line_pieces.specs.Digits as digits;
 ghost use Rattle.line_pieces.specs.Digits.{DigitsRead};
@@ -32,7 +32,7 @@ pub fn byte_at(line: &[u8], i: usize) -> u64
 
 // Whether a byte is a digit.
 fn is_digit(c: u64) -> bool
-    ensures { result ≡ isDigit c }
+    ensures { result ≡ is_digit c }
 {
     (48 <= c) & (c <= 57)
 }

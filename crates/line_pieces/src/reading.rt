@@ -1,7 +1,7 @@
 // A line's pieces, from left to right. Each goes on from where a reading stands, and leaves a fault as it is.
 
 ghost use Rattle.std.specs.Prelude.{◌≤◌, ◌≡◌};
-ghost use Rattle.line_pieces.specs.Reading.{valueRead, thenByte, thenBytes, headRead, thenNumber, thenEnd};
+ghost use Rattle.line_pieces.specs.Reading.{value_read, then_byte, then_bytes, head_read, then_number, then_end};
 ghost use Rattle.line_pieces.specs.Reading as readings;
 
 use crate::Read;
@@ -9,7 +9,7 @@ use crate::number::{byte_at, read_number};
 
 // The number read last.
 pub fn value_of(r: Read) -> u64
-    ensures { result ≡ valueRead r }
+    ensures { result ≡ value_read r }
 {
     match r {
         Read::At { place: _, value } => value,
@@ -22,7 +22,7 @@ pub fn value_of(r: Read) -> u64
 
 // One byte that the grammar has there.
 pub fn then_byte(line: &[u8], b: u8, r: Read) -> Read
-    ensures { result ≡ thenByte line.now b r }
+    ensures { result ≡ then_byte line.now b r }
 {
     match r {
         Read::At { place, value } => {
@@ -40,7 +40,7 @@ pub fn then_byte(line: &[u8], b: u8, r: Read) -> Read
 
 // Several such bytes.
 pub fn then_bytes(line: &[u8], bytes: &[u8], r: Read) -> Read
-    ensures { result ≡ thenBytes line.now bytes.now r }
+    ensures { result ≡ then_bytes line.now bytes.now r }
 {
     let mut read = r;
     let mut i: usize = 0;
@@ -53,7 +53,7 @@ pub fn then_bytes(line: &[u8], bytes: &[u8], r: Read) -> Read
 
 // A line's first bytes.
 pub fn head(line: &[u8], bytes: &[u8]) -> Read
-    ensures { result ≡ headRead line.now bytes.now }
+    ensures { result ≡ head_read line.now bytes.now }
 {
     then_bytes(line, bytes, Read::At { place: 0, value: 0 })
 }
@@ -61,7 +61,7 @@ pub fn head(line: &[u8], bytes: &[u8]) -> Read
 // A number from `least` to `most`.
 pub fn then_number(line: &[u8], least: u64, most: u64, r: Read) -> Read
     requires { most ≤ 4294967295 }
-    ensures { result ≡ thenNumber line.now least most r }
+    ensures { result ≡ then_number line.now least most r }
 {
     match r {
         Read::At { place, value: _ } => read_number(line, place, least, most),
@@ -71,7 +71,7 @@ pub fn then_number(line: &[u8], least: u64, most: u64, r: Read) -> Read
 
 // The line's end.
 pub fn then_end(line: &[u8], r: Read) -> Read
-    ensures { result ≡ thenEnd line.now r }
+    ensures { result ≡ then_end line.now r }
 {
     match r {
         Read::At { place, value } => {
@@ -110,7 +110,7 @@ pub fn limited(line: &[u8], r: Read) -> Read
 
 // A line's closing bracket and its end.
 pub fn then_last(line: &[u8], r: Read) -> Read
-    ensures { result ≡ readings.thenLast line.now r }
+    ensures { result ≡ readings.then_last line.now r }
 {
     limited(line, then_end(line, then_byte(line, b')', r)))
 }

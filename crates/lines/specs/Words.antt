@@ -2,9 +2,9 @@
 use Rattle.std.specs.Prelude.{ℕ, zero, suc, ◌+◌, ◌*◌, ◌%◌, List, [], ◌∷◌, set, replicate}
 
 -- Parts below a base, the first lowest.
-unfoldable pub packedWord : (base : ℕ) (xs : List ℕ) → ℕ
-packedWord base [] = 0
-packedWord base (v ∷ vs) = v % base + base * packedWord base vs
+unfoldable pub packed_word : (base : ℕ) (xs : List ℕ) → ℕ
+packed_word base [] = 0
+packed_word base (v ∷ vs) = v % base + base * packed_word base vs
 
 -- Eight numbers: the first n values each at its own place, 0 at the others.
 unfoldable pub placed : (n : ℕ) (places values : ℕ → ℕ) → List ℕ

@@ -1,7 +1,7 @@
 // An event's line.
 
 ghost use Rattle.std.specs.Prelude.{◌≤◌, ◌≡◌};
-ghost use Rattle.lines.specs.Lines.{didOf, didLine};
+ghost use Rattle.lines.specs.Lines.{did_of, did_line};
 
 use crate::DidLine;
 use crate::limits::{COUNT_BASE, COUNT_LIMIT, LABEL_LIMIT, PROCESS_LIMIT};
@@ -13,7 +13,7 @@ use line_pieces::reading::{head, then_bytes, then_last, value_of};
 // What the line's parts make up, where n processes take part.
 fn did_of(n: u64, processes: [u64; 8], counts: [u64; 8], labels: [u64; 8], whole: Read) -> DidLine
     requires { n ≤ 8 }
-    ensures { result ≡ didOf n processes counts labels whole }
+    ensures { result ≡ did_of n processes counts labels whole }
 {
     match whole {
         Read::At { place: _, value: _ } => DidLine::Did {
@@ -30,7 +30,7 @@ fn did_of(n: u64, processes: [u64; 8], counts: [u64; 8], labels: [u64; 8], whole
 
 // Reads (did (p ..) (c ..) (l ..)) for k processes.
 pub fn read_did(line: &[u8], k: u64) -> DidLine
-    ensures { result ≡ didLine line.now k }
+    ensures { result ≡ did_line line.now k }
 {
     let processes = then_list(line, true, PROCESS_LIMIT, head(line, b"(did ("));
     let processes_read = processes.read;

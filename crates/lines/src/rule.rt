@@ -2,8 +2,8 @@
 
 ghost use Rattle.std.specs.Prelude.{◌≡◌, length};
 ghost use Rattle.rules.specs.RuleTable.{answer_of};
-ghost use Rattle.rules.specs.Reader.{readRule};
-ghost use Rattle.lines.specs.Lines.{ruleText, ruleClosed, ruleLine, RuleWithin};
+ghost use Rattle.rules.specs.Reader.{read_rule};
+ghost use Rattle.lines.specs.Lines.{rule_text, rule_closed, rule_line, RuleWithin};
 
 use crate::RuleLine;
 use line_pieces::Read;
@@ -13,7 +13,7 @@ use rules::RuleRead;
 
 // The rule read: what stands between its place and the line's last byte.
 fn read_text(line: &[u8], k: u32) -> RuleRead
-    ensures { result ≡ answer_of (readRule (ruleText line.now) k) }
+    ensures { result ≡ answer_of (read_rule (rule_text line.now) k) }
 {
     let mut table = [0u8; 192];
     if line.len() < 7 {
@@ -26,7 +26,7 @@ fn read_text(line: &[u8], k: u32) -> RuleRead
 
 // The line's last byte, and before it the rule's own faults.
 fn closed(line: &[u8], k: u32) -> RuleLine
-    ensures value { result ≡ ruleClosed line.now (readRule (ruleText line.now) k) }
+    ensures value { result ≡ rule_closed line.now (read_rule (rule_text line.now) k) }
     ensures rule_within { RuleWithin (length line.now) result }
 {
     let read = read_text(line, k);
@@ -53,7 +53,7 @@ fn closed(line: &[u8], k: u32) -> RuleLine
 
 // Reads (rule form) for k processes.
 pub fn read_rule(line: &[u8], k: u32) -> RuleLine
-    ensures value { result ≡ ruleLine line.now k }
+    ensures value { result ≡ rule_line line.now k }
     ensures rule_within { RuleWithin (length line.now) result }
 {
     let first = limited(line, head(line, b"(rule "));

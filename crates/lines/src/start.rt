@@ -1,7 +1,7 @@
 // The line with the start labels.
 
 ghost use Rattle.std.specs.Prelude.{◌≡◌};
-ghost use Rattle.lines.specs.Lines.{start_of, startLine};
+ghost use Rattle.lines.specs.Lines.{start_of, start_line};
 
 use crate::StartLine;
 use crate::limits::LABEL_LIMIT;
@@ -24,7 +24,7 @@ fn start_of(labels: [u64; 8], whole: Read) -> StartLine
 
 // Reads (start l ..) for k processes.
 pub fn read_start(line: &[u8], k: u64) -> StartLine
-    ensures { result ≡ startLine line.now k }
+    ensures { result ≡ start_line line.now k }
 {
     let labels = then_spaced_list(line, LABEL_LIMIT, head(line, b"(start"));
     let read = labels.read;

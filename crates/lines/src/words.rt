@@ -2,14 +2,14 @@
 
 ghost use Rattle.std.specs.Prelude.{◌-◌, ◌^◌, ◌≤◌, ◌<◌, ◌≡◌, take, drop};
 ghost use Rattle.clocks.specs.Counts.{at};
-ghost use Rattle.lines.specs.Words.{packedWord, placed};
+ghost use Rattle.lines.specs.Words.{packed_word, placed};
 
 use line_pieces::list::keep;
 
 // The numbers from `from` to before `to` in a word, each below the base.
 pub(crate) fn word_of(base: u64, values: [u64; 8], from: u64, to: u64) -> u64
     requires { (0 < base) × ((from ≤ to) × ((to ≤ 8) × (base ^ (to - from) ≤ 18446744073709551616))) }
-    ensures { result ≡ packedWord base (take (to - from) (drop from values)) }
+    ensures { result ≡ packed_word base (take (to - from) (drop from values)) }
 {
     let mut w: u64 = 0;
     let mut i = to;

@@ -5,7 +5,7 @@ use Rattle.std.proofs.Common.{suc-le-suc, arith, le_refl, le_of_suc-le-suc, add-
 use Rattle.std.proofs.Math.Decide.{dec_lt}
 use Rattle.std.proofs.Math.Bool.{or-false}
 use Rattle.std.proofs.Math.Dec.{eqb_refl}
-use Rattle.clocks.specs.stored.BoundedLaws.{and_i, and_l, and_r, or-e, same_test, all-i, all-e}
+use Rattle.clocks.specs.stored.BoundedLaws.{and_i, and_l, and_r, or_e, same_test, all_i, all_e}
 use Rattle.clocks.specs.Bounded.{all_below}
 use Rattle.clocks.specs.Counts.{at, list_of}
 use Rattle.clocks.specs.cuts.EventLaws.{true-T}
@@ -20,8 +20,8 @@ head-less x y b l = rw (lt-ltb x y l)
 head-same : (x : ℕ) (b : Bool) → (ltb x x || (eqb x x && b)) ≡ b
 head-same x b = rw (le-ltb x x (le_refl x), eq-eqb x x refl)
 
-head-other : (x y : ℕ) (b : Bool) → (x ≡ y → ⊥) → (ltb x y || (eqb x y && b)) ≡ ltb x y
-head-other x y b n = rw (ne_eqb x y n) (or-false (ltb x y))
+head_other : (x y : ℕ) (b : Bool) → (x ≡ y → ⊥) → (ltb x y || (eqb x y && b)) ≡ ltb x y
+head_other x y b n = rw (ne_eqb x y n) (or-false (ltb x y))
 
 -- ---- Same
 
@@ -30,15 +30,15 @@ unfolding same
 same_refl [] = tt
 same_refl (x ∷ xs) = and_i (eqb x x) (same xs xs) (eqb_refl x) (same_refl xs)
 
-pub same-e : (a b : List ℕ) → T (same a b) → a ≡ b
+pub same_e : (a b : List ℕ) → T (same a b) → a ≡ b
 unfolding same
-same-e [] [] t = refl
-same-e [] (y ∷ ys) t = absurd t
-same-e (x ∷ xs) [] t = absurd t
-same-e (x ∷ xs) (y ∷ ys) t = rw (eqb→eq x y (and_l (eqb x y) (same xs ys) t), same-e xs ys (and_r (eqb x y) (same xs ys) t))
+same_e [] [] t = refl
+same_e [] (y ∷ ys) t = absurd t
+same_e (x ∷ xs) [] t = absurd t
+same_e (x ∷ xs) (y ∷ ys) t = rw (eqb→eq x y (and_l (eqb x y) (same xs ys) t), same_e xs ys (and_r (eqb x y) (same xs ys) t))
 
-pub same-i : (a b : List ℕ) → a ≡ b → T (same a b)
-same-i a b e = rw e (same_refl b)
+pub same_i : (a b : List ℕ) → a ≡ b → T (same a b)
+same_i a b e = rw e (same_refl b)
 
 -- ... count by count
 pub same-all : (a b : List ℕ) (n : ℕ) → length a ≡ n → length b ≡ n
@@ -47,19 +47,19 @@ same-all a b n h k = same_test (same a b) (all_below n (λ p. eqb (at a p) (at b
   where
     there : T (same a b) → T (all_below n (λ p. eqb (at a p) (at b p)))
     there t =
-        all-i n (λ p. eqb (at a p) (at b p))
-        (λ p l. true-T (eq-eqb (at a p) (at b p) (ap (λ (c : List ℕ). at c p) (same-e a b t))))
+        all_i n (λ p. eqb (at a p) (at b p))
+        (λ p l. true-T (eq-eqb (at a p) (at b p) (ap (λ (c : List ℕ). at c p) (same_e a b t))))
 
     back : T (all_below n (λ p. eqb (at a p) (at b p))) → T (same a b)
-    back t = same-i a b (ext_get_or 0 a b (h ∙ sym k)
-        (λ p l. eqb→eq (at a p) (at b p) (all-e n (λ q. eqb (at a q) (at b q)) t p (subst (λ (m : ℕ). p < m) h l))))
+    back t = same_i a b (ext_get_or 0 a b (h ∙ sym k)
+        (λ p l. eqb→eq (at a p) (at b p) (all_e n (λ q. eqb (at a q) (at b q)) t p (subst (λ (m : ℕ). p < m) h l))))
 
 -- ---- Before
 
 -- What the first counts say: either they decide, or they are equal and the rest decides.
-pub before-e : (x y : ℕ) (xs ys : List ℕ) → T (before (x ∷ xs) (y ∷ ys)) → (x < y) ⊎ ((x ≡ y) × T (before xs ys))
+pub before_e : (x y : ℕ) (xs ys : List ℕ) → T (before (x ∷ xs) (y ∷ ys)) → (x < y) ⊎ ((x ≡ y) × T (before xs ys))
 unfolding before
-before-e x y xs ys t = ⊎_elim (λ l. inl (ltb→lt x y l)) (λ r. inr (eqb→eq x y (and_l (eqb x y) (before xs ys) r), and_r (eqb x y) (before xs ys) r)) (or-e (ltb x y) (eqb x y && before xs ys) t)
+before_e x y xs ys t = ⊎_elim (λ l. inl (ltb→lt x y l)) (λ r. inr (eqb→eq x y (and_l (eqb x y) (before xs ys) r), and_r (eqb x y) (before xs ys) r)) (or_e (ltb x y) (eqb x y && before xs ys) t)
 
 pub before-less : (x y : ℕ) (xs ys : List ℕ) → x < y → T (before (x ∷ xs) (y ∷ ys))
 unfolding before
@@ -69,17 +69,17 @@ pub before-tail : (x y : ℕ) (xs ys : List ℕ) → x ≡ y → T (before xs ys
 unfolding before
 before-tail x y xs ys e t = rw (e, head-same y (before xs ys)) t
 
-pub before-irrefl : (a : List ℕ) → T (before a a) → ⊥
+pub before_irrefl : (a : List ℕ) → T (before a a) → ⊥
 unfolding before
-before-irrefl [] t = t
-before-irrefl (x ∷ xs) t = ⊎_elim (λ l. omega arith) (λ r. before-irrefl xs r.1) (before-e x x xs xs t)
+before_irrefl [] t = t
+before_irrefl (x ∷ xs) t = ⊎_elim (λ l. omega arith) (λ r. before_irrefl xs r.1) (before_e x x xs xs t)
 
-pub before-trans : (a b c : List ℕ) → T (before a b) → T (before b c) → T (before a c)
+pub before_trans : (a b c : List ℕ) → T (before a b) → T (before b c) → T (before a c)
 unfolding before
-before-trans [] b c t u = absurd t
-before-trans (x ∷ xs) [] c t u = absurd t
-before-trans (x ∷ xs) (y ∷ ys) [] t u = absurd u
-before-trans (x ∷ xs) (y ∷ ys) (z ∷ zs) t u = go (before-e x y xs ys t) (before-e y z ys zs u) (before-trans xs ys zs)
+before_trans [] b c t u = absurd t
+before_trans (x ∷ xs) [] c t u = absurd t
+before_trans (x ∷ xs) (y ∷ ys) [] t u = absurd u
+before_trans (x ∷ xs) (y ∷ ys) (z ∷ zs) t u = go (before_e x y xs ys t) (before_e y z ys zs u) (before_trans xs ys zs)
   where
     go : (x < y) ⊎ ((x ≡ y) × T (before xs ys)) → (y < z) ⊎ ((y ≡ z) × T (before ys zs)) → (T (before xs ys) → T (before ys zs) → T (before xs zs)) → T (before (x ∷ xs) (z ∷ zs))
     go (inl l) (inl m) r = before-less x z xs zs (omega arith)
@@ -107,11 +107,11 @@ before-total (x ∷ xs) (y ∷ ys) e = go (dec_lt x y) (dec_lt y x) (before-tota
     go (no l) (no m) (last t) = last (before-tail y x ys xs (omega arith) t)
 
 -- One of the three only.
-pub before-asym : (a b : List ℕ) → T (before a b) → T (before b a) → ⊥
-before-asym a b t u = before-irrefl a (before-trans a b a t u)
+pub before_asym : (a b : List ℕ) → T (before a b) → T (before b a) → ⊥
+before_asym a b t u = before_irrefl a (before_trans a b a t u)
 
-pub before-differ : (a b : List ℕ) → T (before a b) → a ≡ b → ⊥
-before-differ a b t e = before-irrefl b (rw e at t)
+pub before_differ : (a b : List ℕ) → T (before a b) → a ≡ b → ⊥
+before_differ a b t e = before_irrefl b (rw e at t)
 
 -- Not before, of lists of one length: the same or after.
 pub not-before : (a b : List ℕ) → length a ≡ length b → (T (before a b) → ⊥) → (a ≡ b) ⊎ T (before b a)
@@ -140,11 +140,11 @@ unfolding before
 before-drop-equal a b p l m e =
     rw (add-one, drop-cons a p 0 l, drop-cons b p 0 m, e, head-same (get_or b p 0) (before (drop (suc p) a) (drop (suc p) b)))
 
-pub before-drop-other : (a b : List ℕ) (p : ℕ) → p < length a → p < length b → (get_or a p 0 ≡ get_or b p 0 → ⊥)
+pub before-drop_other : (a b : List ℕ) (p : ℕ) → p < length a → p < length b → (get_or a p 0 ≡ get_or b p 0 → ⊥)
     → before (drop p a) (drop p b) ≡ ltb (get_or a p 0) (get_or b p 0)
 unfolding before
-before-drop-other a b p l m n =
-    rw (drop-cons a p 0 l, drop-cons b p 0 m, head-other (get_or a p 0) (get_or b p 0) (before (drop (suc p) a) (drop (suc p) b)) n)
+before-drop_other a b p l m n =
+    rw (drop-cons a p 0 l, drop-cons b p 0 m, head_other (get_or a p 0) (get_or b p 0) (before (drop (suc p) a) (drop (suc p) b)) n)
 
 pub same-drop-equal : (a b : List ℕ) (p : ℕ) → p < length a → p < length b → get_or a p 0 ≡ get_or b p 0
     → same (drop p a) (drop p b) ≡ same (drop (p + 1) a) (drop (p + 1) b)
@@ -152,10 +152,10 @@ unfolding same
 same-drop-equal a b p l m e =
     rw (add-one, drop-cons a p 0 l, drop-cons b p 0 m, e, eq-eqb (get_or b p 0) (get_or b p 0) refl)
 
-pub same-drop-other : (a b : List ℕ) (p : ℕ) → p < length a → p < length b → (get_or a p 0 ≡ get_or b p 0 → ⊥)
+pub same-drop_other : (a b : List ℕ) (p : ℕ) → p < length a → p < length b → (get_or a p 0 ≡ get_or b p 0 → ⊥)
     → same (drop p a) (drop p b) ≡ false
 unfolding same
-same-drop-other a b p l m n = rw (drop-cons a p 0 l, drop-cons b p 0 m, ne_eqb (get_or a p 0) (get_or b p 0) n)
+same-drop_other a b p l m n = rw (drop-cons a p 0 l, drop-cons b p 0 m, ne_eqb (get_or a p 0) (get_or b p 0) n)
 
 -- Past the end nothing stands before, and all is the same.
 pub before-drop-end : (a b : List ℕ) (p : ℕ) → length a ≤ p → before (drop p a) (drop p b) ≡ false
@@ -167,11 +167,11 @@ unfolding same
 same-drop-end a b p l m = rw (drop_of_length-le a l, drop_of_length-le b m)
 
 -- Counts nowhere above others, and not the same, stand before them.
-pub below-before : (a b : List ℕ) → length a ≡ length b → ((p : ℕ) → p < length a → get_or a p 0 ≤ get_or b p 0) → (a ≡ b → ⊥) → T (before a b)
-below-before [] [] e h n = absurd (n refl)
-below-before [] (y ∷ ys) e h n = absurd (omega arith)
-below-before (x ∷ xs) [] e h n = absurd (omega arith)
-below-before (x ∷ xs) (y ∷ ys) e h n = go (dec_lt x y) (below-before xs ys (omega arith) (λ p l. h (suc p) (suc-le-suc l)))
+pub below_before : (a b : List ℕ) → length a ≡ length b → ((p : ℕ) → p < length a → get_or a p 0 ≤ get_or b p 0) → (a ≡ b → ⊥) → T (before a b)
+below_before [] [] e h n = absurd (n refl)
+below_before [] (y ∷ ys) e h n = absurd (omega arith)
+below_before (x ∷ xs) [] e h n = absurd (omega arith)
+below_before (x ∷ xs) (y ∷ ys) e h n = go (dec_lt x y) (below_before xs ys (omega arith) (λ p l. h (suc p) (suc-le-suc l)))
   where
     go : Dec (x < y) → ((xs ≡ ys → ⊥) → T (before xs ys)) → T (before (x ∷ xs) (y ∷ ys))
     go (yes l) r = before-less x y xs ys l

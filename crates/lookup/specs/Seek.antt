@@ -12,8 +12,8 @@ unfoldable pub standing : (counts key : List ℕ) → Standing
 standing counts key = cond (same counts key) Same (cond (before counts key) Before Behind)
 
 -- How the key at a place stands to the one sought.
-abbrev pub standsTo : (keys : List (List ℕ)) (key : List ℕ) (i : ℕ) → Standing
-standsTo keys key i = standing (get_or keys i []) key
+abbrev pub stands_to : (keys : List (List ℕ)) (key : List ℕ) (i : ℕ) → Standing
+stands_to keys key i = standing (get_or keys i []) key
 
 -- The place from lo on and below hi at which the key stands, by halving; at most d times.
 unfoldable pub bisect : (keys : List (List ℕ)) (key : List ℕ) (n lo hi : ℕ) → ℕ
@@ -22,7 +22,7 @@ bisect keys key (suc d) lo hi =
     let middle = lo + (hi - lo) / 2 in
     elim (ltb lo hi) [
       | false ↦ length keys
-      | true ↦ elim (standsTo keys key middle) [ Before ↦ bisect keys key d (middle + 1) hi | Same ↦ middle | Behind ↦ bisect keys key d lo middle ]
+      | true ↦ elim (stands_to keys key middle) [ Before ↦ bisect keys key d (middle + 1) hi | Same ↦ middle | Behind ↦ bisect keys key d lo middle ]
     ]
 
 -- The same behind lo, by steps that double; at most d of them.
@@ -32,7 +32,7 @@ gallop keys key (suc d) lo width =
     let far = lo + width in
     elim (ltb far (length keys)) [
       | false ↦ bisect keys key (length keys) (lo + 1) (length keys)
-      | true ↦ elim (standsTo keys key far) [
+      | true ↦ elim (stands_to keys key far) [
         | Before ↦ gallop keys key d far (width * 2)
         | Same ↦ far
         | Behind ↦ bisect keys key (length keys) (lo + 1) far
@@ -44,7 +44,7 @@ unfoldable pub seek : (keys : List (List ℕ)) (key : List ℕ) (hint : ℕ) →
 seek keys key hint =
     elim (ltb hint (length keys)) [
       | false ↦ bisect keys key (length keys) 0 (length keys)
-      | true ↦ elim (standsTo keys key hint) [
+      | true ↦ elim (stands_to keys key hint) [
         | Before ↦ gallop keys key (length keys) hint 1
         | Same ↦ hint
         | Behind ↦ bisect keys key (length keys) 0 hint

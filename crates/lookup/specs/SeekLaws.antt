@@ -7,13 +7,13 @@ use Rattle.std.proofs.Math.Path.{refl}
 use mathlib.Core.List.{List, [], Memᴰ}
 use Rattle.std.proofs.Math.ListN.{length}
 use Rattle.clocks.specs.cuts.EventLaws.{T_true}
-use Rattle.lookup.specs.Seek.{standing, standsTo, bisect, gallop, seek}
+use Rattle.lookup.specs.Seek.{standing, stands_to, bisect, gallop, seek}
 use Rattle.lookup.specs.declared.Standing.{Standing}
 use Rattle.lookup.specs.declared.Standing.TheVariants.{Before, Same, Behind}
 use Rattle.lookup.specs.Order.{before, same}
 use Rattle.lookup.specs.Ascending.{Ascending}
-use Rattle.lookup.specs.OrderLaws.{same-e, same_refl, before-asym, before-differ}
-use Rattle.frontiers.specs.ListLaws.{place-member, member-place}
+use Rattle.lookup.specs.OrderLaws.{same_e, same_refl, before_asym, before_differ}
+use Rattle.frontiers.specs.ListLaws.{place_member, member_place}
 
 -- ---- How counts stand to a key
 
@@ -27,24 +27,24 @@ standing-same a = rw (T_true (same a a) (same_refl a))
 
 pub standing-before : (a b : List ℕ) → T (before a b) → standing a b ≡ Before
 unfolding standing
-standing-before a b t = rw (not_T (same a b) (λ s. before-differ a b t (same-e a b s)), T_true (before a b) t)
+standing-before a b t = rw (not_T (same a b) (λ s. before_differ a b t (same_e a b s)), T_true (before a b) t)
 
-pub standing-behind : (a b : List ℕ) → T (before b a) → standing a b ≡ Behind
+pub standing_behind : (a b : List ℕ) → T (before b a) → standing a b ≡ Behind
 unfolding standing
-standing-behind a b t = rw (not_T (same a b) (λ s. before-differ b a t (sym (same-e a b s))), not_T (before a b) (before-asym b a t))
+standing_behind a b t = rw (not_T (same a b) (λ s. before_differ b a t (sym (same_e a b s))), not_T (before a b) (before_asym b a t))
 
 -- Only the key itself stands as the same.
-pub standing-e : (a b : List ℕ) → standing a b ≡ Same → a ≡ b
+pub standing_e : (a b : List ℕ) → standing a b ≡ Same → a ≡ b
 unfolding standing
-standing-e a b e = go (same a b) refl (before a b) refl
+standing_e a b e = go (same a b) refl (before a b) refl
   where
-    isSame : Standing → Bool
-    isSame x = elim x [ Before ↦ false | Same ↦ true | Behind ↦ false ]
+    is_same : Standing → Bool
+    is_same x = elim x [ Before ↦ false | Same ↦ true | Behind ↦ false ]
 
     go : (t : Bool) → same a b ≡ t → (u : Bool) → before a b ≡ u → a ≡ b
-    go true q u r = same-e a b (rw q tt)
-    go false q true r = absurd (true≢false (sym (ap isSame (rw (q, r) at e))))
-    go false q false r = absurd (true≢false (sym (ap isSame (rw (q, r) at e))))
+    go true q u r = same_e a b (rw q tt)
+    go false q true r = absurd (true≢false (sym (ap is_same (rw (q, r) at e))))
+    go false q false r = absurd (true≢false (sym (ap is_same (rw (q, r) at e))))
 
 -- ---- The loops, turn by turn: with enough turns allowed, their number makes no difference
 
@@ -54,18 +54,18 @@ module _ (keys : List (List ℕ)) (key : List ℕ) where
   bisect-end zero lo hi l = refl
   bisect-end (suc d) lo hi l = rw (le-ltb lo hi l, bisect)
 
-  bisect-turn : (d lo hi : ℕ) → lo < hi → (b : Standing) → standsTo keys key (lo + (hi - lo) / 2) ≡ b
+  bisect-turn : (d lo hi : ℕ) → lo < hi → (b : Standing) → stands_to keys key (lo + (hi - lo) / 2) ≡ b
       → bisect keys key (suc d) lo hi
       ≡ elim b [ Before ↦ bisect keys key d (lo + (hi - lo) / 2 + 1) hi | Same ↦ lo + (hi - lo) / 2 | Behind ↦ bisect keys key d lo (lo + (hi - lo) / 2) ]
   unfolding bisect
   bisect-turn d lo hi l b t = rw (lt-ltb lo hi l, t, bisect)
 
-  bisect-fuel : (d e lo hi : ℕ) → hi - lo ≤ d → hi - lo ≤ e → bisect keys key d lo hi ≡ bisect keys key e lo hi
-  bisect-fuel zero e lo hi l m = bisect-end zero lo hi (omega arith) ∙ sym (bisect-end e lo hi (omega arith))
-  bisect-fuel (suc d) zero lo hi l m = bisect-end (suc d) lo hi (omega arith) ∙ sym (bisect-end zero lo hi (omega arith))
-  bisect-fuel (suc d) (suc e) lo hi l m = go (dec_lt lo hi) (standsTo keys key (lo + (hi - lo) / 2)) refl (bisect-fuel d e)
+  bisect_fuel : (d e lo hi : ℕ) → hi - lo ≤ d → hi - lo ≤ e → bisect keys key d lo hi ≡ bisect keys key e lo hi
+  bisect_fuel zero e lo hi l m = bisect-end zero lo hi (omega arith) ∙ sym (bisect-end e lo hi (omega arith))
+  bisect_fuel (suc d) zero lo hi l m = bisect-end (suc d) lo hi (omega arith) ∙ sym (bisect-end zero lo hi (omega arith))
+  bisect_fuel (suc d) (suc e) lo hi l m = go (dec_lt lo hi) (stands_to keys key (lo + (hi - lo) / 2)) refl (bisect_fuel d e)
     where
-      go : Dec (lo < hi) → (b : Standing) → standsTo keys key (lo + (hi - lo) / 2) ≡ b
+      go : Dec (lo < hi) → (b : Standing) → stands_to keys key (lo + (hi - lo) / 2) ≡ b
           → ((lo hi : ℕ) → hi - lo ≤ d → hi - lo ≤ e → bisect keys key d lo hi ≡ bisect keys key e lo hi)
           → bisect keys key (suc d) lo hi ≡ bisect keys key (suc e) lo hi
       go (no k) b q r = bisect-end (suc d) lo hi (omega arith) ∙ sym (bisect-end (suc e) lo hi (omega arith))
@@ -76,42 +76,42 @@ module _ (keys : List (List ℕ)) (key : List ℕ) where
           bisect-turn d lo hi k Behind q ∙ r lo (lo + (hi - lo) / 2) (omega arith) (omega arith) ∙ sym (bisect-turn e lo hi k Behind q)
 
   -- A turn: up, at its end, or down.
-  pub bisect-step : (d lo hi : ℕ) → lo < hi → hi - lo ≤ d → (b : Standing) → standsTo keys key (lo + (hi - lo) / 2) ≡ b
+  pub bisect_step : (d lo hi : ℕ) → lo < hi → hi - lo ≤ d → (b : Standing) → stands_to keys key (lo + (hi - lo) / 2) ≡ b
       → bisect keys key d lo hi
       ≡ elim b [ Before ↦ bisect keys key d (lo + (hi - lo) / 2 + 1) hi | Same ↦ lo + (hi - lo) / 2 | Behind ↦ bisect keys key d lo (lo + (hi - lo) / 2) ]
-  bisect-step zero lo hi k l b q = absurd (omega arith)
-  bisect-step (suc d) lo hi k l Before q =
-      bisect-turn d lo hi k Before q ∙ bisect-fuel d (suc d) (lo + (hi - lo) / 2 + 1) hi (omega arith) (omega arith)
-  bisect-step (suc d) lo hi k l Same q = bisect-turn d lo hi k Same q
-  bisect-step (suc d) lo hi k l Behind q =
-      bisect-turn d lo hi k Behind q ∙ bisect-fuel d (suc d) lo (lo + (hi - lo) / 2) (omega arith) (omega arith)
+  bisect_step zero lo hi k l b q = absurd (omega arith)
+  bisect_step (suc d) lo hi k l Before q =
+      bisect-turn d lo hi k Before q ∙ bisect_fuel d (suc d) (lo + (hi - lo) / 2 + 1) hi (omega arith) (omega arith)
+  bisect_step (suc d) lo hi k l Same q = bisect-turn d lo hi k Same q
+  bisect_step (suc d) lo hi k l Behind q =
+      bisect-turn d lo hi k Behind q ∙ bisect_fuel d (suc d) lo (lo + (hi - lo) / 2) (omega arith) (omega arith)
 
   -- A gallop's last turn, past the end.
-  gallop-over : (d lo width : ℕ) → length keys ≤ lo + width → gallop keys key (suc d) lo width ≡ bisect keys key (length keys) (lo + 1) (length keys)
+  gallop_over : (d lo width : ℕ) → length keys ≤ lo + width → gallop keys key (suc d) lo width ≡ bisect keys key (length keys) (lo + 1) (length keys)
   unfolding gallop
-  gallop-over d lo width m = rw (le-ltb (lo + width) (length keys) m, gallop)
+  gallop_over d lo width m = rw (le-ltb (lo + width) (length keys) m, gallop)
 
-  pub gallop-past : (d lo width : ℕ) → lo < length keys → length keys - lo ≤ d → length keys ≤ lo + width
+  pub gallop_past : (d lo width : ℕ) → lo < length keys → length keys - lo ≤ d → length keys ≤ lo + width
       → gallop keys key d lo width ≡ bisect keys key (length keys) (lo + 1) (length keys)
-  gallop-past zero lo width k l m = absurd (omega arith)
-  gallop-past (suc d) lo width k l m = gallop-over d lo width m
+  gallop_past zero lo width k l m = absurd (omega arith)
+  gallop_past (suc d) lo width k l m = gallop_over d lo width m
 
-  gallop-turn : (d lo width : ℕ) → lo + width < length keys → (b : Standing) → standsTo keys key (lo + width) ≡ b
+  gallop-turn : (d lo width : ℕ) → lo + width < length keys → (b : Standing) → stands_to keys key (lo + width) ≡ b
       → gallop keys key (suc d) lo width
       ≡ elim b [ Before ↦ gallop keys key d (lo + width) (width * 2) | Same ↦ lo + width | Behind ↦ bisect keys key (length keys) (lo + 1) (lo + width) ]
   unfolding gallop
   gallop-turn d lo width l b q = rw (lt-ltb (lo + width) (length keys) l, q, gallop)
 
-  gallop-fuel : (d e lo width : ℕ) → lo < length keys → length keys - lo ≤ d → length keys - lo ≤ e → 0 < width
+  gallop_fuel : (d e lo width : ℕ) → lo < length keys → length keys - lo ≤ d → length keys - lo ≤ e → 0 < width
       → gallop keys key d lo width ≡ gallop keys key e lo width
-  gallop-fuel zero e lo width k l m z = absurd (omega arith)
-  gallop-fuel (suc d) zero lo width k l m z = absurd (omega arith)
-  gallop-fuel (suc d) (suc e) lo width k l m z = go (dec_lt (lo + width) (length keys)) (standsTo keys key (lo + width)) refl (gallop-fuel d e)
+  gallop_fuel zero e lo width k l m z = absurd (omega arith)
+  gallop_fuel (suc d) zero lo width k l m z = absurd (omega arith)
+  gallop_fuel (suc d) (suc e) lo width k l m z = go (dec_lt (lo + width) (length keys)) (stands_to keys key (lo + width)) refl (gallop_fuel d e)
     where
-      go : Dec (lo + width < length keys) → (b : Standing) → standsTo keys key (lo + width) ≡ b
+      go : Dec (lo + width < length keys) → (b : Standing) → stands_to keys key (lo + width) ≡ b
           → ((lo width : ℕ) → lo < length keys → length keys - lo ≤ d → length keys - lo ≤ e → 0 < width → gallop keys key d lo width ≡ gallop keys key e lo width)
           → gallop keys key (suc d) lo width ≡ gallop keys key (suc e) lo width
-      go (no n) b q r = gallop-past (suc d) lo width k l (omega arith) ∙ sym (gallop-past (suc e) lo width k m (omega arith))
+      go (no n) b q r = gallop_past (suc d) lo width k l (omega arith) ∙ sym (gallop_past (suc e) lo width k m (omega arith))
       go (yes n) Before q r =
           gallop-turn d lo width n Before q ∙ r (lo + width) (width * 2) n (omega arith) (omega arith) (omega arith)
           ∙ sym (gallop-turn e lo width n Before q)
@@ -119,31 +119,31 @@ module _ (keys : List (List ℕ)) (key : List ℕ) where
       go (yes n) Behind q r = gallop-turn d lo width n Behind q ∙ sym (gallop-turn e lo width n Behind q)
 
   -- A turn within: on, at its end, or back.
-  pub gallop-step : (d lo width : ℕ) → length keys - lo ≤ d → 0 < width → lo + width < length keys → (b : Standing) → standsTo keys key (lo + width) ≡ b
+  pub gallop_step : (d lo width : ℕ) → length keys - lo ≤ d → 0 < width → lo + width < length keys → (b : Standing) → stands_to keys key (lo + width) ≡ b
       → gallop keys key d lo width
       ≡ elim b [ Before ↦ gallop keys key d (lo + width) (width * 2) | Same ↦ lo + width | Behind ↦ bisect keys key (length keys) (lo + 1) (lo + width) ]
-  gallop-step zero lo width l z k b q = absurd (omega arith)
-  gallop-step (suc d) lo width l z k Before q =
-      gallop-turn d lo width k Before q ∙ gallop-fuel d (suc d) (lo + width) (width * 2) k (omega arith) (omega arith) (omega arith)
-  gallop-step (suc d) lo width l z k Same q = gallop-turn d lo width k Same q
-  gallop-step (suc d) lo width l z k Behind q = gallop-turn d lo width k Behind q
+  gallop_step zero lo width l z k b q = absurd (omega arith)
+  gallop_step (suc d) lo width l z k Before q =
+      gallop-turn d lo width k Before q ∙ gallop_fuel d (suc d) (lo + width) (width * 2) k (omega arith) (omega arith) (omega arith)
+  gallop_step (suc d) lo width l z k Same q = gallop-turn d lo width k Same q
+  gallop_step (suc d) lo width l z k Behind q = gallop-turn d lo width k Behind q
 
   -- The first test of the look-up: up from the hint, at its end, or down.
-  pub seek-step : (hint : ℕ) → hint < length keys → (b : Standing) → standsTo keys key hint ≡ b
+  pub seek_step : (hint : ℕ) → hint < length keys → (b : Standing) → stands_to keys key hint ≡ b
       → seek keys key hint
       ≡ elim b [ Before ↦ gallop keys key (length keys) hint 1 | Same ↦ hint | Behind ↦ bisect keys key (length keys) 0 hint ]
   unfolding seek
-  seek-step hint l b q = rw (lt-ltb hint (length keys) l, q, seek)
+  seek_step hint l b q = rw (lt-ltb hint (length keys) l, q, seek)
 
-  pub seek-whole : (hint : ℕ) → length keys ≤ hint → seek keys key hint ≡ bisect keys key (length keys) 0 (length keys)
+  pub seek_whole : (hint : ℕ) → length keys ≤ hint → seek keys key hint ≡ bisect keys key (length keys) 0 (length keys)
   unfolding seek
-  seek-whole hint l = rw (le-ltb hint (length keys) l, seek)
+  seek_whole hint l = rw (le-ltb hint (length keys) l, seek)
 
   -- ---- Where the look-up ends, on any list: at the key, or at the number of keys
 
   -- The key stands at a place that is none behind the last.
   abbrev Ends : ℕ → Type 0
-  Ends i = i < length keys → standsTo keys key i ≡ Same
+  Ends i = i < length keys → stands_to keys key i ≡ Same
 
   ends_at : (i j : ℕ) → i ≡ j → Ends j → Ends i
   ends_at i j e f = rw e f
@@ -151,9 +151,9 @@ module _ (keys : List (List ℕ)) (key : List ℕ) where
   bisect-ends : (d lo hi : ℕ) → Ends (bisect keys key d lo hi)
   unfolding bisect
   bisect-ends zero lo hi = λ l. absurd (omega arith)
-  bisect-ends (suc d) lo hi = go (dec_lt lo hi) (standsTo keys key (lo + (hi - lo) / 2)) refl (bisect-ends d)
+  bisect-ends (suc d) lo hi = go (dec_lt lo hi) (stands_to keys key (lo + (hi - lo) / 2)) refl (bisect-ends d)
     where
-      go : Dec (lo < hi) → (b : Standing) → standsTo keys key (lo + (hi - lo) / 2) ≡ b → ((lo hi : ℕ) → Ends (bisect keys key d lo hi))
+      go : Dec (lo < hi) → (b : Standing) → stands_to keys key (lo + (hi - lo) / 2) ≡ b → ((lo hi : ℕ) → Ends (bisect keys key d lo hi))
           → Ends (bisect keys key (suc d) lo hi)
       go (no k) b q r = ends_at _ (length keys) (bisect-end (suc d) lo hi (omega arith)) (λ l. absurd (omega arith))
       go (yes k) Before q r = ends_at _ _ (bisect-turn d lo hi k Before q) (r (lo + (hi - lo) / 2 + 1) hi)
@@ -163,36 +163,36 @@ module _ (keys : List (List ℕ)) (key : List ℕ) where
   gallop-ends : (d lo width : ℕ) → Ends (gallop keys key d lo width)
   unfolding gallop
   gallop-ends zero lo width = λ l. absurd (omega arith)
-  gallop-ends (suc d) lo width = go (dec_lt (lo + width) (length keys)) (standsTo keys key (lo + width)) refl (gallop-ends d)
+  gallop-ends (suc d) lo width = go (dec_lt (lo + width) (length keys)) (stands_to keys key (lo + width)) refl (gallop-ends d)
     where
-      go : Dec (lo + width < length keys) → (b : Standing) → standsTo keys key (lo + width) ≡ b → ((lo width : ℕ) → Ends (gallop keys key d lo width))
+      go : Dec (lo + width < length keys) → (b : Standing) → stands_to keys key (lo + width) ≡ b → ((lo width : ℕ) → Ends (gallop keys key d lo width))
           → Ends (gallop keys key (suc d) lo width)
-      go (no k) b q r = ends_at _ _ (gallop-over d lo width (omega arith)) (bisect-ends (length keys) (lo + 1) (length keys))
+      go (no k) b q r = ends_at _ _ (gallop_over d lo width (omega arith)) (bisect-ends (length keys) (lo + 1) (length keys))
       go (yes k) Before q r = ends_at _ _ (gallop-turn d lo width k Before q) (r (lo + width) (width * 2))
       go (yes k) Same q r = ends_at _ _ (gallop-turn d lo width k Same q) (λ l. q)
       go (yes k) Behind q r = ends_at _ _ (gallop-turn d lo width k Behind q) (bisect-ends (length keys) (lo + 1) (lo + width))
 
   -- The look-up ends at the key, or at the number of keys.
   pub seek-ends : (hint : ℕ) → seek keys key hint < length keys → get_or keys (seek keys key hint) [] ≡ key
-  seek-ends hint l = standing-e (get_or keys (seek keys key hint) []) key (go (dec_lt hint (length keys)) (standsTo keys key hint) refl l)
+  seek-ends hint l = standing_e (get_or keys (seek keys key hint) []) key (go (dec_lt hint (length keys)) (stands_to keys key hint) refl l)
     where
-      go : Dec (hint < length keys) → (b : Standing) → standsTo keys key hint ≡ b → Ends (seek keys key hint)
-      go (no k) b q = ends_at _ _ (seek-whole hint (omega arith)) (bisect-ends (length keys) 0 (length keys))
-      go (yes k) Before q = ends_at _ _ (seek-step hint k Before q) (gallop-ends (length keys) hint 1)
-      go (yes k) Same q = ends_at _ _ (seek-step hint k Same q) (λ l. q)
-      go (yes k) Behind q = ends_at _ _ (seek-step hint k Behind q) (bisect-ends (length keys) 0 hint)
+      go : Dec (hint < length keys) → (b : Standing) → stands_to keys key hint ≡ b → Ends (seek keys key hint)
+      go (no k) b q = ends_at _ _ (seek_whole hint (omega arith)) (bisect-ends (length keys) 0 (length keys))
+      go (yes k) Before q = ends_at _ _ (seek_step hint k Before q) (gallop-ends (length keys) hint 1)
+      go (yes k) Same q = ends_at _ _ (seek_step hint k Same q) (λ l. q)
+      go (yes k) Behind q = ends_at _ _ (seek_step hint k Behind q) (bisect-ends (length keys) 0 hint)
 
 -- ---- On an ascending list
 
 module _ (keys : List (List ℕ)) (asc : Ascending keys) where
   -- What stands before and behind the key that stands at j.
-  low : (j i : ℕ) → j < length keys → i < j → standsTo keys (get_or keys j []) i ≡ Before
+  low : (j i : ℕ) → j < length keys → i < j → stands_to keys (get_or keys j []) i ≡ Before
   low j i l m = standing-before (get_or keys i []) (get_or keys j []) (asc i j m l)
 
-  high : (j i : ℕ) → i < length keys → j < i → standsTo keys (get_or keys j []) i ≡ Behind
-  high j i l m = standing-behind (get_or keys i []) (get_or keys j []) (asc j i m l)
+  high : (j i : ℕ) → i < length keys → j < i → stands_to keys (get_or keys j []) i ≡ Behind
+  high j i l m = standing_behind (get_or keys i []) (get_or keys j []) (asc j i m l)
 
-  here : (j i : ℕ) → i ≡ j → standsTo keys (get_or keys j []) i ≡ Same
+  here : (j i : ℕ) → i ≡ j → stands_to keys (get_or keys j []) i ≡ Same
   here j i e = rw e (standing-same (get_or keys j []))
 
   bisect-finds : (j : ℕ) → j < length keys → (d lo hi : ℕ) → hi - lo ≤ d → hi ≤ length keys → lo ≤ j → j < hi
@@ -221,7 +221,7 @@ module _ (keys : List (List ℕ)) (asc : Ascending keys) where
           → ((lo width : ℕ) → length keys - lo ≤ d → 0 < width → lo < j → gallop keys (get_or keys j []) d lo width ≡ j)
           → gallop keys (get_or keys j []) (suc d) lo width ≡ j
       go (no k) m n r =
-          gallop-past keys (get_or keys j []) (suc d) lo width (omega arith) e (omega arith)
+          gallop_past keys (get_or keys j []) (suc d) lo width (omega arith) e (omega arith)
           ∙ bisect-finds j l (length keys) (lo + 1) (length keys) (omega arith) (omega arith) (omega arith) l
       go (yes k) (yes m) n r =
           gallop-turn keys (get_or keys j []) d lo width k Before (low j (lo + width) l m) ∙ r (lo + width) (width * 2) (omega arith) (omega arith) m
@@ -237,24 +237,24 @@ module _ (keys : List (List ℕ)) (asc : Ascending keys) where
     where
       go : Dec (hint < length keys) → Dec (hint < j) → Dec (j < hint) → seek keys (get_or keys j []) hint ≡ j
       go (no k) m n =
-          seek-whole keys (get_or keys j []) hint (omega arith)
+          seek_whole keys (get_or keys j []) hint (omega arith)
           ∙ bisect-finds j l (length keys) 0 (length keys) (omega arith) (omega arith) (omega arith) l
       go (yes k) (yes m) n =
-          seek-step keys (get_or keys j []) hint k Before (low j hint l m) ∙ gallop-finds j l (length keys) hint 1 (omega arith) (omega arith) m
+          seek_step keys (get_or keys j []) hint k Before (low j hint l m) ∙ gallop-finds j l (length keys) hint 1 (omega arith) (omega arith) m
       go (yes k) (no m) (yes n) =
-          seek-step keys (get_or keys j []) hint k Behind (high j hint k n)
+          seek_step keys (get_or keys j []) hint k Behind (high j hint k n)
           ∙ bisect-finds j l (length keys) 0 hint (omega arith) (omega arith) (omega arith) n
-      go (yes k) (no m) (no n) = seek-step keys (get_or keys j []) hint k Same (here j hint (omega arith)) ∙ omega arith
+      go (yes k) (no m) (no n) = seek_step keys (get_or keys j []) hint k Same (here j hint (omega arith)) ∙ omega arith
 
 -- The look-up ends at a place exactly if the key stands anywhere.
-pub seek-member : (keys : List (List ℕ)) → Ascending keys → (key : List ℕ) (hint : ℕ) → (seek keys key hint < length keys) ↔ Memᴰ key keys
-seek-member keys asc key hint = (found, ends)
+pub seek_member : (keys : List (List ℕ)) → Ascending keys → (key : List ℕ) (hint : ℕ) → (seek keys key hint < length keys) ↔ Memᴰ key keys
+seek_member keys asc key hint = (found, ends)
   where
     found : seek keys key hint < length keys → Memᴰ key keys
-    found l = rw (seek-ends keys key hint l) at (place-member keys (seek keys key hint) [] l)
+    found l = rw (seek-ends keys key hint l) at (place_member keys (seek keys key hint) [] l)
 
     ends : Memᴰ key keys → seek keys key hint < length keys
     ends m =
-        let r = member-place keys key [] m in
+        let r = member_place keys key [] m in
         let here : seek keys key hint ≡ r.0 = rw r.2 at (seek_finds keys asc r.0 r.1 hint) in
         rw here r.1

@@ -2,7 +2,7 @@
 
 ghost use Rattle.std.specs.Prelude.{◌+◌, ◌*◌, ◌≤◌, ◌<◌, ◌≡◌, cond, ltb, length};
 ghost use Rattle.frontiers.specs.Width.{Width};
-ghost use Rattle.frontiers.specs.Bytes.{frontierLength, frontierAt, frontiers};
+ghost use Rattle.frontiers.specs.Bytes.{frontier_length, frontier_at, frontiers};
 ghost use Rattle.lookup.specs.Seek.{standing, bisect as bisected, gallop as galloped, seek as sought, keys_of};
 ghost use Rattle.lookup.specs.declared.Standing.TheVariants.{Before, Behind};
 
@@ -23,8 +23,8 @@ fn standing_of(count: u32, wanted: u32) -> Standing
 pub fn standing_at(s: &[u8], w: usize, i: usize, key: [u32; 8]) -> Standing
     requires width { Width w }
     requires i_bound { i ≤ 1024 }
-    requires w_in_bounds { i * frontierLength w + frontierLength w ≤ length s.now }
-    ensures { result ≡ standing (frontierAt w s.now i).counts key }
+    requires w_in_bounds { i * frontier_length w + frontier_length w ≤ length s.now }
+    ensures { result ≡ standing (frontier_at w s.now i).counts key }
 {
     let mut next = frontiers::place::frontier_place(w, i);
     let mut p = 0;
@@ -44,7 +44,7 @@ pub fn standing_at(s: &[u8], w: usize, i: usize, key: [u32; 8]) -> Standing
 pub fn bisect(s: &[u8], w: usize, n: usize, key: [u32; 8], low: usize, high: usize) -> usize
     requires width { Width w }
     requires n_bound { n ≤ 1024 }
-    requires w_in_bounds { n * frontierLength w ≤ length s.now }
+    requires w_in_bounds { n * frontier_length w ≤ length s.now }
     requires high_le_n { high ≤ n }
     ensures { result ≡ bisected (keys_of (frontiers w s.now n)) key n low high }
 {
@@ -71,7 +71,7 @@ pub fn bisect(s: &[u8], w: usize, n: usize, key: [u32; 8], low: usize, high: usi
 pub fn gallop(s: &[u8], w: usize, n: usize, key: [u32; 8], low: usize) -> usize
     requires width { Width w }
     requires n_bound { n ≤ 1024 }
-    requires w_in_bounds { n * frontierLength w ≤ length s.now }
+    requires w_in_bounds { n * frontier_length w ≤ length s.now }
     requires low_lt_n { low < n }
     ensures { result ≡ galloped (keys_of (frontiers w s.now n)) key n low 1 }
 {
@@ -101,7 +101,7 @@ pub fn gallop(s: &[u8], w: usize, n: usize, key: [u32; 8], low: usize) -> usize
 pub fn seek(s: &[u8], w: usize, n: usize, key: [u32; 8], hint: usize) -> usize
     requires width { Width w }
     requires n_bound { n ≤ 1024 }
-    requires w_in_bounds { n * frontierLength w ≤ length s.now }
+    requires w_in_bounds { n * frontier_length w ≤ length s.now }
     ensures { result ≡ sought (keys_of (frontiers w s.now n)) key hint }
 {
     if n <= hint {

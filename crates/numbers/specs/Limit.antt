@@ -2,17 +2,17 @@
 use Rattle.std.specs.Prelude.{ℕ}
 
 -- Frontiers of a window.
-abbrev pub mostFrontiers : ℕ
-mostFrontiers = 1024
+abbrev pub most_frontiers : ℕ
+most_frontiers = 1024
 
 -- Processes of a watch.
-abbrev pub mostProcesses : ℕ
-mostProcesses = 8
+abbrev pub most_processes : ℕ
+most_processes = 8
 
 -- Events of a busiest day.
-abbrev pub mostDayEvents : ℕ
-mostDayEvents = 65535
+abbrev pub most_day_events : ℕ
+most_day_events = 65535
 
 -- Watches that share a pool.
-abbrev pub mostMembers : ℕ
-mostMembers = 8
+abbrev pub most_members : ℕ
+most_members = 8

@@ -11,15 +11,15 @@ pub const NESTING: u8 = 2;
 pub const TOO_MANY_LINES: u8 = 3;
 // rules Fault: Fault4, a process or a proposition that is not there.
 pub const ATOM: u8 = 4;
-// refusals Refusals: badProcesses, a number of processes that is not 1 to 8.
+// refusals Refusals: bad_processes, a number of processes that is not 1 to 8.
 pub const PROCESSES: u64 = 5;
-// refusals Refusals: badRecordLength, badWindowLength, a lent buffer of a wrong length.
+// refusals Refusals: bad_record_length, bad_window_length, a lent buffer of a wrong length.
 pub const LENGTH: u64 = 6;
-// clocks Refusal: badMask.
+// clocks Refusal: bad_mask.
 pub const MASK: u64 = 7;
-// clocks Refusal: badClock.
+// clocks Refusal: bad_clock.
 pub const CLOCK: u64 = 8;
-// clocks Refusal: badLabels, and badStart at open.
+// clocks Refusal: bad_labels, and bad_start at open.
 pub const LABELS: u64 = 9;
 // lines Fault: a number, a list or a line beyond its limit.
 pub const LINE_LIMIT: u8 = 10;
@@ -28,29 +28,29 @@ pub const NO_SUCH_LINE: u64 = 11;
 
 // From the state.
 
-// refusals Refusals: alreadyTaken.
+// refusals Refusals: already_taken.
 pub const TAKEN: u64 = 31;
 // refusals Refusals: conflicting.
 pub const CONFLICT: u64 = 32;
 // call_offer Offer: 32 events are pending.
 pub const FULL: u64 = 33;
-// refusals Refusals: badState.
+// refusals Refusals: bad_state.
 pub const STATE: u64 = 34;
 // call_take Take: the event decided on has a false clock.
 pub const FALSE_CLOCK: u64 = 35;
 // call_take Take: an event is ready, and none fits.
 pub const NO_ROOM: u64 = 36;
-// refusals Refusals: notOpen.
+// refusals Refusals: not_open.
 pub const NOT_OPEN: u64 = 41;
-// refusals Refusals: namedBy at close, namesClosed at offer.
+// refusals Refusals: namedBy at close, names_closed at offer.
 pub const NAMED: u64 = 42;
 // call_move Move: overflows.
 pub const TOO_LARGE: u64 = 43;
-// call_page Page: shortPage.
+// call_page Page: short_page.
 pub const SHORT_PAGE: u64 = 44;
-// call_busiest Busiest: badDay.
+// call_busiest Busiest: bad_day.
 pub const DAY: u64 = 45;
-// call_busiest Busiest: tooBusy.
+// call_busiest Busiest: too_busy.
 pub const BUSY: u64 = 46;
-// call_shares Shares: badShares.
+// call_shares Shares: bad_shares.
 pub const SHARES: u64 = 49;

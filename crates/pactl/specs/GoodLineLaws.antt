@@ -5,28 +5,28 @@ use Rattle.std.specs.Prelude.{◌≡◌, true, false, ◌&&◌, List, [], ◌∷
 use Rattle.std.proofs.lemmas.Bool.{lt-leb}
 use Rattle.clocks.specs.stored.BoundedLaws.{and-true}
 use Rattle.pactl.specs.declared.Line.{Line}
-use Rattle.pactl.specs.Line.{line, propositionLine, notLine, andLine, eyLine, esLine, asLine}
-use Rattle.pactl.specs.Table.{goodLine, goodFrom, goodTable}
+use Rattle.pactl.specs.Line.{line, proposition_line, not_line, and_line, ey_line, es_line, as_line}
+use Rattle.pactl.specs.Table.{good_line, good_from, good_table}
 
 -- Each line of a good table is good.
-good-from : (k i : ℕ) (ls : List Line) (j : ℕ) → goodFrom k i ls ≡ true → j < length ls
-    → goodLine k (i + j) (get_or ls j (line 0 0 0)) ≡ true
-unfolding goodFrom
-good-from k i [] j g h = absurd (omega arith)
-good-from k i (l ∷ ls) zero g h =
-    let e : i + 0 ≡ i = omega arith in rw e (and-true (goodLine k i l) (goodFrom k (i + 1) ls) g).0
-good-from k i (l ∷ ls) (suc j) g h =
+good_from_lem : (k i : ℕ) (ls : List Line) (j : ℕ) → good_from k i ls ≡ true → j < length ls
+    → good_line k (i + j) (get_or ls j (line 0 0 0)) ≡ true
+unfolding good_from
+good_from_lem k i [] j g h = absurd (omega arith)
+good_from_lem k i (l ∷ ls) zero g h =
+    let e : i + 0 ≡ i = omega arith in rw e (and-true (good_line k i l) (good_from k (i + 1) ls) g).0
+good_from_lem k i (l ∷ ls) (suc j) g h =
     let e : i + suc j ≡ i + 1 + j = omega arith in
-    rw e (good-from k (i + 1) ls j (and-true (goodLine k i l) (goodFrom k (i + 1) ls) g).1 (omega arith))
+    rw e (good_from_lem k (i + 1) ls j (and-true (good_line k i l) (good_from k (i + 1) ls) g).1 (omega arith))
 
-pub good-at : (k : ℕ) (ls : List Line) (i : ℕ) → goodTable k ls ≡ true → i < length ls
-    → goodLine k i (get_or ls i (line 0 0 0)) ≡ true
-good-at k ls i g h = let e : 0 + i ≡ i = omega arith in rw e at (good-from k 0 ls i g h)
+pub good_at : (k : ℕ) (ls : List Line) (i : ℕ) → good_table k ls ≡ true → i < length ls
+    → good_line k i (get_or ls i (line 0 0 0)) ≡ true
+good_at k ls i g h = let e : 0 + i ≡ i = omega arith in rw e at (good_from_lem k 0 ls i g h)
 
 -- ---- The kinds
-no-kind-above : (k i kind a b : ℕ) → 5 < kind → goodLine k i (line kind a b) ≡ false
-unfolding goodLine
-no-kind-above k i kind a b h =
+no_kind_above : (k i kind a b : ℕ) → 5 < kind → good_line k i (line kind a b) ≡ false
+unfolding good_line
+no_kind_above k i kind a b h =
     rw (
       ne_eqb kind 0 (λ e. omega (arith, e)),
       ne_eqb kind 1 (λ e. omega (arith, e)),
@@ -38,34 +38,34 @@ no-kind-above k i kind a b h =
 one-named : (i a b : ℕ) → ltb a i && eqb b 0 ≡ true → (a < i) × (b ≡ 0)
 one-named i a b h = let p = and-true (ltb a i) (eqb b 0) h in (ltb-true a i p.0, eqb-true b 0 p.1)
 
-two-named : (i a b : ℕ) → ltb a i && ltb b i ≡ true → (a < i) × (b < i)
-two-named i a b h = let p = and-true (ltb a i) (ltb b i) h in (ltb-true a i p.0, ltb-true b i p.1)
+two_named : (i a b : ℕ) → ltb a i && ltb b i ≡ true → (a < i) × (b < i)
+two_named i a b h = let p = and-true (ltb a i) (ltb b i) h in (ltb-true a i p.0, ltb-true b i p.1)
 
 -- What is true of a good line of each kind is true of every good line.
 module _ (k i : ℕ) (P : Line → Type 0)
-    (of-proposition : (a b : ℕ) → a < k → P (propositionLine a b))
-    (of-not : (a : ℕ) → a < i → P (notLine a))
-    (of_and : (a b : ℕ) → a < i → b < i → P (andLine a b))
-    (of-ey : (a : ℕ) → a < i → P (eyLine a))
-    (of-es : (a b : ℕ) → a < i → b < i → P (esLine a b))
-    (of-as : (a b : ℕ) → a < i → b < i → P (asLine a b)) where
-  of-kind : (kind a b : ℕ) → goodLine k i (line kind a b) ≡ true → P (line kind a b)
-  unfolding goodLine
-  of-kind zero a b h = of-proposition a b (ltb-true a k (and-true (ltb a k) (leb b 7) h).0)
-  of-kind (suc zero) a b h = let n = one-named i a b h in rw n.1 (of-not a n.0)
-  of-kind (suc (suc zero)) a b h = let n = two-named i a b h in of_and a b n.0 n.1
-  of-kind (suc (suc (suc zero))) a b h = let n = one-named i a b h in rw n.1 (of-ey a n.0)
-  of-kind (suc (suc (suc (suc zero)))) a b h = let n = two-named i a b h in of-es a b n.0 n.1
-  of-kind (suc (suc (suc (suc (suc zero))))) a b h = let n = two-named i a b h in of-as a b n.0 n.1
-  of-kind (suc (suc (suc (suc (suc (suc n)))))) a b h =
-      absurd (true≢false (sym h ∙ no-kind-above k i (suc (suc (suc (suc (suc (suc n)))))) a b (omega arith)))
+    (of_proposition : (a b : ℕ) → a < k → P (proposition_line a b))
+    (of_not : (a : ℕ) → a < i → P (not_line a))
+    (of_and : (a b : ℕ) → a < i → b < i → P (and_line a b))
+    (of_ey : (a : ℕ) → a < i → P (ey_line a))
+    (of_es : (a b : ℕ) → a < i → b < i → P (es_line a b))
+    (of_as : (a b : ℕ) → a < i → b < i → P (as_line a b)) where
+  of_kind : (kind a b : ℕ) → good_line k i (line kind a b) ≡ true → P (line kind a b)
+  unfolding good_line
+  of_kind zero a b h = of_proposition a b (ltb-true a k (and-true (ltb a k) (leb b 7) h).0)
+  of_kind (suc zero) a b h = let n = one-named i a b h in rw n.1 (of_not a n.0)
+  of_kind (suc (suc zero)) a b h = let n = two_named i a b h in of_and a b n.0 n.1
+  of_kind (suc (suc (suc zero))) a b h = let n = one-named i a b h in rw n.1 (of_ey a n.0)
+  of_kind (suc (suc (suc (suc zero)))) a b h = let n = two_named i a b h in of_es a b n.0 n.1
+  of_kind (suc (suc (suc (suc (suc zero))))) a b h = let n = two_named i a b h in of_as a b n.0 n.1
+  of_kind (suc (suc (suc (suc (suc (suc n)))))) a b h =
+      absurd (true≢false (sym h ∙ no_kind_above k i (suc (suc (suc (suc (suc (suc n)))))) a b (omega arith)))
 
-  pub by_kind : (l : Line) → goodLine k i l ≡ true → P l
-  by_kind l h = of-kind l.kind l.a l.b h
+  pub by_kind : (l : Line) → good_line k i l ≡ true → P l
+  by_kind l h = of_kind l.kind l.a l.b h
 
 -- What a good line that is no proposition has in a and b are earlier lines, an unused b too.
-pub good-earlier : (k i : ℕ) (l : Line) → goodLine k i l ≡ true → eqb l.kind 0 ≡ false → (l.a < i) × (l.b < i)
-good-earlier k i =
+pub good_earlier : (k i : ℕ) (l : Line) → good_line k i l ≡ true → eqb l.kind 0 ≡ false → (l.a < i) × (l.b < i)
+good_earlier k i =
     by_kind k i (λ l. eqb l.kind 0 ≡ false → (l.a < i) × (l.b < i))
     (λ a b la e. absurd (true≢false e))
     (λ a la e. (la, omega (arith, la)))

@@ -11,51 +11,51 @@ use Rattle.pactl.specs.declared.Line.{Line}
 -- Nodes". v has the bits of the earlier lines, i is the line's own number. That each gives PaCTL's truth: Clauses.
 
 -- Sentence 1, val(F, q): proposition b of process a, as the process's label byte has it.
-unfoldable pub propositionJudged : (labels : List ℕ) (a b : ℕ) → Bool
-propositionJudged labels a b = bit (get_or labels a 0) b
+unfoldable pub proposition_judged : (labels : List ℕ) (a b : ℕ) → Bool
+proposition_judged labels a b = bit (get_or labels a 0) b
 
 -- Sentence 2, val(F, ¬η): not line a.
-unfoldable pub notJudged : (v a : ℕ) → Bool
-notJudged v a = not (bit v a)
+unfoldable pub not_judged : (v a : ℕ) → Bool
+not_judged v a = not (bit v a)
 
 -- Sentence 3, val(F, (η₁ ∧ η₂)): line a and line b.
-unfoldable pub andJudged : (v a b : ℕ) → Bool
-andJudged v a b = bit v a && bit v b
+unfoldable pub and_judged : (v a b : ℕ) → Bool
+and_judged v a b = bit v a && bit v b
 
 -- Sentence 4, val(F, EY η): some preceding cut has line a.
-unfoldable pub eyJudged : (any a : ℕ) → Bool
-eyJudged any a = bit any a
+unfoldable pub ey_judged : (any a : ℕ) → Bool
+ey_judged any a = bit any a
 
 -- Sentence 5, val(F, E(η₁ S η₂)): line b, or line a and some preceding cut has this line.
-unfoldable pub esJudged : (v any i a b : ℕ) → Bool
-esJudged v any i a b = bit v b || (bit v a && bit any i)
+unfoldable pub es_judged : (v any i a b : ℕ) → Bool
+es_judged v any i a b = bit v b || (bit v a && bit any i)
 
 -- Sentence 6, val(F, A(η₁ S η₂)): line b, or line a and there is a preceding cut and all of them have this line.
-unfoldable pub asJudged : (v all : ℕ) (preceded : Bool) (i a b : ℕ) → Bool
-asJudged v all preceded i a b = bit v b || (bit v a && (preceded && bit all i))
+unfoldable pub as_judged : (v all : ℕ) (preceded : Bool) (i a b : ℕ) → Bool
+as_judged v all preceded i a b = bit v b || (bit v a && (preceded && bit all i))
 
 -- ---- Lines
 
 -- A line, by its kind: kinds 0 to 5 are sentences 1 to 6. No line of another kind is good.
-unfoldable pub judgeLine : (labels : List ℕ) (v any all : ℕ) (preceded : Bool) (i : ℕ) (l : Line) → Bool
-judgeLine labels v any all preceded i l =
-    cond (eqb l.kind 0) (propositionJudged labels l.a l.b)
-    (cond (eqb l.kind 1) (notJudged v l.a)
-    (cond (eqb l.kind 2) (andJudged v l.a l.b)
-    (cond (eqb l.kind 3) (eyJudged any l.a)
-    (cond (eqb l.kind 4) (esJudged v any i l.a l.b)
-    (asJudged v all preceded i l.a l.b)))))
+unfoldable pub judge_line : (labels : List ℕ) (v any all : ℕ) (preceded : Bool) (i : ℕ) (l : Line) → Bool
+judge_line labels v any all preceded i l =
+    cond (eqb l.kind 0) (proposition_judged labels l.a l.b)
+    (cond (eqb l.kind 1) (not_judged v l.a)
+    (cond (eqb l.kind 2) (and_judged v l.a l.b)
+    (cond (eqb l.kind 3) (ey_judged any l.a)
+    (cond (eqb l.kind 4) (es_judged v any i l.a l.b)
+    (as_judged v all preceded i l.a l.b)))))
 
 -- v with bit i added, where that is asked.
-abbrev pub withBit : (v i : ℕ) (t : Bool) → ℕ
-withBit v i t = cond t (v + 2 ^ i) v
+abbrev pub with_bit : (v i : ℕ) (t : Bool) → ℕ
+with_bit v i t = cond t (v + 2 ^ i) v
 
 -- The lines from line i on, one after the other, v having the bits of the lines before.
-unfoldable pub judgeFrom : (labels : List ℕ) (any all : ℕ) (preceded : Bool) (v i : ℕ) (ls : List Line) → ℕ
-judgeFrom labels any all preceded v i [] = v
-judgeFrom labels any all preceded v i (l ∷ ls) =
-    judgeFrom labels any all preceded (withBit v i (judgeLine labels v any all preceded i l)) (i + 1) ls
+unfoldable pub judge_from : (labels : List ℕ) (any all : ℕ) (preceded : Bool) (v i : ℕ) (ls : List Line) → ℕ
+judge_from labels any all preceded v i [] = v
+judge_from labels any all preceded v i (l ∷ ls) =
+    judge_from labels any all preceded (with_bit v i (judge_line labels v any all preceded i l)) (i + 1) ls
 
 -- A frontier's word: bit i is line i, the rest is 0.
 abbrev pub judge : (labels : List ℕ) (any all : ℕ) (preceded : Bool) (ls : List Line) → ℕ
-judge labels any all preceded ls = judgeFrom labels any all preceded 0 0 ls
+judge labels any all preceded ls = judge_from labels any all preceded 0 0 ls

@@ -7,20 +7,20 @@ use Rattle.pactl.specs.declared.Line.{Line}
 abbrev pub line : (kind a b : ℕ) → Line
 line kind a b = record { kind = kind; a = a; b = b }
 
-abbrev pub propositionLine : (p b : ℕ) → Line
-propositionLine p b = line 0 p b
+abbrev pub proposition_line : (p b : ℕ) → Line
+proposition_line p b = line 0 p b
 
-abbrev pub notLine : (a : ℕ) → Line
-notLine a = line 1 a 0
+abbrev pub not_line : (a : ℕ) → Line
+not_line a = line 1 a 0
 
-abbrev pub andLine : (a b : ℕ) → Line
-andLine a b = line 2 a b
+abbrev pub and_line : (a b : ℕ) → Line
+and_line a b = line 2 a b
 
-abbrev pub eyLine : (a : ℕ) → Line
-eyLine a = line 3 a 0
+abbrev pub ey_line : (a : ℕ) → Line
+ey_line a = line 3 a 0
 
-abbrev pub esLine : (a b : ℕ) → Line
-esLine a b = line 4 a b
+abbrev pub es_line : (a b : ℕ) → Line
+es_line a b = line 4 a b
 
-abbrev pub asLine : (a b : ℕ) → Line
-asLine a b = line 5 a b
+abbrev pub as_line : (a b : ℕ) → Line
+as_line a b = line 5 a b

@@ -9,7 +9,7 @@ use Rattle.pactl.specs.Truth.{Model}
 -- The model's events are a history under some rule for valid clocks.
 pub record Ruled (M : Model) (valid : List Event → Event → Type 0) : Type 0 where
   pub rule : ClockRule M.processes valid
-  pub by-rule : History M.processes valid M.history
+  pub by_rule : History M.processes valid M.history
 
 -- A consistent cut of the model.
 abbrev pub CutOf : (M : Model) (S : Cut) → Type 0

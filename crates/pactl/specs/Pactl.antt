@@ -8,11 +8,11 @@ pub data Pactl : Type 0 where
   negation : (f : Pactl) → Pactl
   conjunction : (f g : Pactl) → Pactl
   -- EY φ: some preceding cut has φ
-  existsYesterday : (f : Pactl) → Pactl
+  exists_yesterday : (f : Pactl) → Pactl
   -- E(φ S ψ)
-  existsSince : (f g : Pactl) → Pactl
+  exists_since : (f g : Pactl) → Pactl
   -- A(φ S ψ)
-  allSince : (f g : Pactl) → Pactl
+  all_since : (f g : Pactl) → Pactl
 
 -- φ ∨ ψ = ¬(¬φ ∧ ¬ψ) (source 000, section 2: additional operators; so are the next seven).
 unfoldable pub disjunction : (x y : Pactl) → Pactl
@@ -23,9 +23,9 @@ unfoldable pub truth : Pactl
 truth = disjunction (proposition 0 0) (negation (proposition 0 0))
 
 -- EP φ = E(true S φ).
-unfoldable pub existsPreviously : (x : Pactl) → Pactl
-existsPreviously x = existsSince truth x
+unfoldable pub exists_previously : (x : Pactl) → Pactl
+exists_previously x = exists_since truth x
 
 -- AP φ = A(true S φ).
-unfoldable pub allPreviously : (x : Pactl) → Pactl
-allPreviously x = allSince truth x
+unfoldable pub all_previously : (x : Pactl) → Pactl
+all_previously x = all_since truth x

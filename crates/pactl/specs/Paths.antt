@@ -6,9 +6,9 @@ use Rattle.clocks.specs.declared.Event.{Event}
 use Rattle.clocks.specs.Event.{Cut}
 use Rattle.clocks.specs.History.{Consistent, Precedes}
 use Rattle.clocks.specs.Valid.{Known, History}
-use Rattle.pactl.specs.Pactl.{Pactl, negation, existsYesterday, existsSince, allSince, disjunction, truth, existsPreviously, allPreviously}
+use Rattle.pactl.specs.Pactl.{Pactl, negation, exists_yesterday, exists_since, all_since, disjunction, truth, exists_previously, all_previously}
 use Rattle.pactl.specs.Truth.{holds}
-use Rattle.pactl.specs.Semantics.{Truths, Has, modelOver}
+use Rattle.pactl.specs.Semantics.{Truths, Has, model_over}
 
 -- A path of n steps back from a cut: each next cut precedes the one before it.
 pub record Path (ts : List Event) (S : Cut) (n : ℕ) (cuts : ℕ → Cut) : Type 0 where
@@ -23,7 +23,7 @@ pub record Maximal (ts : List Event) (S : Cut) (n : ℕ) (cuts : ℕ → Cut) : 
 -- Cut number m of a path has ψ, and all cuts on the way there have φ.
 pub record SinceAt (truths : Truths) (φ ψ : Pactl) (cuts : ℕ → Cut) (m : ℕ) : Type 0 where
   pub there : Has truths (cuts m) ψ
-  pub on-the-way : (i : ℕ) → i < m → Has truths (cuts i) φ
+  pub on_the_way : (i : ℕ) → i < m → Has truths (cuts i) φ
 
 -- ---- Statement
 
@@ -32,35 +32,35 @@ pub record OverPaths (ts : List Event) (truths : Truths) (S : Cut) : Type 0 wher
   pub reach : (R : Cut)
       → ((n : ℕ) × (cuts : ℕ → Cut) × Path ts S n cuts × (cuts n ≡ R)) ↔ (Consistent ts R × ((p : ℕ) → R p ≤ S p))
   -- E(φ S ψ), A(φ S ψ): on some path; on every maximal one
-  pub of-es : (φ ψ : Pactl)
-      → Has truths S (existsSince φ ψ)
+  pub of_es : (φ ψ : Pactl)
+      → Has truths S (exists_since φ ψ)
       ↔ ((n : ℕ) × (cuts : ℕ → Cut) × Path ts S n cuts × SinceAt truths φ ψ cuts n)
-  pub of-as : (φ ψ : Pactl)
-      → Has truths S (allSince φ ψ)
+  pub of_as : (φ ψ : Pactl)
+      → Has truths S (all_since φ ψ)
       ↔ ((n : ℕ) (cuts : ℕ → Cut) → Maximal ts S n cuts → (m : ℕ) × (m ≤ n) × SinceAt truths φ ψ cuts m)
   -- true, φ ∨ ψ
-  pub of-true : Has truths S truth
+  pub of_true : Has truths S truth
   pub of_or : (φ ψ : Pactl) → Has truths S (disjunction φ ψ) ↔ (Has truths S φ ⊎ Has truths S ψ)
   -- EP φ, AP φ: at some cut of some path; at some cut of every maximal one
-  pub of-ep : (φ : Pactl)
-      → Has truths S (existsPreviously φ)
+  pub of_ep : (φ : Pactl)
+      → Has truths S (exists_previously φ)
       ↔ ((n : ℕ) × (cuts : ℕ → Cut) × Path ts S n cuts × Has truths (cuts n) φ)
-  pub of-ap : (φ : Pactl)
-      → Has truths S (allPreviously φ)
+  pub of_ap : (φ : Pactl)
+      → Has truths S (all_previously φ)
       ↔ ((n : ℕ) (cuts : ℕ → Cut) → Maximal ts S n cuts → (m : ℕ) × (m ≤ n) × Has truths (cuts m) φ)
   -- AY φ = ¬EY¬φ: at all preceding cuts
-  pub of-ay : (φ : Pactl)
-      → Has truths S (negation (existsYesterday (negation φ)))
+  pub of_ay : (φ : Pactl)
+      → Has truths S (negation (exists_yesterday (negation φ)))
       ↔ ((S' : Cut) → Precedes ts S' S → Has truths S' φ)
   -- EH φ = ¬AP¬φ, AH φ = ¬EP¬φ: at all cuts of some maximal path; at all cuts of every path
-  pub of-eh : (φ : Pactl)
-      → Has truths S (negation (allPreviously (negation φ)))
+  pub of_eh : (φ : Pactl)
+      → Has truths S (negation (all_previously (negation φ)))
       ↔ ((n : ℕ) × (cuts : ℕ → Cut) × Maximal ts S n cuts × ((m : ℕ) → m ≤ n → Has truths (cuts m) φ))
-  pub of-ah : (φ : Pactl)
-      → Has truths S (negation (existsPreviously (negation φ)))
+  pub of_ah : (φ : Pactl)
+      → Has truths S (negation (exists_previously (negation φ)))
       ↔ ((n : ℕ) (cuts : ℕ → Cut) → Path ts S n cuts → Has truths (cuts n) φ)
 
 abbrev pub OperatorsOverPaths : Type 0
 OperatorsOverPaths =
     (k : ℕ) (start : Cut) (ts : List Event) → History k Known ts
-    → (S : Cut) → Consistent ts S → OverPaths ts (holds (modelOver k start ts)) S
+    → (S : Cut) → Consistent ts S → OverPaths ts (holds (model_over k start ts)) S

@@ -2,16 +2,16 @@
 use Rattle.std.specs.Prelude.{◌+◌, ◌*◌, ◌≡◌, refl, List, [], ◌∷◌, ◌++◌, length}
 use Rattle.std.proofs.Common.{arith}
 use Rattle.pactl.specs.declared.Line.{Line}
-use Rattle.pactl.specs.Table.{tableBytes}
+use Rattle.pactl.specs.Table.{table_bytes}
 
 -- Three bytes a line.
-pub length-tableBytes : (ls : List Line) → length (tableBytes ls) ≡ 3 * length ls
-unfolding tableBytes
-length-tableBytes [] = refl
-length-tableBytes (l ∷ ls) = omega (arith, length-tableBytes ls)
+pub length-table_bytes : (ls : List Line) → length (table_bytes ls) ≡ 3 * length ls
+unfolding table_bytes
+length-table_bytes [] = refl
+length-table_bytes (l ∷ ls) = omega (arith, length-table_bytes ls)
 
 -- Lines behind lines are bytes behind bytes.
-pub tableBytes-append : (ls ms : List Line) → tableBytes (ls ++ ms) ≡ tableBytes ls ++ tableBytes ms
-unfolding tableBytes
-tableBytes-append [] ms = refl
-tableBytes-append (l ∷ ls) ms = rw (tableBytes-append ls ms)
+pub table_bytes-append_lem : (ls ms : List Line) → table_bytes (ls ++ ms) ≡ table_bytes ls ++ table_bytes ms
+unfolding table_bytes
+table_bytes-append_lem [] ms = refl
+table_bytes-append_lem (l ∷ ls) ms = rw (table_bytes-append_lem ls ms)

@@ -8,7 +8,7 @@ use Rattle.clocks.specs.Event.{Cut}
 use Rattle.clocks.specs.Bounded.{any_of}
 use Rattle.clocks.specs.Tested.{predecessors}
 use Rattle.pactl.specs.declared.Line.{Line}
-use Rattle.pactl.specs.Pactl.{Pactl, proposition, negation, conjunction, existsYesterday, existsSince, allSince}
+use Rattle.pactl.specs.Pactl.{Pactl, proposition, negation, conjunction, exists_yesterday, exists_since, all_since}
 
 -- What a formula is judged in: the number of processes, the labels at the start, the events taken, newest first.
 pub record Model : Type 0 where
@@ -46,41 +46,41 @@ recursive M F S = unrolled F (size M.processes S) S
 -- ---- The six operators, each as source 000 has it
 
 -- Proposition b holds at process p: its last event in the cut says so, or its start labels do.
-unfoldable pub propositionHolds : (M : Model) (p b : ℕ) → Property
-propositionHolds M p b S = bit (label_of M.start M.history p (S p)) b
+unfoldable pub proposition_holds : (M : Model) (p b : ℕ) → Property
+proposition_holds M p b S = bit (label_of M.start M.history p (S p)) b
 
-unfoldable pub notHolds : (a : Property) → Property
-notHolds a S = not (a S)
+unfoldable pub not_holds : (a : Property) → Property
+not_holds a S = not (a S)
 
-unfoldable pub andHolds : (a b : Property) → Property
-andHolds a b S = a S && b S
+unfoldable pub and_holds : (a b : Property) → Property
+and_holds a b S = a S && b S
 
 -- EY a: some preceding cut has a.
-unfoldable pub eyHolds : (M : Model) (a : Property) → Property
-eyHolds M a S = any_of a (preceding M S)
+unfoldable pub ey_holds : (M : Model) (a : Property) → Property
+ey_holds M a S = any_of a (preceding M S)
 
 -- E(a S b): b, or a and some preceding cut has E(a S b).
-unfoldable pub esStep : (M : Model) (a b x : Property) → Property
-esStep M a b x S = b S || (a S && any_of x (preceding M S))
+unfoldable pub es_step : (M : Model) (a b x : Property) → Property
+es_step M a b x S = b S || (a S && any_of x (preceding M S))
 
-unfoldable pub esHolds : (M : Model) (a b : Property) → Property
-esHolds M a b = recursive M (esStep M a b)
+unfoldable pub es_holds : (M : Model) (a b : Property) → Property
+es_holds M a b = recursive M (es_step M a b)
 
 -- A(a S b): b, or a and some cut precedes and all that do have A(a S b).
-unfoldable pub asStep : (M : Model) (a b x : Property) → Property
-asStep M a b x S = b S || (a S && (any_of (λ R. true) (preceding M S) && all_of x (preceding M S)))
+unfoldable pub as_step : (M : Model) (a b x : Property) → Property
+as_step M a b x S = b S || (a S && (any_of (λ R. true) (preceding M S) && all_of x (preceding M S)))
 
-unfoldable pub asHolds : (M : Model) (a b : Property) → Property
-asHolds M a b = recursive M (asStep M a b)
+unfoldable pub as_holds : (M : Model) (a b : Property) → Property
+as_holds M a b = recursive M (as_step M a b)
 
 -- ---- A formula's truth
 unfoldable pub holds : (M : Model) (f : Pactl) → Property
-holds M (proposition p b) = propositionHolds M p b
-holds M (negation f) = notHolds (holds M f)
-holds M (conjunction f g) = andHolds (holds M f) (holds M g)
-holds M (existsYesterday f) = eyHolds M (holds M f)
-holds M (existsSince f g) = esHolds M (holds M f) (holds M g)
-holds M (allSince f g) = asHolds M (holds M f) (holds M g)
+holds M (proposition p b) = proposition_holds M p b
+holds M (negation f) = not_holds (holds M f)
+holds M (conjunction f g) = and_holds (holds M f) (holds M g)
+holds M (exists_yesterday f) = ey_holds M (holds M f)
+holds M (exists_since f g) = es_holds M (holds M f) (holds M g)
+holds M (all_since f g) = as_holds M (holds M f) (holds M g)
 
 -- ---- A table line's truth
 
@@ -90,22 +90,22 @@ never S = false
 
 -- The property of a line, from those of the earlier lines (01, The rule: kinds 0 to 5). No line of another kind is
 -- good.
-unfoldable pub lineHolds : (M : Model) (earlier : List Property) (l : Line) → Property
-lineHolds M earlier l =
+unfoldable pub line_holds : (M : Model) (earlier : List Property) (l : Line) → Property
+line_holds M earlier l =
     let a = get_or earlier l.a never in
     let b = get_or earlier l.b never in
-    cond (eqb l.kind 0) (propositionHolds M l.a l.b)
-    (cond (eqb l.kind 1) (notHolds a)
-    (cond (eqb l.kind 2) (andHolds a b)
-    (cond (eqb l.kind 3) (eyHolds M a)
-    (cond (eqb l.kind 4) (esHolds M a b)
-    (asHolds M a b)))))
+    cond (eqb l.kind 0) (proposition_holds M l.a l.b)
+    (cond (eqb l.kind 1) (not_holds a)
+    (cond (eqb l.kind 2) (and_holds a b)
+    (cond (eqb l.kind 3) (ey_holds M a)
+    (cond (eqb l.kind 4) (es_holds M a b)
+    (as_holds M a b)))))
 
 -- The properties of a table's lines, after those of earlier ones.
-unfoldable pub linesHold : (M : Model) (earlier : List Property) (ls : List Line) → List Property
-linesHold M earlier [] = earlier
-linesHold M earlier (l ∷ ls) = linesHold M (earlier ++ (lineHolds M earlier l ∷ [])) ls
+unfoldable pub lines_hold : (M : Model) (earlier : List Property) (ls : List Line) → List Property
+lines_hold M earlier [] = earlier
+lines_hold M earlier (l ∷ ls) = lines_hold M (earlier ++ (line_holds M earlier l ∷ [])) ls
 
 -- The truth of line i of a table.
-unfoldable pub lineTruth : (M : Model) (ls : List Line) (i : ℕ) → Property
-lineTruth M ls i = get_or (linesHold M [] ls) i never
+unfoldable pub line_truth : (M : Model) (ls : List Line) (i : ℕ) → Property
+line_truth M ls i = get_or (lines_hold M [] ls) i never

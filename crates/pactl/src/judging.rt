@@ -3,7 +3,7 @@
 ghost use Rattle.std.specs.Prelude.{◌*◌, ◌^◌, ◌≤◌, ◌<◌, ◌≡◌, length};
 ghost use Rattle.codec.specs.Bit.{bit};
 ghost use Rattle.pactl.specs.TableBytes.{lines_of};
-ghost use Rattle.pactl.specs.Judge.{propositionJudged, notJudged, andJudged, eyJudged, esJudged, asJudged, judgeLine, withBit, judge as judged};
+ghost use Rattle.pactl.specs.Judge.{proposition_judged, not_judged, and_judged, ey_judged, es_judged, as_judged, judge_line, with_bit, judge as judged};
 
 use crate::Line;
 use crate::table::read_line;
@@ -24,7 +24,7 @@ fn has(word: u64, p: u8) -> bool
 
 // Sentence 1, val(F, q): proposition b of process a, as the process's label byte has it.
 fn judge_proposition(labels: [u8; 8], a: u8, b: u8) -> bool
-    ensures { result ≡ propositionJudged labels a b }
+    ensures { result ≡ proposition_judged labels a b }
 {
     if a < 8 {
         has(labels[a as usize] as u64, b)
@@ -35,35 +35,35 @@ fn judge_proposition(labels: [u8; 8], a: u8, b: u8) -> bool
 
 // Sentence 2, val(F, ¬η): not line a.
 fn judge_not(v: u64, a: u8) -> bool
-    ensures { result ≡ notJudged v a }
+    ensures { result ≡ not_judged v a }
 {
     !has(v, a)
 }
 
 // Sentence 3, val(F, (η₁ ∧ η₂)): line a and line b.
 fn judge_and(v: u64, a: u8, b: u8) -> bool
-    ensures { result ≡ andJudged v a b }
+    ensures { result ≡ and_judged v a b }
 {
     has(v, a) & has(v, b)
 }
 
 // Sentence 4, val(F, EY η): some preceding cut has line a.
 fn judge_ey(any: u64, a: u8) -> bool
-    ensures { result ≡ eyJudged any a }
+    ensures { result ≡ ey_judged any a }
 {
     has(any, a)
 }
 
 // Sentence 5, val(F, E(η₁ S η₂)): line b, or line a and some preceding cut has this line.
 fn judge_es(v: u64, any: u64, i: u8, a: u8, b: u8) -> bool
-    ensures { result ≡ esJudged v any i a b }
+    ensures { result ≡ es_judged v any i a b }
 {
     has(v, b) | (has(v, a) & has(any, i))
 }
 
 // Sentence 6, val(F, A(η₁ S η₂)): line b, or line a and there is a preceding cut and all of them have this line.
 fn judge_as(v: u64, all: u64, preceded: bool, i: u8, a: u8, b: u8) -> bool
-    ensures { result ≡ asJudged v all preceded i a b }
+    ensures { result ≡ as_judged v all preceded i a b }
 {
     has(v, b) | (has(v, a) & (preceded & has(all, i)))
 }
@@ -78,7 +78,7 @@ fn judge_line(
     i: u8,
     line: Line,
 ) -> bool
-    ensures { result ≡ judgeLine labels v any all preceded i line }
+    ensures { result ≡ judge_line labels v any all preceded i line }
 {
     let kind = line.kind;
     let a = line.a;
@@ -104,7 +104,7 @@ fn judge_line(
 // A word with bit i added, where that is asked; without a branch, as no guess of a truth is often right.
 fn with_bit(v: u64, i: u32, t: bool) -> u64
     requires { (i < 64) × (v < 2 ^ i) }
-    ensures { result ≡ withBit v i t }
+    ensures { result ≡ with_bit v i t }
 {
     v + ((t as u64) << i)
 }

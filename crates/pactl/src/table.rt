@@ -1,7 +1,7 @@
 // A table in its bytes: its lines read, and whether they are good.
 
 ghost use Rattle.std.specs.Prelude.{◌+◌, ◌*◌, ◌≤◌, ◌<◌, ◌≡◌, length};
-ghost use Rattle.pactl.specs.Table.{goodLine, goodTable};
+ghost use Rattle.pactl.specs.Table.{good_line, good_table};
 ghost use Rattle.pactl.specs.TableBytes.{line_at, lines_of};
 
 use crate::Line;
@@ -28,7 +28,7 @@ pub fn read_line(table: &[u8], i: u32) -> Line
 
 // Whether line i of a table is good, with k processes.
 pub fn good_line(k: u32, i: u32, line: Line) -> bool
-    ensures { result ≡ goodLine k i line }
+    ensures { result ≡ good_line k i line }
 {
     let kind = line.kind;
     let a = wide(line.a);
@@ -45,7 +45,7 @@ pub fn good_line(k: u32, i: u32, line: Line) -> bool
 // Whether the first lines of a table are good.
 pub fn good_table(k: u32, table: &[u8], lines: u32) -> bool
     requires { (lines ≤ 64) × (3 * lines ≤ length table.now) }
-    ensures { result ≡ goodTable k (lines_of table.now lines) }
+    ensures { result ≡ good_table k (lines_of table.now lines) }
 {
     let mut i: u32 = 0;
     while i < lines {

@@ -2,42 +2,42 @@
 // watch keeps, two bytes each.
 
 ghost use Rattle.std.specs.Prelude.{◌+◌, ◌≤◌, ◌<◌, ◌≡◌, length};
-ghost use Rattle.numbers.specs.Limit.{mostMembers};
-ghost use Rattle.pool.specs.Pool.{poolLength, sumBelow, shareAt, keptAt, broughtUp, badPoolLength, noShare, usedByOthers};
-ghost use Rattle.pool.specs.PoolCode.{usedBy};
+ghost use Rattle.numbers.specs.Limit.{most_members};
+ghost use Rattle.pool.specs.Pool.{pool_length, sum_below, share_at, kept_at, brought_up, bad_pool_length, no_share, used_by_others};
+ghost use Rattle.pool.specs.PoolCode.{used_by};
 ghost use Rattle.pool.specs.Pool as pools;
 
 use numbers::limit::{FRONTIERS, MEMBERS};
 
 // 6: a pool of a wrong length.
 pub fn bad_pool_length(n: usize) -> bool
-    ensures { result ≡ badPoolLength n }
+    ensures { result ≡ bad_pool_length n }
 {
     n != 32
 }
 
 // Watch i's share.
 fn share_at(pool: &[u8], i: usize) -> usize
-    requires pool_len { length pool.now ≡ poolLength }
-    requires i_lt_most_members { i < mostMembers }
-    ensures { (result ≡ shareAt pool.now i) × (result < 65536) }
+    requires pool_len { length pool.now ≡ pool_length }
+    requires i_lt_most_members { i < most_members }
+    ensures { (result ≡ share_at pool.now i) × (result < 65536) }
 {
     codec::read_u16(pool, 2 * i) as usize
 }
 
 // How many frontiers watch i keeps.
 fn kept_at(pool: &[u8], i: usize) -> usize
-    requires pool_len { length pool.now ≡ poolLength }
-    requires i_lt_most_members { i < mostMembers }
-    ensures { (result ≡ keptAt pool.now i) × (result < 65536) }
+    requires pool_len { length pool.now ≡ pool_length }
+    requires i_lt_most_members { i < most_members }
+    ensures { (result ≡ kept_at pool.now i) × (result < 65536) }
 {
     codec::read_u16(pool, 16 + 2 * i) as usize
 }
 
 // 34: a number without a share. Its whole word counts.
 pub fn no_share(pool: &[u8], number: u64) -> bool
-    requires { length pool.now ≡ poolLength }
-    ensures { result ≡ noShare pool.now number }
+    requires { length pool.now ≡ pool_length }
+    ensures { result ≡ no_share pool.now number }
 {
     if number >= MEMBERS as u64 {
         return true;
@@ -48,9 +48,9 @@ pub fn no_share(pool: &[u8], number: u64) -> bool
 // What watch j holds against watch i: its share, or what it keeps if that is more. Of watch i itself the share alone
 // counts.
 fn held_by(pool: &[u8], i: usize, j: usize) -> usize
-    requires pool_len { length pool.now ≡ poolLength }
-    requires j_lt_most_members { j < mostMembers }
-    ensures { (result ≡ shareAt pool.now j + usedBy pool.now i j) × (result < 65536) }
+    requires pool_len { length pool.now ≡ pool_length }
+    requires j_lt_most_members { j < most_members }
+    ensures { (result ≡ share_at pool.now j + used_by pool.now i j) × (result < 65536) }
 {
     let share = share_at(pool, j);
     let kept = kept_at(pool, j);
@@ -65,8 +65,8 @@ fn held_by(pool: &[u8], i: usize, j: usize) -> usize
 
 // What all watches hold against watch i: the promised frontiers, and those that others are using beyond their shares.
 fn held(pool: &[u8], i: usize) -> usize
-    requires { length pool.now ≡ poolLength }
-    ensures { result ≡ sumBelow mostMembers (shareAt pool.now) + usedByOthers pool.now i }
+    requires { length pool.now ≡ pool_length }
+    ensures { result ≡ sum_below most_members (share_at pool.now) + used_by_others pool.now i }
 {
     let mut sum = 0;
     let mut j = 0;
@@ -79,8 +79,8 @@ fn held(pool: &[u8], i: usize) -> usize
 
 // How many frontiers watch i may keep: its share, and what nothing holds against it.
 pub fn allowance(pool: &[u8], i: usize) -> usize
-    requires pool_len { length pool.now ≡ poolLength }
-    requires i_lt_most_members { i < mostMembers }
+    requires pool_len { length pool.now ≡ pool_length }
+    requires i_lt_most_members { i < most_members }
     ensures { (result ≡ pools.allowance pool.now i) × (result ≤ 66560) }
 {
     let share = share_at(pool, i);
@@ -93,9 +93,9 @@ pub fn allowance(pool: &[u8], i: usize) -> usize
 
 // Watch i's kept number is brought up to date.
 pub fn bring_up(pool: &mut [u8], i: usize, kept: u16)
-    requires pool_len { length pool.old ≡ poolLength }
-    requires i_lt_most_members { i < mostMembers }
-    ensures { pool.new ≡ broughtUp pool.old i kept }
+    requires pool_len { length pool.old ≡ pool_length }
+    requires i_lt_most_members { i < most_members }
+    ensures { pool.new ≡ brought_up pool.old i kept }
 {
     codec::write_u16(pool, 16 + 2 * i, kept);
 }

@@ -6,19 +6,19 @@ use Rattle.rules.specs.Formula.{Formula}
 use Rattle.pool.specs.Pool.{allowance}
 use Rattle.call_take.specs.Take.{Taken}
 use Rattle.call_close.specs.Close.{Closed}
-use Rattle.call_shared.specs.Shared.{Shared, poolAfter}
+use Rattle.call_shared.specs.Shared.{Shared, pool_after}
 use Rattle.demands.specs.Run.{Watch}
-use Rattle.demands.specs.EveryList.{RightLengths, lentWindow, nextTake}
+use Rattle.demands.specs.EveryList.{RightLengths, lent_window, next_take}
 use Rattle.demands.specs.Written.{Written}
 use Rattle.demands.specs.statements.TakeAnswers.{AnswersExact}
-use Rattle.demands.specs.statements.Close.{nextClose}
+use Rattle.demands.specs.statements.Close.{next_close}
 use Rattle.demands.specs.statements.EveryWatch.{WatchExact}
-use Rattle.demands.specs.forms.EveryWatch.{every-watch-exact, order-independent-with-moves}
+use Rattle.demands.specs.forms.EveryWatch.{every-watch_exact, order_independent_with_moves}
 use Rattle.pool_runs.specs.Runs.{Member, has, Pooled, Outcome}
-use Rattle.pool_runs.specs.statements.Members.{nextShared, nextSharedClose, MemberExact, MemberIsExact, EveryMemberIsExact, MembersOrderIndependent, MemberAndPlainAlike}
+use Rattle.pool_runs.specs.statements.Members.{next_shared, next_shared_close, MemberExact, MemberIsExact, EveryMemberIsExact, MembersOrderIndependent, MemberAndPlainAlike}
 use Rattle.pool_runs.specs.Running.{IsWritten, Running}
-use Rattle.pool_runs.specs.MemberCallLaws.{take-as, close-as}
-use Rattle.pool_runs.specs.OutcomeLaws.{shared, take-outcome, close-outcome}
+use Rattle.pool_runs.specs.MemberCallLaws.{take_as, close_as}
+use Rattle.pool_runs.specs.OutcomeLaws.{shared, take-outcome, close_outcome}
 use Rattle.pool_runs.specs.WithinTheorem.{running}
 
 module _ (w : ℕ) (pos : 0 < w) (shares : List ℕ) (G : Pooled) (R : Running w shares G) (i : ℕ) (m : Member)
@@ -28,67 +28,67 @@ module _ (w : ℕ) (pos : 0 < w) (shares : List ℕ) (G : Pooled) (R : Running w
 
   -- its shared take and close
   took : (more : ℕ) (scratch : List ℕ)
-      → let t = nextTake w Z (allowance G.pool i) more scratch in
-      nextShared w i m G more scratch ≡ record { call = t; pool = poolAfter G.pool i t.answer t.bytes }
+      → let t = next_take w Z (allowance G.pool i) more scratch in
+      next_shared w i m G more scratch ≡ record { call = t; pool = pool_after G.pool i t.answer t.bytes }
   took more scratch =
-      take-as w G.pool i R.size (shared w pos shares G R i (R.members i m here).0) Z.bytes
-      (lentWindow Z more) scratch
+      take_as w G.pool i R.size (shared w pos shares G R i (R.members i m here).0) Z.bytes
+      (lent_window Z more) scratch
 
   closed : (p : ℕ)
-      → let c = nextClose w Z p in
-      nextSharedClose w i m G p ≡ record { call = c; pool = poolAfter G.pool i c.answer c.bytes }
+      → let c = next_close w Z p in
+      next_shared_close w i m G p ≡ record { call = c; pool = pool_after G.pool i c.answer c.bytes }
   closed p =
-      close-as w G.pool i R.size (shared w pos shares G R i (R.members i m here).0) p Z.bytes Z.window
+      close_as w G.pool i R.size (shared w pos shares G R i (R.members i m here).0) p Z.bytes Z.window
 
-  member-exact : (f : Formula) → WatchExact w m.processes f (at m.labels) Z
+  member_exact : (f : Formula) → WatchExact w m.processes f (at m.labels) Z
       → MemberExact w m.processes f (at m.labels) i m G
-  member-exact f E =
+  member_exact f E =
       let most = allowance G.pool i in
       let answers : (more : ℕ) (scratch : List ℕ) → RightLengths w Z more scratch
       → AnswersExact w m.processes f (at m.labels) Z most more scratch =
-      E.takes.right-lengths most in
+      E.takes.right_lengths most in
       record {
         exact = E;
-        take-plain = λ more scratch. ap (λ (r : Shared Taken). r.call) (took more scratch);
-        take-leaves = λ more scratch.
+        take_plain = λ more scratch. ap (λ (r : Shared Taken). r.call) (took more scratch);
+        take_leaves = λ more scratch.
             ap (λ (o : Outcome). o.place) (take-outcome w pos shares G R i m here more scratch);
-        take-lengths = λ more scratch. rw (took more scratch) (E.takes.wrong-lengths most more scratch);
-        take-answers = answers;
-        take-nothing = λ more scratch right. rw (took more scratch) (answers more scratch right).nothing-exactly;
-        take-full = λ more scratch right. rw (took more scratch) (answers more scratch right).full-exactly;
-        take-false = λ more scratch right. rw (took more scratch) (answers more scratch right).false-exactly;
-        take-state = λ more scratch right. rw (took more scratch) (answers more scratch right).state-exactly;
-        take-never-34 = λ more scratch. rw (took more scratch) (E.takes.never-34 most more scratch);
-        close-plain = λ p. ap (λ (r : Shared Closed). r.call) (closed p);
-        close-leaves = λ p. ap (λ (o : Outcome). o.place) (close-outcome w pos shares G R i m here p);
-        take-pool = λ more scratch. rw (took more scratch);
-        close-pool = λ p. rw (closed p);
+        take_lengths = λ more scratch. rw (took more scratch) (E.takes.wrong_lengths most more scratch);
+        take_answers = answers;
+        take_nothing = λ more scratch right. rw (took more scratch) (answers more scratch right).nothing_exactly;
+        take_full = λ more scratch right. rw (took more scratch) (answers more scratch right).full_exactly;
+        take_false = λ more scratch right. rw (took more scratch) (answers more scratch right).false_exactly;
+        take_state = λ more scratch right. rw (took more scratch) (answers more scratch right).state_exactly;
+        take_never_34 = λ more scratch. rw (took more scratch) (E.takes.never_34 most more scratch);
+        close_plain = λ p. ap (λ (r : Shared Closed). r.call) (closed p);
+        close_leaves = λ p. ap (λ (o : Outcome). o.place) (close_outcome w pos shares G R i m here p);
+        take_pool = λ more scratch. rw (took more scratch);
+        close_pool = λ p. rw (closed p);
       }
 
-  member-is-exact : MemberIsExact w i m G
-  member-is-exact =
+  member_is_exact : MemberIsExact w i m G
+  member_is_exact =
       let written = (R.members i m here).1 in
-      let r = every-watch-exact m.text m.processes m.labels written.0 w Z written.1 in
-      (written.0, written.1, (r.0, r.1, r.2, r.3, member-exact r.0 r.4))
+      let r = every-watch_exact m.text m.processes m.labels written.0 w Z written.1 in
+      (written.0, written.1, (r.0, r.1, r.2, r.3, member_exact r.0 r.4))
 
 -- ---- Theorems
 
-pub every-member-exact : EveryMemberIsExact
-every-member-exact w pos shares pool set cs p i m here =
-    member-is-exact w pos shares _ (running w pos shares pool set cs p) i m here
+pub every_member_exact : EveryMemberIsExact
+every_member_exact w pos shares pool set cs p i m here =
+    member_is_exact w pos shares _ (running w pos shares pool set cs p) i m here
 
-pub member-and-plain-alike : MemberAndPlainAlike
-member-and-plain-alike w pos shares pool set cs p i m here Z z =
+pub member_and-plain-alike : MemberAndPlainAlike
+member_and-plain-alike w pos shares pool set cs p i m here Z z =
     let written = ((running w pos shares pool set cs p).members i m here).1 in
-    order-independent-with-moves m.text m.processes m.labels written.0 w m.watch Z written.1 z
+    order_independent_with_moves m.text m.processes m.labels written.0 w m.watch Z written.1 z
 
 -- The second one, opened alike.
 as_first : (w v : ℕ) (m n : Member) → w ≡ v → m.text ≡ n.text → m.processes ≡ n.processes → m.labels ≡ n.labels
     → IsWritten v n → Written m.text m.processes m.labels w n.watch
 as_first w v m n e t k l x = rw (e, t, k, l) x.1
 
-pub members-order-independent : MembersOrderIndependent
-members-order-independent w pos shares pool set cs p i m here v pos' shares' pool' set' ds q j n there e alike =
+pub members_order_independent : MembersOrderIndependent
+members_order_independent w pos shares pool set cs p i m here v pos' shares' pool' set' ds q j n there e alike =
     let written = ((running v pos' shares' pool' set' ds q).members j n there).1 in
-    member-and-plain-alike w pos shares pool set cs p i m here n.watch
+    member_and-plain-alike w pos shares pool set cs p i m here n.watch
     (as_first w v m n e alike.0 alike.1 alike.2 written)

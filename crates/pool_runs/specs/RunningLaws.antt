@@ -6,11 +6,11 @@ use Rattle.std.proofs.Math.Decide.{dec_lt, ℕ_discrete}
 use Rattle.std.proofs.Common.{sym, ap, ◌∙◌, inl, inr, eq-eqb, ne_eqb}
 use Rattle.std.proofs.Math.Bool.{cond}
 use Rattle.clocks.specs.Counts.{at}
-use Rattle.numbers.specs.Limit.{mostFrontiers, mostMembers}
-use Rattle.pool.specs.Pool.{sumBelow, poolLength, shareAt, keptAt, unpromised, aboveShare, usedByOthers, allowance, broughtUp}
-use Rattle.pool.specs.PoolLaws.{sum_same, sum-plus, sum-split, brought-length, kept-own, kept-other, share-stays, share-allowed}
-use Rattle.pool_runs.specs.Runs.{Member, Place, has, Pooled, Numbered, Outcome, outcomeIn, afterPoolCall}
-use Rattle.pool_runs.specs.statements.Within.{keptAtPlace, keptOrPromised}
+use Rattle.numbers.specs.Limit.{most_frontiers, most_members}
+use Rattle.pool.specs.Pool.{sum_below, pool_length, share_at, kept_at, unpromised, above_share, used_by_others, allowance, brought_up}
+use Rattle.pool.specs.PoolLaws.{sum_same, sum_plus, sum_split, brought_length, kept_own, kept_other, share-stays, share_allowed}
+use Rattle.pool_runs.specs.Runs.{Member, Place, has, Pooled, Numbered, Outcome, outcome_in, after_pool_call}
+use Rattle.pool_runs.specs.statements.Within.{kept_at_place, kept_or_promised}
 use Rattle.pool_runs.specs.Running.{HasShare, IsWritten, Running}
 
 -- The larger of two numbers is the second and what the first is above it.
@@ -27,41 +27,41 @@ two false kept share kept' share' k s = omega (arith, k, s, larger kept share)
 
 module _ (w : ℕ) (shares : List ℕ) (G : Pooled) (R : Running w shares G) where
   -- What the watches other than i keep, or are promised where that is more.
-  abbrev pub ofOthers : ℕ → ℕ
-  ofOthers i = sumBelow mostMembers (λ j. cond (eqb j i) 0 (keptOrPromised shares G j))
+  abbrev pub of_others : ℕ → ℕ
+  of_others i = sum_below most_members (λ j. cond (eqb j i) 0 (kept_or_promised shares G j))
 
-  abbrev promisedOthers : ℕ → ℕ
-  promisedOthers i = sumBelow mostMembers (λ j. cond (eqb j i) 0 (at shares j))
+  abbrev promised_others : ℕ → ℕ
+  promised_others i = sum_below most_members (λ j. cond (eqb j i) 0 (at shares j))
 
   -- Their shares, and what they are using above these.
-  others-parts : (i : ℕ) → ofOthers i ≡ promisedOthers i + usedByOthers G.pool i
-  unfolding usedByOthers aboveShare
-  others-parts i =
-      sum_same mostMembers _ (λ j. cond (eqb j i) 0 (at shares j) + cond (eqb j i) 0 (aboveShare G.pool j)) each
-      ∙ sum-plus mostMembers (λ j. cond (eqb j i) 0 (at shares j)) (λ j. cond (eqb j i) 0 (aboveShare G.pool j))
+  others_parts : (i : ℕ) → of_others i ≡ promised_others i + used_by_others G.pool i
+  unfolding used_by_others above_share
+  others_parts i =
+      sum_same most_members _ (λ j. cond (eqb j i) 0 (at shares j) + cond (eqb j i) 0 (above_share G.pool j)) each
+      ∙ sum_plus most_members (λ j. cond (eqb j i) 0 (at shares j)) (λ j. cond (eqb j i) 0 (above_share G.pool j))
     where
-      each : (j : ℕ) → j < mostMembers
-          → cond (eqb j i) 0 (keptOrPromised shares G j)
-          ≡ cond (eqb j i) 0 (at shares j) + cond (eqb j i) 0 (keptAt G.pool j - shareAt G.pool j)
+      each : (j : ℕ) → j < most_members
+          → cond (eqb j i) 0 (kept_or_promised shares G j)
+          ≡ cond (eqb j i) 0 (at shares j) + cond (eqb j i) 0 (kept_at G.pool j - share_at G.pool j)
       each j l =
-          two (eqb j i) (keptAtPlace (G.places j)) (at shares j) (keptAt G.pool j) (shareAt G.pool j)
-          (R.numbers j l) (R.shares-are j l)
+          two (eqb j i) (kept_at_place (G.places j)) (at shares j) (kept_at G.pool j) (share_at G.pool j)
+          (R.numbers j l) (R.shares_are j l)
 
-  pub allowed-exactly : (i : ℕ) → i < mostMembers → allowance G.pool i + ofOthers i ≡ mostFrontiers
+  pub allowed_exactly : (i : ℕ) → i < most_members → allowance G.pool i + of_others i ≡ most_frontiers
   unfolding allowance unpromised
-  allowed-exactly i l =
-      let all = sum_same mostMembers (shareAt G.pool) (at shares) R.shares-are in
-      let shares-split = sum-split mostMembers i (at shares) l in
-      let kept-split = sum-split mostMembers i (keptOrPromised shares G) l in
+  allowed_exactly i l =
+      let all = sum_same most_members (share_at G.pool) (at shares) R.shares_are in
+      let shares_split = sum_split most_members i (at shares) l in
+      let kept_split = sum_split most_members i (kept_or_promised shares G) l in
       omega (
         arith,
         all,
-        shares-split,
-        kept-split,
-        others-parts i,
-        R.shares-are i l,
+        shares_split,
+        kept_split,
+        others_parts i,
+        R.shares_are i l,
         R.promises,
-        larger (keptAtPlace (G.places i)) (at shares i),
+        larger (kept_at_place (G.places i)) (at shares i),
       )
 
 -- ---- A call of watch i
@@ -69,15 +69,15 @@ module _ (w : ℕ) (shares : List ℕ) (G : Pooled) (R : Running w shares G) whe
 -- The pool is as it was and the watch keeps as many; or its number in the pool is the record's.
 abbrev pub PoolLeft : (G : Pooled) (i : ℕ) (o : Outcome) → Type 0
 PoolLeft G i o =
-    ((o.pool ≡ G.pool) × (keptAtPlace o.place ≡ keptAtPlace (G.places i)))
-    ⊎ ((i < mostMembers) × (o.pool ≡ broughtUp G.pool i (keptAtPlace o.place))
-    × (keptAtPlace o.place ≤ mostFrontiers))
+    ((o.pool ≡ G.pool) × (kept_at_place o.place ≡ kept_at_place (G.places i)))
+    ⊎ ((i < most_members) × (o.pool ≡ brought_up G.pool i (kept_at_place o.place))
+    × (kept_at_place o.place ≤ most_frontiers))
 
 -- What it leaves: such a pool, a watch that keeps no more than before or was promised, or no more than it may, and that
 -- calls alone wrote.
 pub record Lawful (w : ℕ) (shares : List ℕ) (G : Pooled) (i : ℕ) (o : Outcome) : Type 0 where
-  pub pool-left : PoolLeft G i o
-  pub grows : (keptAtPlace o.place ≤ keptOrPromised shares G i) ⊎ (keptAtPlace o.place ≤ allowance G.pool i)
+  pub pool_left : PoolLeft G i o
+  pub grows : (kept_at_place o.place ≤ kept_or_promised shares G i) ⊎ (kept_at_place o.place ≤ allowance G.pool i)
   pub member : (m : Member) → o.place ≡ has m → HasShare shares i × IsWritten w m
 
 module _ (w : ℕ) (shares : List ℕ) (G : Pooled) (R : Running w shares G) (c : Numbered) where
@@ -85,101 +85,101 @@ module _ (w : ℕ) (shares : List ℕ) (G : Pooled) (R : Running w shares G) (c 
   i = c.number
 
   abbrev o : Outcome
-  o = outcomeIn w c G
+  o = outcome_in w c G
 
   abbrev H : Pooled
-  H = afterPoolCall w c G
+  H = after_pool_call w c G
 
   -- its own place, and every other
-  pub own-place : H.places i ≡ o.place
-  own-place = rw (eq-eqb i i refl)
+  pub own_place : H.places i ≡ o.place
+  own_place = rw (eq-eqb i i refl)
 
   pub other_place : (j : ℕ) → j ≢ i → H.places j ≡ G.places j
   other_place j n = rw (ne_eqb j i n)
 
   module _ (L : Lawful w shares G i o) where
-    size-after : length o.pool ≡ poolLength
-    size-after = go L.pool-left
+    size-after : length o.pool ≡ pool_length
+    size-after = go L.pool_left
       where
-        go : PoolLeft G i o → length o.pool ≡ poolLength
+        go : PoolLeft G i o → length o.pool ≡ pool_length
         go (inl x) = rw x.0 R.size
-        go (inr x) = rw x.1 (brought-length G.pool i (keptAtPlace o.place) ∙ R.size)
+        go (inr x) = rw x.1 (brought_length G.pool i (kept_at_place o.place) ∙ R.size)
 
-    shares-after : (j : ℕ) → j < mostMembers → shareAt o.pool j ≡ at shares j
-    shares-after j l = go L.pool-left
+    shares-after : (j : ℕ) → j < most_members → share_at o.pool j ≡ at shares j
+    shares-after j l = go L.pool_left
       where
-        go : PoolLeft G i o → shareAt o.pool j ≡ at shares j
-        go (inl x) = rw x.0 (R.shares-are j l)
-        go (inr x) = rw x.1 (share-stays G.pool i (keptAtPlace o.place) j l ∙ R.shares-are j l)
+        go : PoolLeft G i o → share_at o.pool j ≡ at shares j
+        go (inl x) = rw x.0 (R.shares_are j l)
+        go (inr x) = rw x.1 (share-stays G.pool i (kept_at_place o.place) j l ∙ R.shares_are j l)
 
-    pub own-number : i < mostMembers → keptAt o.pool i ≡ keptAtPlace o.place
-    own-number l = go L.pool-left
+    pub own_number : i < most_members → kept_at o.pool i ≡ kept_at_place o.place
+    own_number l = go L.pool_left
       where
-        go : PoolLeft G i o → keptAt o.pool i ≡ keptAtPlace o.place
+        go : PoolLeft G i o → kept_at o.pool i ≡ kept_at_place o.place
         go (inl x) = rw x.0 (R.numbers i l ∙ sym x.1)
-        go (inr x) = rw x.1 (kept-own G.pool i (keptAtPlace o.place) R.size l (omega (arith, x.2)))
+        go (inr x) = rw x.1 (kept_own G.pool i (kept_at_place o.place) R.size l (omega (arith, x.2)))
 
-    pub other-number : (j : ℕ) → j ≢ i → keptAt o.pool j ≡ keptAt G.pool j
-    other-number j n = go L.pool-left
+    pub other_number : (j : ℕ) → j ≢ i → kept_at o.pool j ≡ kept_at G.pool j
+    other_number j n = go L.pool_left
       where
-        go : PoolLeft G i o → keptAt o.pool j ≡ keptAt G.pool j
+        go : PoolLeft G i o → kept_at o.pool j ≡ kept_at G.pool j
         go (inl x) = rw x.0
-        go (inr x) = rw x.1 (kept-other G.pool i (keptAtPlace o.place) j n)
+        go (inr x) = rw x.1 (kept_other G.pool i (kept_at_place o.place) j n)
 
-    numbers_after : (j : ℕ) → j < mostMembers → keptAt o.pool j ≡ keptAtPlace (H.places j)
+    numbers_after : (j : ℕ) → j < most_members → kept_at o.pool j ≡ kept_at_place (H.places j)
     numbers_after j l = go (ℕ_discrete j i)
       where
-        go : Dec (j ≡ i) → keptAt o.pool j ≡ keptAtPlace (H.places j)
-        go (yes e) = rw (e, own-place) (own-number (omega (arith, e)))
-        go (no n) = rw (other_place j n) (other-number j n ∙ R.numbers j l)
+        go : Dec (j ≡ i) → kept_at o.pool j ≡ kept_at_place (H.places j)
+        go (yes e) = rw (e, own_place) (own_number (omega (arith, e)))
+        go (no n) = rw (other_place j n) (other_number j n ∙ R.numbers j l)
 
-    members-after : (j : ℕ) (m : Member) → H.places j ≡ has m → HasShare shares j × IsWritten w m
-    members-after j m h = go (ℕ_discrete j i)
+    members_after : (j : ℕ) (m : Member) → H.places j ≡ has m → HasShare shares j × IsWritten w m
+    members_after j m h = go (ℕ_discrete j i)
       where
         go : Dec (j ≡ i) → HasShare shares j × IsWritten w m
-        go (yes e) = rw e (L.member m (sym own-place ∙ rw e at h))
+        go (yes e) = rw e (L.member m (sym own_place ∙ rw e at h))
         go (no n) = R.members j m (sym (other_place j n) ∙ h)
 
     -- the others keep what they kept
-    others_same : (j : ℕ) → j < mostMembers
-        → cond (eqb j i) 0 (keptOrPromised shares H j) ≡ cond (eqb j i) 0 (keptOrPromised shares G j)
+    others_same : (j : ℕ) → j < most_members
+        → cond (eqb j i) 0 (kept_or_promised shares H j) ≡ cond (eqb j i) 0 (kept_or_promised shares G j)
     others_same j l = go (ℕ_discrete j i)
       where
         go : Dec (j ≡ i)
-            → cond (eqb j i) 0 (keptOrPromised shares H j) ≡ cond (eqb j i) 0 (keptOrPromised shares G j)
+            → cond (eqb j i) 0 (kept_or_promised shares H j) ≡ cond (eqb j i) 0 (kept_or_promised shares G j)
         go (yes e) = rw (eq-eqb j i e)
         go (no n) = rw (other_place j n)
 
     -- with what it keeps itself, or is promised
-    own-within : i < mostMembers
-        → (keptAtPlace o.place ≤ keptOrPromised shares G i) ⊎ (keptAtPlace o.place ≤ allowance G.pool i)
-        → max (keptAtPlace o.place) (at shares i) + ofOthers w shares G R i ≤ mostFrontiers
-    own-within l (inl g) =
-        let before = sum-split mostMembers i (keptOrPromised shares G) l in
+    own_within : i < most_members
+        → (kept_at_place o.place ≤ kept_or_promised shares G i) ⊎ (kept_at_place o.place ≤ allowance G.pool i)
+        → max (kept_at_place o.place) (at shares i) + of_others w shares G R i ≤ most_frontiers
+    own_within l (inl g) =
+        let before = sum_split most_members i (kept_or_promised shares G) l in
         omega (arith, g, before, R.promises)
-    own-within l (inr g) =
-        omega (arith, g, allowed-exactly w shares G R i l, share-allowed G.pool i, R.shares-are i l)
+    own_within l (inr g) =
+        omega (arith, g, allowed_exactly w shares G R i l, share_allowed G.pool i, R.shares_are i l)
 
-    promises-after : sumBelow mostMembers (keptOrPromised shares H) ≤ mostFrontiers
-    promises-after = go (dec_lt i mostMembers)
+    promises_after : sum_below most_members (kept_or_promised shares H) ≤ most_frontiers
+    promises_after = go (dec_lt i most_members)
       where
-        go : Dec (i < mostMembers) → sumBelow mostMembers (keptOrPromised shares H) ≤ mostFrontiers
+        go : Dec (i < most_members) → sum_below most_members (kept_or_promised shares H) ≤ most_frontiers
         go (yes l) =
-            let after = sum-split mostMembers i (keptOrPromised shares H) l in
-            let same = sum_same mostMembers _ _ others_same in
-            let own = ap (λ (P : Place). max (keptAtPlace P) (at shares i)) own-place in
-            omega (arith, after, same, own, own-within l L.grows)
+            let after = sum_split most_members i (kept_or_promised shares H) l in
+            let same = sum_same most_members _ _ others_same in
+            let own = ap (λ (P : Place). max (kept_at_place P) (at shares i)) own_place in
+            omega (arith, after, same, own, own_within l L.grows)
         go (no f) =
-            let same : sumBelow mostMembers (keptOrPromised shares H) ≡ sumBelow mostMembers (keptOrPromised shares G) =
-            sum_same mostMembers _ _ (λ j l. rw (other_place j (λ e. omega (arith, e, l)))) in
+            let same : sum_below most_members (kept_or_promised shares H) ≡ sum_below most_members (kept_or_promised shares G) =
+            sum_same most_members _ _ (λ j l. rw (other_place j (λ e. omega (arith, e, l)))) in
             omega (arith, same, R.promises)
 
     -- ---- Theorem
-    pub lawful-running : Running w shares H
-    lawful-running = record {
+    pub lawful_running : Running w shares H
+    lawful_running = record {
       size = size-after;
-      shares-are = shares-after;
+      shares_are = shares-after;
       numbers = numbers_after;
-      promises = promises-after;
-      members = members-after;
+      promises = promises_after;
+      members = members_after;
     }

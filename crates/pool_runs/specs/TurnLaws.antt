@@ -6,23 +6,23 @@ use Rattle.std.proofs.Math.Decide.{dec_lt}
 use Rattle.std.proofs.Math.Path.{refl, sym}
 use Rattle.std.proofs.Math.Dec.{eqb}
 use Rattle.clocks.specs.Counts.{at}
-use Rattle.numbers.specs.Limit.{mostMembers}
-use Rattle.refusals.specs.Refusals.{badRecordLength, badWindowLength}
-use Rattle.pool.specs.Pool.{shareAt, keptAt, badPoolLength, noShare, allowance}
-use Rattle.pool.specs.PoolLaws.{share-allowed}
+use Rattle.numbers.specs.Limit.{most_members}
+use Rattle.refusals.specs.Refusals.{bad_record_length, bad_window_length}
+use Rattle.pool.specs.Pool.{share_at, kept_at, bad_pool_length, no_share, allowance}
+use Rattle.pool.specs.PoolLaws.{share_allowed}
 use Rattle.call_take.specs.Take.{Taken}
-use Rattle.call_shared.specs.Shared.{Shared, sharedOpen}
+use Rattle.call_shared.specs.Shared.{Shared, shared_open}
 use Rattle.demands.specs.EveryList.{RightLengths}
 use Rattle.demands.specs.statements.Caps.{WouldPass}
-use Rattle.demands.specs.forms.EveryWatch.{caps-alike}
-use Rattle.pool_runs.specs.Runs.{Member, Place, vacant, has, Pooled, PoolCall, open-call, offer-call, take-call, find-call, close-call, mislent-call, PoolPassed, Numbered, Outcome, withWatch, outcomeOfOpen, outcomeOfOffer, outcomeOfFind, outcomeOfTake, outcomeOfClose, outcome, outcomeIn, afterPoolCall}
+use Rattle.demands.specs.forms.EveryWatch.{caps_alike}
+use Rattle.pool_runs.specs.Runs.{Member, Place, vacant, has, Pooled, PoolCall, open_call_lem, offer_call_lem, take_call_lem, find_call_lem, close_call_lem, mislent_call, PoolPassed, Numbered, Outcome, with_watch, outcome_of_open, outcome_of_offer, outcome_of_find, outcome_of_take, outcome_of_close, outcome, outcome_in, after_pool_call}
 use Rattle.pool_runs.specs.Turns.{turn_of}
-use Rattle.pool_runs.specs.statements.Within.{keptAtPlace}
+use Rattle.pool_runs.specs.statements.Within.{kept_at_place}
 use Rattle.pool_runs.specs.statements.Others.{MayPassShare}
 use Rattle.pool_runs.specs.Running.{Running}
-use Rattle.pool_runs.specs.RunningLaws.{PoolLeft, Lawful, other_place, other-number, own-place, own-number, lawful-running}
+use Rattle.pool_runs.specs.RunningLaws.{PoolLeft, Lawful, other_place, other_number, own_place, own_number, lawful_running}
 use Rattle.pool_runs.specs.MemberCallLaws.{good_length}
-use Rattle.pool_runs.specs.OutcomeLaws.{take-outcome, close-outcome, call-lawful}
+use Rattle.pool_runs.specs.OutcomeLaws.{take-outcome, close_outcome, call_lawful}
 
 -- ---- An open looks at no more of the pool than its length and whether there is a share
 
@@ -32,14 +32,14 @@ same-calls true c x y z x' y' z' e f g = e
 same-calls false true x y z x' y' z' e f g = f
 same-calls false false x y z x' y' z' e f g = g
 
-same-open : (w i : ℕ) (text : List ℕ) (k : ℕ) (labels s window pool pool' : List ℕ)
-    → badPoolLength (length pool) ≡ badPoolLength (length pool') → noShare pool i ≡ noShare pool' i
-    → (sharedOpen w text k labels s window pool i).call ≡ (sharedOpen w text k labels s window pool' i).call
-unfolding sharedOpen
-same-open w i text k labels s window pool pool' lengths share =
+same_open : (w i : ℕ) (text : List ℕ) (k : ℕ) (labels s window pool pool' : List ℕ)
+    → bad_pool_length (length pool) ≡ bad_pool_length (length pool') → no_share pool i ≡ no_share pool' i
+    → (shared_open w text k labels s window pool i).call ≡ (shared_open w text k labels s window pool' i).call
+unfolding shared_open
+same_open w i text k labels s window pool pool' lengths share =
     rw (lengths, share)
-    (same-calls (badRecordLength w (length s) || (badWindowLength w (length window) || badPoolLength (length pool')))
-    (noShare pool' i) _ _ _ _ _ _ refl refl refl)
+    (same-calls (bad_record_length w (length s) || (bad_window_length w (length window) || bad_pool_length (length pool')))
+    (no_share pool' i) _ _ _ _ _ _ refl refl refl)
 
 -- ---- One number in two runs
 
@@ -48,19 +48,19 @@ pub record Same (w : ℕ) (shares : List ℕ) (i : ℕ) (G H : Pooled) : Type 0 
   pub first : Running w shares G
   pub second : Running w shares H
   pub place : G.places i ≡ H.places i
-  pub number : keptAt G.pool i ≡ keptAt H.pool i
+  pub number : kept_at G.pool i ≡ kept_at H.pool i
 
 module _ (w : ℕ) (pos : 0 < w) (shares : List ℕ) (i : ℕ) where
   -- Another's call.
-  pub other-call : (G H : Pooled) → Same w shares i G H → (c : Numbered) → PoolPassed w c.call → i ≢ c.number
-      → Same w shares i (afterPoolCall w c G) H
-  other-call G H S c p n =
-      let L = call-lawful w pos shares G S.first c p in
+  pub other_call : (G H : Pooled) → Same w shares i G H → (c : Numbered) → PoolPassed w c.call → i ≢ c.number
+      → Same w shares i (after_pool_call w c G) H
+  other_call G H S c p n =
+      let L = call_lawful w pos shares G S.first c p in
       record {
-        first = lawful-running w shares G S.first c L;
+        first = lawful_running w shares G S.first c L;
         second = S.second;
         place = other_place w shares G S.first c i n ∙ S.place;
-        number = other-number w shares G S.first c L i n ∙ S.number;
+        number = other_number w shares G S.first c L i n ∙ S.number;
       }
 
   pub turned_round : (G H : Pooled) → Same w shares i G H → Same w shares i H G
@@ -69,14 +69,14 @@ module _ (w : ℕ) (pos : 0 < w) (shares : List ℕ) (i : ℕ) where
 
   -- ---- Its own call
   module _ (G H : Pooled) (S : Same w shares i G H) where
-    same-share : (j : ℕ) → j ≡ i → noShare G.pool j ≡ noShare H.pool j
-    unfolding noShare
-    same-share j e = go (dec_lt j mostMembers)
+    same-share : (j : ℕ) → j ≡ i → no_share G.pool j ≡ no_share H.pool j
+    unfolding no_share
+    same-share j e = go (dec_lt j most_members)
       where
-        go : Dec (j < mostMembers)
-            → (leb mostMembers j || eqb (shareAt G.pool j) 0) ≡ (leb mostMembers j || eqb (shareAt H.pool j) 0)
-        go (yes l) = rw (S.first.shares-are j l, S.second.shares-are j l)
-        go (no f) = rw (le-leb mostMembers j (omega (arith, f)))
+        go : Dec (j < most_members)
+            → (leb most_members j || eqb (share_at G.pool j) 0) ≡ (leb most_members j || eqb (share_at H.pool j) 0)
+        go (yes l) = rw (S.first.shares_are j l, S.second.shares_are j l)
+        go (no f) = rw (le-leb most_members j (omega (arith, f)))
 
     -- both leave the same of the watch, of the scratch, and answer the same
     pub record SameOutcome (o o' : Outcome) : Type 0 where
@@ -84,96 +84,96 @@ module _ (w : ℕ) (pos : 0 < w) (shares : List ℕ) (i : ℕ) where
       pub scratches : o.scratch ≡ o'.scratch
       pub answered : o.answers ≡ o'.answers
 
-    open-alike : (text : List ℕ) (k : ℕ) (labels s window : List ℕ) (P : Place)
-        → SameOutcome (outcomeOfOpen w i text k labels s window G.pool P)
-        (outcomeOfOpen w i text k labels s window H.pool P)
-    unfolding outcomeOfOpen
-    open-alike text k labels s window P =
+    open_alike : (text : List ℕ) (k : ℕ) (labels s window : List ℕ) (P : Place)
+        → SameOutcome (outcome_of_open w i text k labels s window G.pool P)
+        (outcome_of_open w i text k labels s window H.pool P)
+    unfolding outcome_of_open
+    open_alike text k labels s window P =
         let lengths = good_length G.pool S.first.size ∙ sym (good_length H.pool S.second.size) in
-        let same = same-open w i text k labels s window G.pool H.pool lengths (same-share i refl) in
+        let same = same_open w i text k labels s window G.pool H.pool lengths (same-share i refl) in
         record { places = rw same; scratches = refl; answered = rw same }
 
     take-alike : (m : Member) → G.places i ≡ has m → (more : ℕ) (scratch : List ℕ)
         → (RightLengths w m.watch more scratch → WouldPass m.processes (at shares i) m.watch.ledger → ⊥)
-        → SameOutcome (outcomeOfTake w i more scratch G.pool m) (outcomeOfTake w i more scratch H.pool m)
+        → SameOutcome (outcome_of_take w i more scratch G.pool m) (outcome_of_take w i more scratch H.pool m)
     take-alike m here more scratch none =
         let member = S.first.members i m here in
-        let r = caps-alike m.text m.processes m.labels member.1.0 w m.watch member.1.1 in
+        let r = caps_alike m.text m.processes m.labels member.1.0 w m.watch member.1.1 in
         let l = member.0.0 in
         let low : at shares i ≤ allowance G.pool i =
-        omega (arith, share-allowed G.pool i, S.first.shares-are i l) in
+        omega (arith, share_allowed G.pool i, S.first.shares_are i l) in
         let low' : at shares i ≤ allowance H.pool i =
-        omega (arith, share-allowed H.pool i, S.second.shares-are i l) in
+        omega (arith, share_allowed H.pool i, S.second.shares_are i l) in
         let same = r.4 (at shares i) (allowance G.pool i) (allowance H.pool i) more scratch low low' none in
         rw (
           take-outcome w pos shares G S.first i m here more scratch,
           take-outcome w pos shares H S.second i m (sym S.place ∙ here) more scratch,
         )
         (record {
-          places = ap (withWatch m) same.1;
+          places = ap (with_watch m) same.1;
           scratches = ap (λ (t : Taken). t.scratch) same.0;
           answered = ap (λ (t : Taken). t.answer ∷ []) same.0;
         })
 
-    close-alike : (m : Member) → G.places i ≡ has m → (p : ℕ)
-        → SameOutcome (outcomeOfClose w i p G.pool m) (outcomeOfClose w i p H.pool m)
-    close-alike m here p =
+    close_alike : (m : Member) → G.places i ≡ has m → (p : ℕ)
+        → SameOutcome (outcome_of_close w i p G.pool m) (outcome_of_close w i p H.pool m)
+    close_alike m here p =
         rw (
-          close-outcome w pos shares G S.first i m here p,
-          close-outcome w pos shares H S.second i m (sym S.place ∙ here) p,
+          close_outcome w pos shares G S.first i m here p,
+          close_outcome w pos shares H S.second i m (sym S.place ∙ here) p,
         )
         (record { places = refl; scratches = refl; answered = refl })
 
     -- no take of it would pass the share
     abbrev Modest : (c : PoolCall) (P : Place) → Type 0
     Modest c P =
-        (more : ℕ) (scratch : List ℕ) (m : Member) → c ≡ take-call more scratch → P ≡ has m
+        (more : ℕ) (scratch : List ℕ) (m : Member) → c ≡ take_call_lem more scratch → P ≡ has m
         → RightLengths w m.watch more scratch → WouldPass m.processes (at shares i) m.watch.ledger → ⊥
 
     calls-alike : (c : PoolCall) (P : Place) → G.places i ≡ P → Modest c P
         → SameOutcome (outcome w i c G.pool P) (outcome w i c H.pool P)
-    unfolding outcome outcomeOfOffer outcomeOfFind
-    calls-alike (open-call text k labels s window) P h none = open-alike text k labels s window P
-    calls-alike (mislent-call x) P h none = record { places = refl; scratches = refl; answered = refl }
-    calls-alike (offer-call mask clock labels) vacant h none =
+    unfolding outcome outcome_of_offer outcome_of_find
+    calls-alike (open_call_lem text k labels s window) P h none = open_alike text k labels s window P
+    calls-alike (mislent_call x) P h none = record { places = refl; scratches = refl; answered = refl }
+    calls-alike (offer_call_lem mask clock labels) vacant h none =
         record { places = refl; scratches = refl; answered = refl }
-    calls-alike (offer-call mask clock labels) (has m) h none =
+    calls-alike (offer_call_lem mask clock labels) (has m) h none =
         record { places = refl; scratches = refl; answered = refl }
-    calls-alike (take-call more scratch) vacant h none = record { places = refl; scratches = refl; answered = refl }
-    calls-alike (take-call more scratch) (has m) h none = take-alike m h more scratch (none more scratch m refl refl)
-    calls-alike (find-call line) vacant h none = record { places = refl; scratches = refl; answered = refl }
-    calls-alike (find-call line) (has m) h none = record { places = refl; scratches = refl; answered = refl }
-    calls-alike (close-call p) vacant h none = record { places = refl; scratches = refl; answered = refl }
-    calls-alike (close-call p) (has m) h none = close-alike m h p
+    calls-alike (take_call_lem more scratch) vacant h none = record { places = refl; scratches = refl; answered = refl }
+    calls-alike (take_call_lem more scratch) (has m) h none = take-alike m h more scratch (none more scratch m refl refl)
+    calls-alike (find_call_lem line) vacant h none = record { places = refl; scratches = refl; answered = refl }
+    calls-alike (find_call_lem line) (has m) h none = record { places = refl; scratches = refl; answered = refl }
+    calls-alike (close_call_lem p) vacant h none = record { places = refl; scratches = refl; answered = refl }
+    calls-alike (close_call_lem p) (has m) h none = close_alike m h p
 
     -- ---- One turn of it, in each run
     module _ (x : PoolCall) (p : PoolPassed w x) where
       abbrev c : Numbered
       c = record { number = i; call = x }
 
-      abbrev L : Lawful w shares G i (outcomeIn w c G)
-      L = call-lawful w pos shares G S.first c p
+      abbrev L : Lawful w shares G i (outcome_in w c G)
+      L = call_lawful w pos shares G S.first c p
 
-      abbrev M : Lawful w shares H i (outcomeIn w c H)
-      M = call-lawful w pos shares H S.second c p
+      abbrev M : Lawful w shares H i (outcome_in w c H)
+      M = call_lawful w pos shares H S.second c p
 
       -- its number in the pool: the record's, or as it was where it has no share
-      number-after : (outcomeIn w c G).place ≡ (outcomeIn w c H).place
-          → keptAt (outcomeIn w c G).pool i ≡ keptAt (outcomeIn w c H).pool i
-      number-after same = go (dec_lt i mostMembers)
+      number-after : (outcome_in w c G).place ≡ (outcome_in w c H).place
+          → kept_at (outcome_in w c G).pool i ≡ kept_at (outcome_in w c H).pool i
+      number-after same = go (dec_lt i most_members)
         where
-          stays : (K : Pooled) → PoolLeft K i (outcomeIn w c K) → (i < mostMembers → ⊥)
-              → keptAt (outcomeIn w c K).pool i ≡ keptAt K.pool i
+          stays : (K : Pooled) → PoolLeft K i (outcome_in w c K) → (i < most_members → ⊥)
+              → kept_at (outcome_in w c K).pool i ≡ kept_at K.pool i
           stays K (inl y) out = rw y.0
           stays K (inr y) out = absurd (out y.0)
 
-          go : Dec (i < mostMembers) → keptAt (outcomeIn w c G).pool i ≡ keptAt (outcomeIn w c H).pool i
+          go : Dec (i < most_members) → kept_at (outcome_in w c G).pool i ≡ kept_at (outcome_in w c H).pool i
           go (yes l) =
-              own-number w shares G S.first c L l ∙ ap keptAtPlace same
-              ∙ sym (own-number w shares H S.second c M l)
-          go (no out) = stays G L.pool-left out ∙ S.number ∙ sym (stays H M.pool-left out)
+              own_number w shares G S.first c L l ∙ ap kept_at_place same
+              ∙ sym (own_number w shares H S.second c M l)
+          go (no out) = stays G L.pool_left out ∙ S.number ∙ sym (stays H M.pool_left out)
 
-      alike : (MayPassShare w (at shares i) (turn_of w c G) → ⊥) → SameOutcome (outcomeIn w c G) (outcomeIn w c H)
+      alike : (MayPassShare w (at shares i) (turn_of w c G) → ⊥) → SameOutcome (outcome_in w c G) (outcome_in w c H)
       alike none =
           rw (← S.place)
           (calls-alike x (G.places i) refl
@@ -182,23 +182,23 @@ module _ (w : ℕ) (pos : 0 < w) (shares : List ℕ) (i : ℕ) where
       pub same_turn : (MayPassShare w (at shares i) (turn_of w c G) → ⊥) → turn_of w c G ≡ turn_of w c H
       same_turn none =
           let A = alike none in
-          cc-turn S.place A.places A.scratches (number-after A.places) A.answered
+          cc_turn S.place A.places A.scratches (number-after A.places) A.answered
         where
-          cc-turn : G.places i ≡ H.places i → (outcomeIn w c G).place ≡ (outcomeIn w c H).place
-              → (outcomeIn w c G).scratch ≡ (outcomeIn w c H).scratch
-              → keptAt (outcomeIn w c G).pool i ≡ keptAt (outcomeIn w c H).pool i
-              → (outcomeIn w c G).answers ≡ (outcomeIn w c H).answers
+          cc_turn : G.places i ≡ H.places i → (outcome_in w c G).place ≡ (outcome_in w c H).place
+              → (outcome_in w c G).scratch ≡ (outcome_in w c H).scratch
+              → kept_at (outcome_in w c G).pool i ≡ kept_at (outcome_in w c H).pool i
+              → (outcome_in w c G).answers ≡ (outcome_in w c H).answers
               → turn_of w c G ≡ turn_of w c H
-          cc-turn a b d e f = cc
+          cc_turn a b d e f = cc
 
       pub same_after : (MayPassShare w (at shares i) (turn_of w c G) → ⊥)
-          → Same w shares i (afterPoolCall w c G) (afterPoolCall w c H)
+          → Same w shares i (after_pool_call w c G) (after_pool_call w c H)
       same_after none =
           let A = alike none in
           record {
-            first = lawful-running w shares G S.first c L;
-            second = lawful-running w shares H S.second c M;
+            first = lawful_running w shares G S.first c L;
+            second = lawful_running w shares H S.second c M;
             place =
-                own-place w shares G S.first c ∙ A.places ∙ sym (own-place w shares H S.second c);
+                own_place w shares G S.first c ∙ A.places ∙ sym (own_place w shares H S.second c);
             number = number-after A.places;
           }

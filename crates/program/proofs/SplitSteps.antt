@@ -9,38 +9,38 @@ use lib.Dec.{ltb}
 use lib.ListN.{length, get_or, set, take, drop, length-append, drop_of_length-le}
 use lib.Seq.{take-suc, take-suc-set, drop-cons, take_all, take-append-le, length-take-le}
 use borrow.Author.Tests.{eq-eqb, ne_eqb, ltb-true, ltb-false}
-use Rattle.program.specs.Split.{upToFeed, hasFeed}
+use Rattle.program.specs.Split.{up_to_feed, has_feed}
 
 -- No line feed stands before place i.
 pub record Unended (bytes : List ℕ) (i : ℕ) : Type 0 where
-  pub before : upToFeed bytes ≡ take i bytes ++ upToFeed (drop i bytes)
-  pub behind : hasFeed bytes ≡ hasFeed (drop i bytes)
+  pub before : up_to_feed bytes ≡ take i bytes ++ up_to_feed (drop i bytes)
+  pub behind : has_feed bytes ≡ has_feed (drop i bytes)
 
 -- The line's bytes before place i are found.
 abbrev pub Found : List ℕ → ℕ → Bool → Type 0
-Found bytes i feed = (hasFeed bytes ≡ feed) × (upToFeed bytes ≡ take i bytes)
+Found bytes i feed = (has_feed bytes ≡ feed) × (up_to_feed bytes ≡ take i bytes)
 
 module _ (bytes : List ℕ) (i : ℕ) where
-  pub unended-next : i < length bytes → (get_or bytes i 0 ≡ 10 → ⊥) → Unended bytes i → Unended bytes (i + 1)
-  unfolding upToFeed hasFeed
-  unended-next l n u =
+  pub unended_next : i < length bytes → (get_or bytes i 0 ≡ 10 → ⊥) → Unended bytes i → Unended bytes (i + 1)
+  unfolding up_to_feed has_feed
+  unended_next l n u =
       let d : drop i bytes ≡ get_or bytes i 0 ∷ drop (suc i) bytes = drop-cons bytes i 0 l in
       let e = ne_eqb (get_or bytes i 0) 10 n in
       record {
-        before = rw (add-one i, take-suc bytes i 0 l) (u.before ∙ rw (d, e) (sym (append_assoc (take i bytes) (get_or bytes i 0 ∷ []) (upToFeed (drop (suc i) bytes)))));
+        before = rw (add-one i, take-suc bytes i 0 l) (u.before ∙ rw (d, e) (sym (append_assoc (take i bytes) (get_or bytes i 0 ∷ []) (up_to_feed (drop (suc i) bytes)))));
         behind = rw (add-one i) (u.behind ∙ rw (d, e));
       }
 
-  pub feed-here : i < length bytes → get_or bytes i 0 ≡ 10 → Unended bytes i → Found bytes i true
-  unfolding upToFeed hasFeed
-  feed-here l n u =
+  pub feed_here : i < length bytes → get_or bytes i 0 ≡ 10 → Unended bytes i → Found bytes i true
+  unfolding up_to_feed has_feed
+  feed_here l n u =
       let d : drop i bytes ≡ get_or bytes i 0 ∷ drop (suc i) bytes = drop-cons bytes i 0 l in
       let e = eq-eqb (get_or bytes i 0) 10 n in
       (u.behind ∙ rw (d, e), u.before ∙ rw (d, e) (append-nil (take i bytes)))
 
-  pub feed-none : length bytes ≤ i → Unended bytes i → Found bytes i false
-  unfolding upToFeed hasFeed
-  feed-none l u =
+  pub feed_none : length bytes ≤ i → Unended bytes i → Found bytes i false
+  unfolding up_to_feed has_feed
+  feed_none l u =
       let d : drop i bytes ≡ [] = drop_of_length-le bytes l in
       (u.behind ∙ rw d, u.before ∙ rw d (append-nil (take i bytes)))
 
@@ -53,8 +53,8 @@ module _ (line start bytes : List ℕ) (n kept i : ℕ) (whole : n ≡ length li
   next : start ++ take (i + 1) bytes ≡ so_far ++ (get_or bytes i 0 ∷ [])
   next = rw (add-one i, take-suc bytes i 0 l) (sym (append_assoc start (take i bytes) (get_or bytes i 0 ∷ [])))
 
-  pub byte-kept : kept < length line → take (kept + 1) (set line kept (get_or bytes i 0)) ≡ take n (start ++ take (i + 1) bytes)
-  byte-kept h = go (ltb (length so_far) n) refl
+  pub byte_kept : kept < length line → take (kept + 1) (set line kept (get_or bytes i 0)) ≡ take n (start ++ take (i + 1) bytes)
+  byte_kept h = go (ltb (length so_far) n) refl
     where
       go : (b : Bool) → ltb (length so_far) n ≡ b → take (kept + 1) (set line kept (get_or bytes i 0)) ≡ take n (start ++ take (i + 1) bytes)
       go true t =
@@ -66,8 +66,8 @@ module _ (line start bytes : List ℕ) (n kept i : ℕ) (whole : n ≡ length li
           let full = length-take-le n so_far (ltb-false (length so_far) n t) in
           absurd (omega (arith, full, ap length e, length-take-le kept line (omega arith)))
 
-  pub byte-passed : length line ≤ kept → take kept line ≡ take n (start ++ take (i + 1) bytes)
-  byte-passed h = go (ltb (length so_far) n) refl
+  pub byte_passed : length line ≤ kept → take kept line ≡ take n (start ++ take (i + 1) bytes)
+  byte_passed h = go (ltb (length so_far) n) refl
     where
       go : (b : Bool) → ltb (length so_far) n ≡ b → take kept line ≡ take n (start ++ take (i + 1) bytes)
       go true t =

@@ -10,8 +10,8 @@ use Rattle.lines.specs.declared.WatchLine.{WatchLine}
 use Rattle.lines.specs.declared.WatchLine.TheVariants.{Watch, Refused as WatchRefused}
 use Rattle.codec.specs.Decimal.{digits, value}
 use Rattle.line_pieces.specs.Number.{number_of, number_at}
-use Rattle.line_pieces.specs.Reading.{lineLimit, thenByte, thenNumber, thenEnd, limited, headRead, valueRead, thenLast}
-use Rattle.lines.specs.Lines.{watchOf, watchLine, kLimit, roomLimit}
+use Rattle.line_pieces.specs.Reading.{line_limit, then_byte, then_number, then_end, limited, head_read, value_read, then_last}
+use Rattle.lines.specs.Lines.{watch_of, watch_line, kLimit, room_limit}
 
 -- A reading's number is at most so much.
 abbrev AtMost : ℕ → Read → Type 0
@@ -35,35 +35,35 @@ digits-within (d ∷ ds) i least most =
     let v = value (d ∷ ds) in
     either most (eqb d 48 && ltb 0 (length ds)) _ _ (λ t. tt) (either most (leb least v && leb v most) _ _ (λ t. leb→le v most (and_r (leb least v) (leb v most) t)) tt)
 
-number-within : (s : List ℕ) (least most : ℕ) (r : Read) → AtMost most (thenNumber s least most r)
-unfolding thenNumber number_at
+number-within : (s : List ℕ) (least most : ℕ) (r : Read) → AtMost most (then_number s least most r)
+unfolding then_number number_at
 number-within s least most (At i v) = digits-within (digits (drop i s)) i least most
 number-within s least most (Refused n i) = tt
 
-byte-within : (s : List ℕ) (b most : ℕ) (r : Read) → AtMost most r → AtMost most (thenByte s b r)
-unfolding thenByte
-byte-within s b most (At i v) h = either most (eqb (byte_at s i) b) _ _ (λ t. h) tt
-byte-within s b most (Refused n i) h = tt
+byte_within : (s : List ℕ) (b most : ℕ) (r : Read) → AtMost most r → AtMost most (then_byte s b r)
+unfolding then_byte
+byte_within s b most (At i v) h = either most (eqb (byte_at s i) b) _ _ (λ t. h) tt
+byte_within s b most (Refused n i) h = tt
 
-end-within : (s : List ℕ) (most : ℕ) (r : Read) → AtMost most r → AtMost most (thenEnd s r)
-unfolding thenEnd
+end-within : (s : List ℕ) (most : ℕ) (r : Read) → AtMost most r → AtMost most (then_end s r)
+unfolding then_end
 end-within s most (At i v) h = either most (ltb i (length s)) _ _ (λ t. tt) h
 end-within s most (Refused n i) h = tt
 
-limit-within : (s : List ℕ) (most : ℕ) (r : Read) → AtMost most r → AtMost most (limited s r)
+limit_within : (s : List ℕ) (most : ℕ) (r : Read) → AtMost most r → AtMost most (limited s r)
 unfolding limited
-limit-within s most (At i v) h = either most (ltb lineLimit (length s)) _ _ (λ t. tt) h
-limit-within s most (Refused n i) h = either most (ltb lineLimit (length s) && ltb lineLimit i) _ _ (λ t. tt) tt
+limit_within s most (At i v) h = either most (ltb line_limit (length s)) _ _ (λ t. tt) h
+limit_within s most (Refused n i) h = either most (ltb line_limit (length s) && ltb line_limit i) _ _ (λ t. tt) tt
 
-made : (k : ℕ) (r : Read) → AtMost 1024 r → RoomWithin (watchOf k r)
-unfolding watchOf
+made : (k : ℕ) (r : Read) → AtMost 1024 r → RoomWithin (watch_of k r)
+unfolding watch_of
 made k (At i v) h = h
 made k (Refused n i) h = tt
 
-pub room_within : (s : List ℕ) → RoomWithin (watchLine s)
-unfolding watchLine thenLast
+pub room_within : (s : List ℕ) → RoomWithin (watch_line s)
+unfolding watch_line then_last
 room_within s =
-    let k = thenNumber s 0 kLimit (headRead s (ascii "(watch ")) in
-    let room = thenNumber s 1 roomLimit (thenByte s 32 k) in
-    made (valueRead k) _ (limit-within s 1024 _ (end-within s 1024 _
-    (byte-within s 41 1024 room (number-within s 1 roomLimit (thenByte s 32 k)))))
+    let k = then_number s 0 kLimit (head_read s (ascii "(watch ")) in
+    let room = then_number s 1 room_limit (then_byte s 32 k) in
+    made (value_read k) _ (limit_within s 1024 _ (end-within s 1024 _
+    (byte_within s 41 1024 room (number-within s 1 room_limit (then_byte s 32 k)))))

@@ -9,17 +9,17 @@ use Rattle.lines.specs.declared.StartLine.{StartLine}
 use Rattle.lines.specs.declared.StartLine.TheVariants.{Start, Refused as StartRefused}
 use Rattle.lines.specs.declared.DidLine.{DidLine}
 use Rattle.lines.specs.declared.DidLine.TheVariants.{Did, Refused as DidRefused}
-use Rattle.lines.specs.Lines.{watchLine, ruleText, ruleLine, startLine, didLine}
-use Rattle.refusals.specs.Refusals.{badProcesses}
-use Rattle.answers.specs.Answer.{Answer, turnedBack, nothingReady, replyWord}
-use Rattle.reply_text.specs.Form.{programWidth}
-use Rattle.call_words.specs.Words.{unpackCounts, unpackLabels}
-use Rattle.call_open.specs.Open.{openCall}
-use Rattle.call_offer.specs.Offer.{offerCall}
+use Rattle.lines.specs.Lines.{watch_line, rule_text, rule_line, start_line, did_line}
+use Rattle.refusals.specs.Refusals.{bad_processes}
+use Rattle.answers.specs.Answer.{Answer, turned_back, nothing_ready, reply_word}
+use Rattle.reply_text.specs.Form.{program_width}
+use Rattle.call_words.specs.Words.{unpack_counts, unpack_labels}
+use Rattle.call_open.specs.Open.{open_call}
+use Rattle.call_offer.specs.Offer.{offer_call}
 use Rattle.program.specs.declared.Session.{Session}
 use Rattle.replies.specs.Replies.{parts_of, Fits}
-use Rattle.replies.specs.Following.{watchStage, ruleStage, startStage, nextStage}
-use Rattle.answers.specs.Kinds.{isTurnedBack}
+use Rattle.replies.specs.Following.{watch_stage, rule_stage, start_stage, next_stage}
+use Rattle.answers.specs.Kinds.{is_turned_back}
 
 -- What the program knows between two lines, and its answer to the last: the next line's stage, the processes, the room
 -- in frontiers, the rule's text, the record and the window.
@@ -35,8 +35,8 @@ pub record Standing : Type 0 where
 -- A line is refused, and nothing changes but the stage.
 unfoldable pub refuse : (s : Standing) (n place : ℕ) → Standing
 refuse s n place = record {
-  answer = turnedBack n place;
-  stage = nextStage s.stage true;
+  answer = turned_back n place;
+  stage = next_stage s.stage true;
   k = s.k;
   room = s.room;
   rule = s.rule;
@@ -45,56 +45,56 @@ refuse s n place = record {
 }
 
 -- The watch line gives processes and room, and is answered with nothing.
-unfoldable pub watchRead : (s : Standing) (r : WatchLine) → Standing
-watchRead s (Watch k room) =
-    cond (badProcesses k) (refuse s 5 0)
-    (record { answer = nothingReady; stage = nextStage s.stage false; k = k; room = room; rule = s.rule; bytes = s.bytes; window = s.window })
-watchRead s (WatchRefused n place) = refuse s n place
+unfoldable pub watch_read : (s : Standing) (r : WatchLine) → Standing
+watch_read s (Watch k room) =
+    cond (bad_processes k) (refuse s 5 0)
+    (record { answer = nothing_ready; stage = next_stage s.stage false; k = k; room = room; rule = s.rule; bytes = s.bytes; window = s.window })
+watch_read s (WatchRefused n place) = refuse s n place
 
 -- The rule's line gives the rule's text, and is answered with nothing.
-unfoldable pub ruleRead : (s : Standing) (line : List ℕ) (r : RuleLine) → Standing
-ruleRead s line (Rule start end) =
-    record { answer = nothingReady; stage = nextStage s.stage false; k = s.k; room = s.room; rule = ruleText line; bytes = s.bytes; window = s.window }
-ruleRead s line (RuleRefused n place) = refuse s n place
+unfoldable pub rule_read : (s : Standing) (line : List ℕ) (r : RuleLine) → Standing
+rule_read s line (Rule start end) =
+    record { answer = nothing_ready; stage = next_stage s.stage false; k = s.k; room = s.room; rule = rule_text line; bytes = s.bytes; window = s.window }
+rule_read s line (RuleRefused n place) = refuse s n place
 
 -- The start labels open the watch.
-unfoldable pub startRead : (s : Standing) (r : StartLine) → Standing
-startRead s (Start labels) =
-    let r = openCall programWidth s.rule s.k (unpackLabels labels) s.bytes s.window in
+unfoldable pub start_read : (s : Standing) (r : StartLine) → Standing
+start_read s (Start labels) =
+    let r = open_call program_width s.rule s.k (unpack_labels labels) s.bytes s.window in
     record {
       answer = r.answer;
-      stage = nextStage s.stage (isTurnedBack r.answer);
+      stage = next_stage s.stage (is_turned_back r.answer);
       k = s.k;
       room = s.room;
       rule = s.rule;
       bytes = r.bytes;
       window = r.window;
     }
-startRead s (StartRefused n place) = refuse s n place
+start_read s (StartRefused n place) = refuse s n place
 
 -- An event is offered.
-unfoldable pub didRead : (s : Standing) (r : DidLine) → Standing
-didRead s (Did mask c01 c23 c45 c67 labels) =
-    let clock = unpackCounts programWidth (c01 ∷ c23 ∷ c45 ∷ c67 ∷ []) in
-    let r = offerCall programWidth mask clock (unpackLabels labels) s.bytes in
+unfoldable pub did_read : (s : Standing) (r : DidLine) → Standing
+did_read s (Did mask c01 c23 c45 c67 labels) =
+    let clock = unpack_counts program_width (c01 ∷ c23 ∷ c45 ∷ c67 ∷ []) in
+    let r = offer_call program_width mask clock (unpack_labels labels) s.bytes in
     record {
       answer = r.answer;
-      stage = nextStage s.stage (isTurnedBack r.answer);
+      stage = next_stage s.stage (is_turned_back r.answer);
       k = s.k;
       room = s.room;
       rule = s.rule;
       bytes = r.bytes;
       window = s.window;
     }
-didRead s (DidRefused n place) = refuse s n place
+did_read s (DidRefused n place) = refuse s n place
 
 -- A line at its stage.
-unfoldable pub lineRead : (s : Standing) (line : List ℕ) → Standing
-lineRead s line =
-    cond (eqb s.stage watchStage) (watchRead s (watchLine line))
-    (cond (eqb s.stage ruleStage) (ruleRead s line (ruleLine line s.k))
-    (cond (eqb s.stage startStage) (startRead s (startLine line s.k))
-    (didRead s (didLine line s.k))))
+unfoldable pub line_read : (s : Standing) (line : List ℕ) → Standing
+line_read s line =
+    cond (eqb s.stage watch_stage) (watch_read s (watch_line line))
+    (cond (eqb s.stage rule_stage) (rule_read s line (rule_line line s.k))
+    (cond (eqb s.stage start_stage) (start_read s (start_line line s.k))
+    (did_read s (did_line line s.k))))
 
 -- The code's session and buffers are what the program knows.
 pub record Stands (t : Standing) (r : Session) (rule state window : List ℕ) : Type 0 where
@@ -117,5 +117,5 @@ pub record Replied (s : Session) (word : ℕ) (r : Session) : Type 0 where
   pub processes : r.k ≡ s.k
   pub frontiers : r.room ≡ s.room
   pub text : r.text ≡ s.text
-  pub reply : (a : Answer) → Fits a → word ≡ replyWord a → (r.reply ≡ parts_of a) × (r.stage
-      ≡ nextStage s.stage (isTurnedBack a))
+  pub reply : (a : Answer) → Fits a → word ≡ reply_word a → (r.reply ≡ parts_of a) × (r.stage
+      ≡ next_stage s.stage (is_turned_back a))

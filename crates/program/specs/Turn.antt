@@ -1,14 +1,14 @@
 -- A line with its takes (01, Examples: the program): what is printed, and what the program knows then. After an
 -- accepted event it takes until nothing is ready or 36. That the takes come to an end is proved in TakesTheorem.
 use Rattle.std.specs.Prelude.{ℕ, zero, suc, ◌*◌, ◌≡◌, Bool, true, false, List, [], ◌++◌, take, drop}
-use Rattle.answers.specs.Answer.{nothingReady}
-use Rattle.call_take.specs.Take.{takeCall}
+use Rattle.answers.specs.Answer.{nothing_ready}
+use Rattle.call_take.specs.Take.{take_call}
 use Rattle.program.specs.declared.Response.{Response}
-use Rattle.reply_text.specs.Form.{programWidth, programFrontier}
-use Rattle.reply_text.specs.Texts.{answerText}
-use Rattle.replies.specs.Following.{takesAgain, watchStage}
+use Rattle.reply_text.specs.Form.{program_width, program_frontier}
+use Rattle.reply_text.specs.Texts.{answer_text}
+use Rattle.replies.specs.Following.{takes_again, watch_stage}
 use Rattle.answers.specs.Kinds.{is_held}
-use Rattle.program.specs.Stages.{Standing, lineRead, Stands}
+use Rattle.program.specs.Stages.{Standing, line_read, Stands}
 
 -- ---- Takes
 
@@ -22,16 +22,16 @@ pub record Took : Type 0 where
 
 -- Takes, as long as one is to follow, but not more than so many. Each gets the buffers as the one before left them. The
 -- texts of their answers, where there are k processes, stand one after the other.
-unfoldable pub takesWhile : (most : ℕ) (follows : Bool) (k : ℕ) (bytes window scratch : List ℕ) → Took
-takesWhile zero follows k bytes window scratch =
+unfoldable pub takes_while : (most : ℕ) (follows : Bool) (k : ℕ) (bytes window scratch : List ℕ) → Took
+takes_while zero follows k bytes window scratch =
     record { text = []; bytes = bytes; window = window; scratch = scratch; follows = follows }
-takesWhile (suc n) false k bytes window scratch =
+takes_while (suc n) false k bytes window scratch =
     record { text = []; bytes = bytes; window = window; scratch = scratch; follows = false }
-takesWhile (suc n) true k bytes window scratch =
-    let o = takeCall programWidth bytes window scratch in
-    let rest = takesWhile n (takesAgain o.answer) k o.bytes o.window o.scratch in
+takes_while (suc n) true k bytes window scratch =
+    let o = take_call program_width bytes window scratch in
+    let rest = takes_while n (takes_again o.answer) k o.bytes o.window o.scratch in
     record {
-      text = answerText k o.answer ++ rest.text;
+      text = answer_text k o.answer ++ rest.text;
       bytes = rest.bytes;
       window = rest.window;
       scratch = rest.scratch;
@@ -39,26 +39,26 @@ takesWhile (suc n) true k bytes window scratch =
     }
 
 -- One more than events can be pending.
-abbrev pub mostTakes : ℕ
-mostTakes = 33
+abbrev pub most_takes : ℕ
+most_takes = 33
 
 -- So many takes are enough, whatever the buffers hold: after them none is to follow.
 abbrev pub TakesEnd : Type 0
 TakesEnd =
     (follows : Bool) (k : ℕ) (bytes window scratch : List ℕ)
-    → (takesWhile mostTakes follows k bytes window scratch).follows ≡ false
+    → (takes_while most_takes follows k bytes window scratch).follows ≡ false
 
 -- ---- A line and its takes
 
 -- The bytes of a window that has room for so many frontiers.
-abbrev pub roomBytes : (room : ℕ) → ℕ
-roomBytes room = programFrontier * room
+abbrev pub room_bytes : (room : ℕ) → ℕ
+room_bytes room = program_frontier * room
 
 -- Before the first line.
-unfoldable pub atFirst : (bytes window : List ℕ) → Standing
-atFirst bytes window = record {
-  answer = nothingReady;
-  stage = watchStage;
+unfoldable pub at_first : (bytes window : List ℕ) → Standing
+at_first bytes window = record {
+  answer = nothing_ready;
+  stage = watch_stage;
   k = 0;
   room = 0;
   rule = [];
@@ -67,15 +67,15 @@ atFirst bytes window = record {
 }
 
 -- What the program knows, where the window is cut to the part of its buffer that the room asks for.
-unfoldable pub lentPart : (t : Standing) → Standing
-lentPart t = record {
+unfoldable pub lent_part : (t : Standing) → Standing
+lent_part t = record {
   answer = t.answer;
   stage = t.stage;
   k = t.k;
   room = t.room;
   rule = t.rule;
   bytes = t.bytes;
-  window = take (roomBytes t.room) t.window;
+  window = take (room_bytes t.room) t.window;
 }
 
 -- What a line and its takes print, what the program knows then, and the bytes of the scratch, which only takes write.
@@ -88,11 +88,11 @@ pub record Turned : Type 0 where
 -- for, and what stands after it stays. Takes follow an accepted event.
 unfoldable pub turned : (t : Standing) (line scratch : List ℕ) → Turned
 turned t line scratch =
-    let n = roomBytes t.room in
-    let u = lineRead (lentPart t) line in
-    let o = takesWhile mostTakes (is_held u.answer) u.k u.bytes u.window (take n scratch) in
+    let n = room_bytes t.room in
+    let u = line_read (lent_part t) line in
+    let o = takes_while most_takes (is_held u.answer) u.k u.bytes u.window (take n scratch) in
     record {
-      text = answerText u.k u.answer ++ o.text;
+      text = answer_text u.k u.answer ++ o.text;
       standing = record {
         answer = u.answer;
         stage = u.stage;

@@ -2,8 +2,8 @@
 // it is read.
 
 ghost use Rattle.std.specs.Prelude.{ℕ, ◌≤◌, List, length};
-ghost use Rattle.lines.specs.Lines.{watchLine, ruleLine, startLine, didLine};
-ghost use Rattle.program.specs.Stages.{Standing, Stands, Within, Replied, refuse as refuseLine, watchRead, ruleRead, startRead, didRead, lineRead};
+ghost use Rattle.lines.specs.Lines.{watch_line, rule_line, start_line, did_line};
+ghost use Rattle.program.specs.Stages.{Standing, Stands, Within, Replied, refuse as refuseLine, watch_read, rule_read, start_read, did_read, line_read};
 
 use crate::Session;
 use lines::{DidLine, RuleLine, StartLine, WatchLine};
@@ -33,7 +33,7 @@ fn refuse(session: Session, number: u8, place: usize) -> Session
 
 // The first line: processes, and room in frontiers.
 fn watch_line(session: Session, line: &[u8]) -> Session
-    ensures stands { (t : Standing) (rule bytes window : List ℕ) → Stands t session rule bytes window → Stands (watchRead t (watchLine line.now)) result rule bytes window }
+    ensures stands { (t : Standing) (rule bytes window : List ℕ) → Stands t session rule bytes window → Stands (watch_read t (watch_line line.now)) result rule bytes window }
     ensures by_index { (n : ℕ) → Within n session → Within n result }
 {
     let read = lines::watch::read_watch(line);
@@ -63,7 +63,7 @@ fn watch_line(session: Session, line: &[u8]) -> Session
 fn rule_line(session: Session, line: &[u8], rule: &mut [u8]) -> Session
     requires line_in_bounds { length line.now ≤ length rule.old }
     requires within { Within (length rule.old) session }
-    ensures stands { (t : Standing) (bytes window : List ℕ) → Stands t session rule.old bytes window → Stands (ruleRead t line.now (ruleLine line.now t.k)) result rule.new bytes window }
+    ensures stands { (t : Standing) (bytes window : List ℕ) → Stands t session rule.old bytes window → Stands (rule_read t line.now (rule_line line.now t.k)) result rule.new bytes window }
     ensures within_2 { Within (length rule.new) result }
 {
     let read = lines::rule::read_rule(line, session.k as u32);
@@ -110,7 +110,7 @@ fn start_line(
     window: &mut [u8],
 ) -> Session
     requires { Within (length rule.now) session }
-    ensures stands { (t : Standing) → Stands t session rule.now «record».old window.old → Stands (startRead t (startLine line.now t.k)) result rule.now «record».new window.new }
+    ensures stands { (t : Standing) → Stands t session rule.now «record».old window.old → Stands (start_read t (start_line line.now t.k)) result rule.now «record».new window.new }
     ensures within { Within (length rule.now) result }
 {
     let k = session.k;
@@ -127,7 +127,7 @@ fn start_line(
 
 // Any further line: an event.
 fn did_line(session: Session, line: &[u8], record: &mut [u8]) -> Session
-    ensures stands { (t : Standing) (rule window : List ℕ) → Stands t session rule «record».old window → Stands (didRead t (didLine line.now t.k)) result rule «record».new window }
+    ensures stands { (t : Standing) (rule window : List ℕ) → Stands t session rule «record».old window → Stands (did_read t (did_line line.now t.k)) result rule «record».new window }
     ensures by_index { (n : ℕ) → Within n session → Within n result }
 {
     let read = lines::did::read_did(line, session.k);
@@ -157,7 +157,7 @@ pub fn answer(
 ) -> Session
     requires line_in_bounds { length line.now ≤ length rule.old }
     requires within { Within (length rule.old) session }
-    ensures stands { (t : Standing) → Stands t session rule.old «record».old window.old → Stands (lineRead t line.now) result rule.new «record».new window.new }
+    ensures stands { (t : Standing) → Stands t session rule.old «record».old window.old → Stands (line_read t line.now) result rule.new «record».new window.new }
     ensures within_2 { Within (length rule.new) result }
 {
     let stage = session.stage;

@@ -2,15 +2,15 @@
 // answers' texts are laid into a lent buffer, one after the other.
 
 ghost use Rattle.std.specs.Prelude.{ℕ, ◌+◌, ◌*◌, ◌≤◌, ◌<◌, ◌≡◌, cond, List, ◌++◌, ltb, length, take};
-ghost use Rattle.records.specs.Record.{recordLength, takenCounts};
+ghost use Rattle.records.specs.Record.{record_length, taken_counts};
 ghost use Rattle.answers.specs.Answer.{Answer};
-ghost use Rattle.call_take.specs.Take.{takeCall};
-ghost use Rattle.reply_text.specs.Form.{programWidth, programWindow};
-ghost use Rattle.reply_text.specs.Texts.{answerText};
+ghost use Rattle.call_take.specs.Take.{take_call};
+ghost use Rattle.reply_text.specs.Form.{program_width, program_window};
+ghost use Rattle.reply_text.specs.Texts.{answer_text};
 ghost use Rattle.replies.specs.Replies.{parts_of, Possible};
-ghost use Rattle.replies.specs.Following.{takesAgain, overStage};
+ghost use Rattle.replies.specs.Following.{takes_again, over_stage};
 ghost use Rattle.program.specs.Stages.{Standing, Stands, Within};
-ghost use Rattle.program.specs.Turn.{takesWhile, mostTakes, atFirst, turned, Responded};
+ghost use Rattle.program.specs.Turn.{takes_while, most_takes, at_first, turned, Responded};
 
 use crate::stages::answer;
 use crate::{Laid, Response, Session};
@@ -29,11 +29,11 @@ pub const OUT_BYTES: usize = TEXT_BYTES + MOST_TAKES * TEXT_BYTES;
 // Lays an answer's text after what is laid: the place after it.
 fn lay(record: &[u8], k: u64, reply: Reply, offered: bool, out: &mut [u8], at: usize) -> usize
     requires k_bound { k ≤ 8 }
-    requires record_len { length «record».now ≡ recordLength programWidth }
+    requires record_len { length «record».now ≡ record_length program_width }
     requires at_in_bounds { at + 256 ≤ length out.old }
     ensures upper_bound { result ≤ at + 256 }
-    ensures out_after { (a : Answer) → Possible offered (takenCounts programWidth «record».now) a
-        → reply ≡ parts_of a → take result out.new ≡ take at out.old ++ answerText k a }
+    ensures out_after { (a : Answer) → Possible offered (taken_counts program_width «record».now) a
+        → reply ≡ parts_of a → take result out.new ≡ take at out.old ++ answer_text k a }
 {
     let end = at + TEXT_BYTES;
     let length = answer_text(record, k, reply, offered, &mut out[at..end]);
@@ -50,19 +50,19 @@ fn take_next(
     at: usize,
 ) -> Laid
     requires k_bound { k ≤ 8 }
-    requires record_len { length «record».old ≡ recordLength programWidth }
+    requires record_len { length «record».old ≡ record_length program_width }
     requires at_in_bounds { at + 256 ≤ length out.old }
     ensures end { result.end ≤ at + 256 }
     ensures text { take result.end out.new ≡ take at out.old
-        ++ answerText k (takeCall programWidth «record».old window.old
+        ++ answer_text k (take_call program_width «record».old window.old
         scratch.old).answer }
-    ensures follows { result.follows ≡ takesAgain (takeCall programWidth «record».old
+    ensures follows { result.follows ≡ takes_again (take_call program_width «record».old
         window.old scratch.old).answer }
-    ensures bytes { «record».new ≡ (takeCall programWidth «record».old window.old
+    ensures bytes { «record».new ≡ (take_call program_width «record».old window.old
         scratch.old).bytes }
-    ensures window { window.new ≡ (takeCall programWidth «record».old window.old
+    ensures window { window.new ≡ (take_call program_width «record».old window.old
         scratch.old).window }
-    ensures scratch { scratch.new ≡ (takeCall programWidth «record».old window.old
+    ensures scratch { scratch.new ≡ (take_call program_width «record».old window.old
         scratch.old).scratch }
 {
     let reply = decode(watch32_take(record, window, scratch));
@@ -91,16 +91,16 @@ fn take_all(
     start: usize,
 ) -> usize
     requires k_bound { k ≤ 8 }
-    requires record_len { length «record».old ≡ recordLength programWidth }
+    requires record_len { length «record».old ≡ record_length program_width }
     requires start_in_bounds { start + 33 * 256 ≤ length out.old }
     ensures end { result ≤ length out.new }
     ensures text { take result out.new ≡ take start out.old
-        ++ (takesWhile mostTakes follows k «record».old window.old scratch.old).text }
-    ensures bytes { «record».new ≡ (takesWhile mostTakes follows k «record».old
+        ++ (takes_while most_takes follows k «record».old window.old scratch.old).text }
+    ensures bytes { «record».new ≡ (takes_while most_takes follows k «record».old
         window.old scratch.old).bytes }
-    ensures window { window.new ≡ (takesWhile mostTakes follows k «record».old
+    ensures window { window.new ≡ (takes_while most_takes follows k «record».old
         window.old scratch.old).window }
-    ensures scratch { scratch.new ≡ (takesWhile mostTakes follows k «record».old
+    ensures scratch { scratch.new ≡ (takes_while most_takes follows k «record».old
         window.old scratch.old).scratch }
 {
     let mut at = start;
@@ -115,7 +115,7 @@ fn take_all(
 
 // Where the program stands before the first line.
 pub fn begin() -> Session
-    ensures by_index { (rule bytes window : List ℕ) → Stands (atFirst bytes window) result rule bytes window }
+    ensures by_index { (rule bytes window : List ℕ) → Stands (at_first bytes window) result rule bytes window }
     ensures by_index_2 { (n : ℕ) → Within n result }
 {
     Session {
@@ -143,18 +143,18 @@ pub fn respond(
     scratch: &mut [u8],
     out: &mut [u8],
 ) -> Response
-    requires stage_lt_over_stage { session.stage < overStage }
+    requires stage_lt_over_stage { session.stage < over_stage }
     requires line_in_bounds { length line.now ≤ length rule.old }
     requires within_2 { Within (length rule.old) session }
-    requires record_len { (length «record».old ≡ recordLength programWidth) × (length window.old ≡ programWindow)
-        × (length scratch.old ≡ programWindow) × (34 * 256 ≤ length out.old) }
+    requires record_len { (length «record».old ≡ record_length program_width) × (length window.old ≡ program_window)
+        × (length scratch.old ≡ program_window) × (34 * 256 ≤ length out.old) }
     ensures turned { (t : Standing)
         → Stands t session rule.old «record».old window.old
         → Responded (turned t line.now scratch.old) result rule.new «record».new
         window.new scratch.new out.new }
     ensures within { Within (length rule.new) result.session }
     ensures length { result.length ≤ length out.new }
-    ensures on { result.on ≡ ltb result.session.stage overStage }
+    ensures on { result.on ≡ ltb result.session.stage over_stage }
 {
     let bytes = FRONTIER_BYTES * session.room;
     let offered = session.stage == 3;

@@ -2,7 +2,7 @@
 
 ghost use Rattle.std.specs.Prelude.{◌+◌, ◌*◌, ◌≤◌, ◌<◌, ◌≡◌, length, get_or};
 ghost use Rattle.frontiers.specs.Width.{Width};
-ghost use Rattle.records.specs.Record.{tablePlace, eventLength, pendingPlace, recordLength, processCount, lineTotal, pendingCount, closedMask, keptCount, takenCounts, pendingAt};
+ghost use Rattle.records.specs.Record.{table_place, event_length, pending_place, record_length, process_count, line_total, pending_count, closed_mask, kept_count, taken_counts, pending_at};
 
 use clocks::Event;
 
@@ -17,7 +17,7 @@ fn byte(record: &[u8], at: usize) -> u32
 // The number of processes.
 pub fn process_count(record: &[u8]) -> u32
     requires { 8 ≤ length «record».now }
-    ensures { (result ≡ processCount «record».now) × (result < 256) }
+    ensures { (result ≡ process_count «record».now) × (result < 256) }
 {
     byte(record, 0)
 }
@@ -25,7 +25,7 @@ pub fn process_count(record: &[u8]) -> u32
 // The number of the table's lines.
 pub fn line_total(record: &[u8]) -> u32
     requires { 8 ≤ length «record».now }
-    ensures { (result ≡ lineTotal «record».now) × (result < 256) }
+    ensures { (result ≡ line_total «record».now) × (result < 256) }
 {
     byte(record, 1)
 }
@@ -33,7 +33,7 @@ pub fn line_total(record: &[u8]) -> u32
 // The number of pending events.
 pub fn pending_count(record: &[u8]) -> usize
     requires { 8 ≤ length «record».now }
-    ensures { (result ≡ pendingCount «record».now) × (result < 256) }
+    ensures { (result ≡ pending_count «record».now) × (result < 256) }
 {
     byte(record, 2) as usize
 }
@@ -41,7 +41,7 @@ pub fn pending_count(record: &[u8]) -> usize
 // The closed processes, a bit for each.
 pub fn closed_mask(record: &[u8]) -> u32
     requires { 8 ≤ length «record».now }
-    ensures { (result ≡ closedMask «record».now) × (result < 256) }
+    ensures { (result ≡ closed_mask «record».now) × (result < 256) }
 {
     byte(record, 3)
 }
@@ -49,7 +49,7 @@ pub fn closed_mask(record: &[u8]) -> u32
 // The number of kept frontiers.
 pub fn kept_count(record: &[u8]) -> u32
     requires { 8 ≤ length «record».now }
-    ensures { result ≡ keptCount «record».now }
+    ensures { result ≡ kept_count «record».now }
 {
     codec::read_u32(record, 4)
 }
@@ -58,7 +58,7 @@ pub fn kept_count(record: &[u8]) -> u32
 pub fn taken_counts(record: &[u8], w: usize) -> [u32; 8]
     requires width { Width w }
     requires w_in_bounds { 8 + 8 * w ≤ length «record».now }
-    ensures { result ≡ takenCounts w «record».now }
+    ensures { result ≡ taken_counts w «record».now }
 {
     frontiers::counts::read_counts(record, 8, w)
 }
@@ -66,7 +66,7 @@ pub fn taken_counts(record: &[u8], w: usize) -> [u32; 8]
 // The place of the table.
 pub fn table_place(w: usize) -> usize
     requires { Width w }
-    ensures { (result ≡ tablePlace w) × (result ≤ 296) }
+    ensures { (result ≡ table_place w) × (result ≤ 296) }
 {
     8 + 72 * w
 }
@@ -74,7 +74,7 @@ pub fn table_place(w: usize) -> usize
 // The length of a pending event.
 pub fn event_length(w: usize) -> usize
     requires { Width w }
-    ensures { (result ≡ eventLength w) × (result ≤ 48) }
+    ensures { (result ≡ event_length w) × (result ≤ 48) }
 {
     8 * w + 16
 }
@@ -83,7 +83,7 @@ pub fn event_length(w: usize) -> usize
 pub fn pending_place(w: usize, i: usize) -> usize
     requires width { Width w }
     requires i_bound { i ≤ 32 }
-    ensures { (result ≡ pendingPlace w i) × (result ≤ 2024) }
+    ensures { (result ≡ pending_place w i) × (result ≤ 2024) }
 {
     if w == 2 { 344 + i * 32 } else { 488 + i * 48 }
 }
@@ -91,9 +91,9 @@ pub fn pending_place(w: usize, i: usize) -> usize
 // Pending event number i.
 pub fn pending_event(record: &[u8], w: usize, i: usize) -> Event
     requires width { Width w }
-    requires record_len { length «record».now ≡ recordLength w }
+    requires record_len { length «record».now ≡ record_length w }
     requires i_bound { i < 32 }
-    ensures { result ≡ pendingAt w «record».now i }
+    ensures { result ≡ pending_at w «record».now i }
 {
     let place = pending_place(w, i);
     let mask = record[place];

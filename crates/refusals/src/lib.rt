@@ -4,10 +4,10 @@
 ghost use Rattle.std.specs.Prelude.{◌+◌, ◌*◌, ◌<◌, ◌≡◌, ◌&&◌, eqb, leb, length};
 ghost use Rattle.clocks.specs.Counts.{at};
 ghost use Rattle.frontiers.specs.Width.{Width};
-ghost use Rattle.records.specs.Record.{recordLength};
-ghost use Rattle.refusals.specs.Refusals.{badRecordLength, badWindowLength, roomOf, badProcesses, badState, alreadyTaken, namesClosed};
-ghost use Rattle.refusals.specs.RefusalCode.{badNumbers};
-ghost use Rattle.refusals.specs.RefusalCode.{watchFault};
+ghost use Rattle.records.specs.Record.{record_length};
+ghost use Rattle.refusals.specs.Refusals.{bad_record_length, bad_window_length, room_of, bad_processes, bad_state, already_taken, names_closed};
+ghost use Rattle.refusals.specs.RefusalCode.{bad_numbers};
+ghost use Rattle.refusals.specs.RefusalCode.{watch_fault};
 ghost use Rattle.refusals.specs.Refusals as conditions;
 
 use clocks::Event;
@@ -20,7 +20,7 @@ use records::fields::{
 // 6: a record of a wrong length.
 pub fn bad_record_length(w: usize, n: usize) -> bool
     requires { Width w }
-    ensures { result ≡ badRecordLength w n }
+    ensures { result ≡ bad_record_length w n }
 {
     n != pending_place(w, PENDING)
 }
@@ -28,7 +28,7 @@ pub fn bad_record_length(w: usize, n: usize) -> bool
 // 6: a window that has not 1 to 1,024 whole frontiers.
 pub fn bad_window_length(w: usize, n: usize) -> bool
     requires { Width w }
-    ensures { result ≡ badWindowLength w n }
+    ensures { result ≡ bad_window_length w n }
 {
     let size = frontiers::place::frontier_length(w);
     if n < size {
@@ -43,14 +43,14 @@ pub fn bad_window_length(w: usize, n: usize) -> bool
 // How many frontiers a lent window has room for.
 pub fn room_of(w: usize, n: usize) -> usize
     requires { Width w }
-    ensures { result ≡ roomOf w n }
+    ensures { result ≡ room_of w n }
 {
     n / frontiers::place::frontier_length(w)
 }
 
 // 5: a number of processes that is not 1 to 8.
 pub fn bad_processes(k: u64) -> bool
-    ensures { result ≡ badProcesses k }
+    ensures { result ≡ bad_processes k }
 {
     if k == 0 {
         return true;
@@ -60,7 +60,7 @@ pub fn bad_processes(k: u64) -> bool
 
 // 34, of the record's numbers.
 fn bad_numbers(k: u32, pending: usize, lines: u32, kept: usize, room: usize) -> bool
-    ensures { result ≡ badNumbers k pending lines kept room }
+    ensures { result ≡ bad_numbers k pending lines kept room }
 {
     if bad_processes(k as u64) {
         return true;
@@ -86,8 +86,8 @@ fn bad_numbers(k: u32, pending: usize, lines: u32, kept: usize, room: usize) -> 
 // 34: the state of a watch that no calls left, where a window has so much room.
 pub fn bad_state(record: &[u8], w: usize, room: usize) -> bool
     requires width { Width w }
-    requires record_len { length «record».now ≡ recordLength w }
-    ensures { result ≡ badState w room «record».now }
+    requires record_len { length «record».now ≡ record_length w }
+    ensures { result ≡ bad_state w room «record».now }
 {
     let k = process_count(record);
     let lines = line_total(record);
@@ -107,7 +107,7 @@ pub fn bad_state(record: &[u8], w: usize, room: usize) -> bool
 // The number that record and window alone turn a call back with, for a window of n bytes; 0 for none.
 pub fn watch_fault(w: usize, record: &[u8], n: usize) -> u64
     requires { Width w }
-    ensures { result ≡ watchFault w «record».now n }
+    ensures { result ≡ watch_fault w «record».now n }
 {
     if bad_record_length(w, record.len()) {
         return LENGTH;
@@ -130,7 +130,7 @@ fn count_taken_at(involved: bool, n: u32, taken: u32) -> bool
 
 // 31: a process that takes part has this count taken already.
 pub fn already_taken(e: Event, taken: [u32; 8]) -> bool
-    ensures { result ≡ alreadyTaken e (at taken) }
+    ensures { result ≡ already_taken e (at taken) }
 {
     let mask = e.mask as u64;
     let mut p: u32 = 0;
@@ -146,7 +146,7 @@ pub fn already_taken(e: Event, taken: [u32; 8]) -> bool
 
 // 42, of an offer: the event names a closed process.
 pub fn names_closed(e: Event, closed: u32) -> bool
-    ensures { result ≡ namesClosed closed e }
+    ensures { result ≡ names_closed closed e }
 {
     codec::and_words(e.mask as u64, closed as u64) != 0
 }

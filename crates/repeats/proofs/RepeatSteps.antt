@@ -6,21 +6,21 @@ use lib.Dec.{eqb}
 use borrow.Author.Tests.{eq-eqb, ne_eqb}
 use Rattle.clocks.specs.declared.Event.{Event}
 use Rattle.clocks.specs.Bounded.{all_below}
-use Rattle.clocks.specs.SameEvent.{sameAt, sameEvent}
-use Rattle.clocks.specs.stored.BoundedTurns.{all-stop}
+use Rattle.clocks.specs.SameEvent.{same_at, same_event}
+use Rattle.clocks.specs.stored.BoundedTurns.{all_stop}
 
-pub differ-mask : (e f : Event) → (e.mask ≡ f.mask → ⊥) → sameEvent e f ≡ false
-unfolding sameEvent
-differ-mask e f n = rw (ne_eqb e.mask f.mask n)
+pub differ_mask : (e f : Event) → (e.mask ≡ f.mask → ⊥) → same_event e f ≡ false
+unfolding same_event
+differ_mask e f n = rw (ne_eqb e.mask f.mask n)
 
-pub differ-at : (e f : Event) (p : ℕ) → p < 8 → sameAt e f p ≡ false → sameEvent e f ≡ false
-unfolding sameEvent
-differ-at e f p l d = rw (all-stop 8 p (sameAt e f) l d) (and-false (eqb e.mask f.mask))
+pub differ_at : (e f : Event) (p : ℕ) → p < 8 → same_at e f p ≡ false → same_event e f ≡ false
+unfolding same_event
+differ_at e f p l d = rw (all_stop 8 p (same_at e f) l d) (and-false (eqb e.mask f.mask))
   where
     and-false : (b : Bool) → (b && false) ≡ false
     and-false true = refl
     and-false false = refl
 
-pub same-all : (e f : Event) → e.mask ≡ f.mask → all_below 8 (sameAt e f) ≡ true → sameEvent e f ≡ true
-unfolding sameEvent
+pub same-all : (e f : Event) → e.mask ≡ f.mask → all_below 8 (same_at e f) ≡ true → same_event e f ≡ true
+unfolding same_event
 same-all e f m a = rw (eq-eqb e.mask f.mask m) a

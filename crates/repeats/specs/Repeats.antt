@@ -2,8 +2,8 @@
 use Rattle.std.specs.Prelude.{Bool, List}
 use Rattle.clocks.specs.declared.Event.{Event}
 use Rattle.clocks.specs.Bounded.{any_of}
-use Rattle.clocks.specs.SameEvent.{sameEvent}
+use Rattle.clocks.specs.SameEvent.{same_event}
 
 -- The event is the same as one of these.
 unfoldable pub repeated : (e : Event) (fs : List Event) → Bool
-repeated e fs = any_of (sameEvent e) fs
+repeated e fs = any_of (same_event e) fs

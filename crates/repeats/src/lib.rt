@@ -3,9 +3,9 @@
 
 ghost use Rattle.std.specs.Prelude.{◌≤◌, ◌≡◌, length};
 ghost use Rattle.clocks.specs.Bounded.{any_of};
-ghost use Rattle.clocks.specs.SameEvent.{sameEvent};
+ghost use Rattle.clocks.specs.SameEvent.{same_event};
 ghost use Rattle.frontiers.specs.Width.{Width};
-ghost use Rattle.records.specs.Record.{recordLength, pendingCount, pendingEvents};
+ghost use Rattle.records.specs.Record.{record_length, pending_count, pending_events};
 ghost use Rattle.repeats.specs.RepeatsCode as code;
 
 use clocks::Event;
@@ -14,7 +14,7 @@ use refusals::conflicts;
 
 // Whether two events are the same, by mask, eight counts and eight labels.
 pub fn same_event(a: Event, b: Event) -> bool
-    ensures { result ≡ sameEvent a b }
+    ensures { result ≡ same_event a b }
 {
     if a.mask != b.mask {
         return false;
@@ -45,9 +45,9 @@ fn alike(e: Event, f: Event, whole: bool) -> bool
 // Whether a pending event is the same as this one, or else has the same count at a common process: "again", or 32.
 pub fn pending_alike(record: &[u8], w: usize, e: Event, whole: bool) -> bool
     requires width { Width w }
-    requires record_len { length «record».now ≡ recordLength w }
-    requires record_bound { pendingCount «record».now ≤ 32 }
-    ensures { result ≡ any_of (code.alike whole e) (pendingEvents w «record».now) }
+    requires record_len { length «record».now ≡ record_length w }
+    requires record_bound { pending_count «record».now ≤ 32 }
+    ensures { result ≡ any_of (code.alike whole e) (pending_events w «record».now) }
 {
     let n = pending_count(record);
     let mut i = 0;

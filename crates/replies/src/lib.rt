@@ -1,7 +1,7 @@
 // Replies: an answer's parts, out of its word, and what follows from them (01, Examples: the program; 02 [1]).
 
 ghost use Rattle.std.specs.Prelude.{◌≡◌, false};
-ghost use Rattle.replies.specs.Following.{takesAgain, nextStage};
+ghost use Rattle.replies.specs.Following.{takes_again, next_stage};
 ghost use Rattle.answers.specs.Kinds.{is_held};
 ghost use Rattle.replies.specs.Promises.{PartsPromised, FollowPromised};
 
@@ -36,14 +36,14 @@ pub fn takes(offered: bool, reply: Reply) -> bool
 
 // Whether a take is followed by another.
 pub fn takes_again(reply: Reply) -> bool
-    ensures { FollowPromised takesAgain false reply result }
+    ensures { FollowPromised takes_again false reply result }
 {
     (reply.number == 35) | ((reply.number == 0) & (reply.value != 0))
 }
 
 // The stage of the next line, after a line at this one that was refused or not.
 pub fn next_stage(stage: u64, refused: bool) -> u64
-    ensures { result ≡ nextStage stage refused }
+    ensures { result ≡ next_stage stage refused }
 {
     if stage >= 3 {
         return stage;

@@ -5,10 +5,10 @@ pub mod form;
 
 ghost use Rattle.std.specs.Prelude.{◌+◌, ◌≤◌, ◌≡◌, ◌++◌, length, take};
 ghost use Rattle.codec.specs.Ascii.{ascii};
-ghost use Rattle.records.specs.Record.{recordLength};
-ghost use Rattle.reply_text.specs.Form.{programWidth};
-ghost use Rattle.codec.specs.Decimal.{numeralOf, numeral};
-ghost use Rattle.reply_text.specs.Texts.{countsText};
+ghost use Rattle.records.specs.Record.{record_length};
+ghost use Rattle.reply_text.specs.Form.{program_width};
+ghost use Rattle.codec.specs.Decimal.{numeral_of, numeral};
+ghost use Rattle.reply_text.specs.Texts.{counts_text};
 ghost use Rattle.reply_text.specs.Promises.{TextPromised};
 
 use crate::form::WIDTH;
@@ -32,7 +32,7 @@ pub fn put(out: &mut [u8], at: usize, bytes: &[u8]) -> usize
 fn put_number(out: &mut [u8], at: usize, n: u64, most: usize) -> usize
     requires { at + most ≤ length out.old }
     ensures upper_bound { result ≤ at + most }
-    ensures out_after { take result out.new ≡ take at out.old ++ numeralOf most n }
+    ensures out_after { take result out.new ≡ take at out.old ++ numeral_of most n }
 {
     if most == 0 {
         return at;
@@ -61,7 +61,7 @@ fn put_counts(out: &mut [u8], counts: [u32; 8], k: usize) -> usize
     requires k_bound { k ≤ 8 }
     requires in_bounds { 256 ≤ length out.old }
     ensures upper_bound { result ≤ 180 }
-    ensures out_after { take result out.new ≡ ascii "(state (" ++ countsText counts k }
+    ensures out_after { take result out.new ≡ ascii "(state (" ++ counts_text counts k }
 {
     let mut at = piece(out, 0, b"(state (", counts[0] as u64);
     let mut p: usize = 1;
@@ -76,7 +76,7 @@ fn put_counts(out: &mut [u8], counts: [u32; 8], k: usize) -> usize
 // an offer's answer from those to other lines and of takes.
 pub fn answer_text(record: &[u8], k: u64, reply: Reply, offered: bool, out: &mut [u8]) -> usize
     requires k_bound { k ≤ 8 }
-    requires record_len { length «record».now ≡ recordLength programWidth }
+    requires record_len { length «record».now ≡ record_length program_width }
     requires in_bounds { 256 ≤ length out.old }
     ensures upper_bound { result ≤ length out.new }
     ensures text_promised { TextPromised k offered «record».now reply (take result out.new) }

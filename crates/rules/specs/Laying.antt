@@ -8,15 +8,15 @@ use Rattle.rules.specs.declared.Read.{Read}
 use Rattle.rules.specs.declared.Read.TheVariants.{Form, Refused}
 use Rattle.rules.specs.declared.DigitRead.{DigitRead}
 use Rattle.rules.specs.declared.DigitRead.TheVariants.{Digit, NoDigit}
-use Rattle.rules.specs.Line.{linesAt}
-use Rattle.pactl.specs.Table.{tableBytes}
+use Rattle.rules.specs.Line.{lines_at}
+use Rattle.pactl.specs.Table.{table_bytes}
 use Rattle.rules.specs.Text.{byte_at}
 use Rattle.rules.specs.Reader.{Reading, formed, faulty}
 use Rattle.rules.specs.ReaderCode.{read_of}
 
 -- A table's bytes with lines laid down from line n on.
 unfoldable pub lay : List ℕ → ℕ → List Line → List ℕ
-lay bytes n ls = sets bytes (3 * n) (tableBytes ls)
+lay bytes n ls = sets bytes (3 * n) (table_bytes ls)
 
 -- What is answered where lines are laid down from line n on: the number of lines that are laid down then. It is at most
 -- so many more.
@@ -26,29 +26,29 @@ pub record Laid (n most : ℕ) (ls : List Line) (old new : List ℕ) (r : ℕ) :
   pub table : new ≡ lay old n ls
 
 -- A word with one form has the lines of true before that form's.
-unfoldable pub hasTrue : Unary → Bool
-hasTrue Not = false
-hasTrue Ey = false
-hasTrue Ep = true
-hasTrue Ap = true
-hasTrue Ay = false
-hasTrue Eh = true
-hasTrue Ah = true
+unfoldable pub has_true : Unary → Bool
+has_true Not = false
+has_true Ey = false
+has_true Ep = true
+has_true Ap = true
+has_true Ay = false
+has_true Eh = true
+has_true Ah = true
 
 -- The digit at a place, below a bound: 1 if it is no digit, 4 if it is not below.
-unfoldable pub digitAt : List ℕ → ℕ → ℕ → DigitRead
-digitAt s i bound =
+unfoldable pub digit_at : List ℕ → ℕ → ℕ → DigitRead
+digit_at s i bound =
     cond (leb 48 (byte_at s i) && leb (byte_at s i) 57)
     (cond (ltb (byte_at s i - 48) bound) (Digit (byte_at s i - 48)) (NoDigit 4))
     (NoDigit 1)
 
 -- The closing bracket of a form, which `laid` and `closed` count with its lines.
-unfoldable pub closeRead : List ℕ → ℕ → ℕ → ℕ → Read
-closeRead s i laid closed = cond (eqb (byte_at s i) 41) (cond (leb closed 64) (Form (i + 1) laid closed) (Refused 3 i)) (Refused 1 i)
+unfoldable pub close_read : List ℕ → ℕ → ℕ → ℕ → Read
+close_read s i laid closed = cond (eqb (byte_at s i) 41) (cond (leb closed 64) (Form (i + 1) laid closed) (Refused 3 i)) (Refused 1 i)
 
 -- The table after a reading: a form's lines are laid down from line n on. After a fault it may hold anything.
 unfoldable pub LaidDown : ℕ → List ℕ → List ℕ → Reading → Type 0
-LaidDown n old new (formed i f) = new ≡ lay old n (linesAt n f)
+LaidDown n old new (formed i f) = new ≡ lay old n (lines_at n f)
 LaidDown n old new (faulty m i) = Unit {0}
 
 -- The code's answer r, and the table that it leaves, are what a reading says.

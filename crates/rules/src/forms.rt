@@ -2,8 +2,8 @@
 
 ghost use Rattle.std.specs.Prelude.{◌+◌, ◌-◌, ◌≤◌, ◌<◌, ◌≡◌, length};
 ghost use Rattle.rules.specs.Formula.{constant};
-ghost use Rattle.rules.specs.Reader.{atomAt, closeAt, innerWith, unaryWith, binaryWith, formAt};
-ghost use Rattle.rules.specs.Laying.{digitAt, closeRead, Done, Room};
+ghost use Rattle.rules.specs.Reader.{atom_at, close_at, inner_with, unary_with, binary_with, form_at};
+ghost use Rattle.rules.specs.Laying.{digit_at, close_read, Done, Room};
 
 use crate::laying::{lay_after, lay_after_both, lay_before, lay_between, lay_constant, put_line};
 use crate::words::{byte_at, read_word};
@@ -11,7 +11,7 @@ use crate::{Binary, Constant, DigitRead, Read, Unary, WordRead};
 
 // The digit at a place, below a bound.
 fn read_digit(text: &[u8], i: usize, bound: u32) -> DigitRead
-    ensures { result ≡ digitAt text.now i bound }
+    ensures { result ≡ digit_at text.now i bound }
 {
     let c = byte_at(text, i);
     if c < 48 {
@@ -34,7 +34,7 @@ fn read_digit(text: &[u8], i: usize, bound: u32) -> DigitRead
 // the forms closed before it.
 fn close(text: &[u8], place: usize, laid: usize, end: usize, closed: usize) -> Read
     requires { (place ≤ 1024) × (laid ≤ end) × (end ≤ 200) × (closed ≤ 64) }
-    ensures { result ≡ closeRead text.now place end (closed + (end - laid)) }
+    ensures { result ≡ close_read text.now place end (closed + (end - laid)) }
 {
     if byte_at(text, place) != b')' as u32 {
         return Read::Refused { number: 1, place };
@@ -61,7 +61,7 @@ fn read_atom(
     table: &mut [u8],
 ) -> Read
     requires { (length table.old ≡ 600) × (place ≤ 900) × (laid < 200) × (closed ≤ 64) }
-    ensures { Done laid closed table.old table.new (atomAt text.now k closed place) result }
+    ensures { Done laid closed table.old table.new (atom_at text.now k closed place) result }
 {
     if byte_at(text, place) != b' ' as u32 {
         return Read::Refused { number: 1, place };
@@ -104,7 +104,7 @@ fn read_constant(
     table: &mut [u8],
 ) -> Read
     requires { (length table.old ≡ 600) × (place ≤ 900) × (laid + 5 ≤ 200) × (closed ≤ 64) }
-    ensures { Done laid closed table.old table.new (closeAt text.now closed place (constant word)) result }
+    ensures { Done laid closed table.old table.new (close_at text.now closed place (constant word)) result }
 {
     let end = lay_constant(table, word, laid);
     close(text, place, laid, end, closed)
@@ -122,7 +122,7 @@ fn read_inner(
     table: &mut [u8],
 ) -> Read
     requires { Room allowance laid closed (place + 1) table.old }
-    ensures { Done laid closed table.old table.new (innerWith (formAt allowance text.now k) text.now closed place) result }
+    ensures { Done laid closed table.old table.new (inner_with (form_at allowance text.now k) text.now closed place) result }
 {
     if byte_at(text, place) != b' ' as u32 {
         return Read::Refused { number: 1, place };
@@ -143,7 +143,7 @@ fn read_unary(
     table: &mut [u8],
 ) -> Read
     requires { Room allowance (laid + 4) closed (place + 1) table.old }
-    ensures { Done laid closed table.old table.new (unaryWith (formAt allowance text.now k) text.now word closed place) result }
+    ensures { Done laid closed table.old table.new (unary_with (form_at allowance text.now k) text.now word closed place) result }
 {
     let start = lay_before(table, word, laid);
     let inner = read_inner(text, k, allowance, place, start, closed, table);
@@ -173,7 +173,7 @@ fn read_binary(
     table: &mut [u8],
 ) -> Read
     requires { Room allowance (laid + 4) closed (place + 1) table.old }
-    ensures { Done laid closed table.old table.new (binaryWith (formAt allowance text.now k) text.now word closed place) result }
+    ensures { Done laid closed table.old table.new (binary_with (form_at allowance text.now k) text.now word closed place) result }
 {
     let first = read_inner(text, k, allowance, place, laid, closed, table);
     match first {
@@ -214,7 +214,7 @@ pub fn read_form(
     table: &mut [u8],
 ) -> Read
     requires { Room allowance laid closed place table.old }
-    ensures { Done laid closed table.old table.new (formAt allowance text.now k closed place) result }
+    ensures { Done laid closed table.old table.new (form_at allowance text.now k closed place) result }
 {
     if byte_at(text, place) != b'(' as u32 {
         return Read::Refused { number: 1, place };

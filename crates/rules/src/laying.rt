@@ -1,9 +1,9 @@
 // Laying lines down in a table.
 
 ghost use Rattle.std.specs.Prelude.{◌+◌, ◌≤◌, ◌<◌, ◌≡◌, [], ◌∷◌, length};
-ghost use Rattle.rules.specs.Line.{trueLines, constantLines, linesBefore, linesAfter, lines_between, linesAfterBoth};
-ghost use Rattle.rules.specs.Laying.{Laid, hasTrue};
-ghost use Rattle.pactl.specs.Line.{line, notLine};
+ghost use Rattle.rules.specs.Line.{true_lines, constant_lines, lines_before, lines_after, lines_between, lines_after_both};
+ghost use Rattle.rules.specs.Laying.{Laid, has_true};
+ghost use Rattle.pactl.specs.Line.{line, not_line};
 
 use crate::{Binary, Constant, Unary};
 
@@ -22,7 +22,7 @@ pub fn put_line(table: &mut [u8], n: usize, kind: u8, a: usize, b: usize) -> usi
 // The lines of true, from line n on.
 fn lay_true(table: &mut [u8], n: usize) -> usize
     requires { (length table.old ≡ 600) × (n + 4 ≤ 200) }
-    ensures { Laid n 4 (trueLines n) table.old table.new result }
+    ensures { Laid n 4 (true_lines n) table.old table.new result }
 {
     let second = put_line(table, n, 0, 0, 0);
     let third = put_line(table, second, 1, n, 0);
@@ -33,7 +33,7 @@ fn lay_true(table: &mut [u8], n: usize) -> usize
 // The lines of a word alone, from line n on.
 pub fn lay_constant(table: &mut [u8], word: Constant, n: usize) -> usize
     requires { (length table.old ≡ 600) × (n + 5 ≤ 200) }
-    ensures { Laid n 5 (constantLines word n) table.old table.new result }
+    ensures { Laid n 5 (constant_lines word n) table.old table.new result }
 {
     let end = lay_true(table, n);
     match word {
@@ -44,7 +44,7 @@ pub fn lay_constant(table: &mut [u8], word: Constant, n: usize) -> usize
 
 // Whether a word with one form has the lines of true before that form's.
 fn has_true(word: Unary) -> bool
-    ensures { result ≡ hasTrue word }
+    ensures { result ≡ has_true word }
 {
     match word {
         Unary::Not => false,
@@ -60,7 +60,7 @@ fn has_true(word: Unary) -> bool
 // The lines before the form inside a word with one form.
 pub fn lay_before(table: &mut [u8], word: Unary, n: usize) -> usize
     requires { (length table.old ≡ 600) × (n + 4 ≤ 200) }
-    ensures { Laid n 4 (linesBefore word n) table.old table.new result }
+    ensures { Laid n 4 (lines_before word n) table.old table.new result }
 {
     if has_true(word) {
         lay_true(table, n)
@@ -72,7 +72,7 @@ pub fn lay_before(table: &mut [u8], word: Unary, n: usize) -> usize
 // Not line `last`, a line, and not that one, behind `last`.
 fn lay_negated(table: &mut [u8], last: usize, kind: u8, a: usize, b: usize) -> usize
     requires { (length table.old ≡ 600) × (last + 4 ≤ 200) × (a < 200) × (b < 200) }
-    ensures { Laid (last + 1) 3 (notLine last ∷ line kind a b ∷ notLine (last + 2) ∷ []) table.old table.new result }
+    ensures { Laid (last + 1) 3 (not_line last ∷ line kind a b ∷ not_line (last + 2) ∷ []) table.old table.new result }
 {
     let second = put_line(table, last + 1, 1, last, 0);
     let third = put_line(table, second, kind, a, b);
@@ -82,7 +82,7 @@ fn lay_negated(table: &mut [u8], last: usize, kind: u8, a: usize, b: usize) -> u
 // The lines after that form's. Its last line is `last`, and that of true is `truth`.
 pub fn lay_after(table: &mut [u8], word: Unary, truth: usize, last: usize) -> usize
     requires { (length table.old ≡ 600) × (truth < 200) × (last + 4 ≤ 200) }
-    ensures { Laid (last + 1) 3 (linesAfter word truth last) table.old table.new result }
+    ensures { Laid (last + 1) 3 (lines_after word truth last) table.old table.new result }
 {
     let n = last + 1;
     match word {
@@ -113,7 +113,7 @@ pub fn lay_between(table: &mut [u8], word: Binary, last: usize) -> usize
 // The lines after both. Their last lines are `first` and `last`.
 pub fn lay_after_both(table: &mut [u8], word: Binary, first: usize, last: usize) -> usize
     requires { (length table.old ≡ 600) × (first < last) × (last + 4 ≤ 200) }
-    ensures { Laid (last + 1) 3 (linesAfterBoth word first last) table.old table.new result }
+    ensures { Laid (last + 1) 3 (lines_after_both word first last) table.old table.new result }
 {
     let n = last + 1;
     match word {

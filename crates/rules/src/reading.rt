@@ -1,7 +1,7 @@
 // Reading a rule's text to its table.
 
 ghost use Rattle.std.specs.Prelude.{◌≡◌, length, take};
-ghost use Rattle.rules.specs.RuleTable.{ruleAnswer, ruleTable};
+ghost use Rattle.rules.specs.RuleTable.{rule_answer, rule_table};
 
 use crate::forms::read_form;
 use crate::{Read, RuleRead};
@@ -21,8 +21,8 @@ fn copy_table(from: &[u8], table: &mut [u8])
 // Reads a rule's text for k processes: its table is left in `table`, which has 192 bytes. On a refusal nothing is
 // written.
 pub fn read_rule(text: &[u8], k: u32, table: &mut [u8]) -> RuleRead
-    ensures value { result ≡ ruleAnswer text.now k table.old }
-    ensures table_after { table.new ≡ ruleTable text.now k table.old }
+    ensures value { result ≡ rule_answer text.now k table.old }
+    ensures table_after { table.new ≡ rule_table text.now k table.old }
 {
     if table.len() != 192 {
         return RuleRead::Refused {

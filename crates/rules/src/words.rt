@@ -2,7 +2,7 @@
 
 ghost use Rattle.std.specs.Prelude.{◌+◌, ◌≤◌, ◌≡◌, length};
 ghost use Rattle.rules.specs.Text.{byte_at};
-ghost use Rattle.rules.specs.Reader.{rest_at, aWordAt, eWordAt, word_at};
+ghost use Rattle.rules.specs.Reader.{rest_at, a_word_at, e_word_at, word_at};
 
 use crate::{Binary, Constant, Unary, WordRead};
 use pactl::table::wide;
@@ -54,7 +54,7 @@ fn rest(text: &[u8], i: usize, letters: &[u8], word: WordRead) -> WordRead
 // The words that begin with a, from their second letter on: at, as, ap, ay, ah, and.
 fn a_word(text: &[u8], i: usize) -> WordRead
     requires { i ≤ 1000 }
-    ensures { result ≡ aWordAt text.now i }
+    ensures { result ≡ a_word_at text.now i }
 {
     let c = byte_at(text, i);
     let next = i + 1;
@@ -72,7 +72,7 @@ fn a_word(text: &[u8], i: usize) -> WordRead
 // The words that begin with e, from their second letter on: ey, es, ep, eh.
 fn e_word(text: &[u8], i: usize) -> WordRead
     requires { i ≤ 1000 }
-    ensures { result ≡ eWordAt text.now i }
+    ensures { result ≡ e_word_at text.now i }
 {
     let c = byte_at(text, i);
     let next = i + 1;

@@ -9,7 +9,7 @@ pub record Alone (e : Event) : Type 0 where
   pub process : ℕ
   pub takes_part : involved e process ≡ true
   pub no_other : (q : ℕ) → q ≢ process → involved e q ≡ false
-  pub knows-none : (q : ℕ) → q ≢ process → count e q ≡ 0
+  pub knows_none : (q : ℕ) → q ≢ process → count e q ≡ 0
 
 -- Each of the events is one.
 abbrev pub AllAlone : (es : List Event) → Type 0

@@ -7,43 +7,43 @@ use mathlib.Core.List.Memᴰ
 use Rattle.std.proofs.Math.Option.{some}
 use Rattle.clocks.specs.declared.Event.{Event}
 use Rattle.clocks.specs.Event.{Cut, one, involved, count}
-use Rattle.clocks.specs.History.{taken, event, clockOf, Consistent}
+use Rattle.clocks.specs.History.{taken, event, clock_of, Consistent}
 use Rattle.clocks.specs.Causal.{Causal}
 use Rattle.clocks.specs.Valid.{History}
 use Rattle.clocks.specs.Counts.{list_of}
-use Rattle.clocks.specs.stored.CountsLaws.{listOf-same}
-use Rattle.clocks.specs.cuts.HistoryLaws.{event-numbered}
-use Rattle.clocks.specs.cuts.CausalLaws.{clock-cases, count-number}
+use Rattle.clocks.specs.stored.CountsLaws.{list_of-same_lem}
+use Rattle.clocks.specs.cuts.HistoryLaws.{event_numbered}
+use Rattle.clocks.specs.cuts.CausalLaws.{clock_cases, count-number}
 use Rattle.call_busiest.specs.Sharing.{total}
 use Rattle.sharing_laws.specs.Alone.{Alone, AllAlone}
 
 -- A process that takes part is the one.
-pub only-process : (e : Event) (a : Alone e) (p : ℕ) → involved e p ≡ true → p ≡ a.process
-only-process e a p b = go (ℕ_discrete p a.process)
+pub only_process : (e : Event) (a : Alone e) (p : ℕ) → involved e p ≡ true → p ≡ a.process
+only_process e a p b = go (ℕ_discrete p a.process)
   where
     go : Dec (p ≡ a.process) → p ≡ a.process
     go (yes q) = q
     go (no q) = absurd (true≢false (sym b ∙ a.no_other p q))
 
-pub alone-consistent : (ts : List Event) → Causal ts → AllAlone ts → (S : Cut) → ((p : ℕ) → S p ≤ taken ts p)
+pub alone_consistent : (ts : List Event) → Causal ts → AllAlone ts → (S : Cut) → ((p : ℕ) → S p ≤ taken ts p)
     → Consistent ts S
-alone-consistent ts c alone S within = record { within = within; closed = closed }
+alone_consistent ts c alone S within = record { within = within; closed = closed }
   where
     knows : (p q : ℕ) (f : Event) → event ts p (S p) ≡ some f → count f q ≤ S q
     knows p q f e = go (ℕ_discrete q p)
       where
         a : Alone f
-        a = alone f (event-numbered ts p (S p) f e).among
+        a = alone f (event_numbered ts p (S p) f e).among
 
         its : p ≡ a.process
-        its = only-process f a p (event-numbered ts p (S p) f e).takes
+        its = only_process f a p (event_numbered ts p (S p) f e).takes
 
         go : Dec (q ≡ p) → count f q ≤ S q
         go (yes h) = rw h (omega (arith, count-number ts c p (S p) f e))
-        go (no h) = omega (arith, a.knows-none q (λ x. h (x ∙ sym its)))
+        go (no h) = omega (arith, a.knows_none q (λ x. h (x ∙ sym its)))
 
-    closed : (p q : ℕ) → clockOf ts p (S p) q ≤ S q
-    closed p q = clock-cases (λ n. n ≤ S q) ts p (S p) q (omega arith) (knows p q)
+    closed : (p q : ℕ) → clock_of ts p (S p) q ≤ S q
+    closed p q = clock_cases (λ n. n ≤ S q) ts p (S p) q (omega arith) (knows p q)
 
 -- ---- All events are shared
 
@@ -64,23 +64,23 @@ unfolding total list_of
 total-one zero b o l t f = absurd (omega arith)
 total-one (suc k) b zero l t f =
     let rest : list_of k (λ p. one (b (suc p))) ≡ list_of k (λ p. 0) =
-    listOf-same k _ _ (λ p m. rw (f (suc p) (λ e. omega arith))) in
+    list_of-same_lem k _ _ (λ p m. rw (f (suc p) (λ e. omega arith))) in
     rw (t, rest, total-zeros k)
 total-one (suc k) b (suc o) l t f =
     let none : b 0 ≡ false = f 0 (λ e. omega arith) in
     rw (none, total-one k (λ p. b (suc p)) o (le_of_suc-le-suc l) t (λ q h. f (suc q) (λ e. h (omega arith))))
 
-pub alone-total : (k : ℕ) (valid : List Event → Event → Type 0) (ts : List Event) → History k valid ts → AllAlone ts
+pub alone_total : (k : ℕ) (valid : List Event → Event → Type 0) (ts : List Event) → History k valid ts → AllAlone ts
     → total (list_of k (taken ts)) ≡ length ts
 unfolding taken
-alone-total k valid [] h a = total-zeros k
-alone-total k valid (e ∷ ts) h a =
+alone_total k valid [] h a = total-zeros k
+alone_total k valid (e ∷ ts) h a =
     let its = a e (Memᴰ.head refl) in
     total-add k (λ p. one (involved e p)) (taken ts)
     ∙ omega (
       arith,
       total-one k (involved e) its.process (inside its (dec_lt its.process k)) its.takes_part its.no_other,
-      alone-total k valid ts h.1 (λ f m. a f (Memᴰ.tail m)),
+      alone_total k valid ts h.1 (λ f m. a f (Memᴰ.tail m)),
     )
   where
     inside : (its : Alone e) → Dec (its.process < k) → its.process < k

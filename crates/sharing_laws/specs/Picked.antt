@@ -3,8 +3,8 @@
 use Rattle.std.specs.Prelude.{ℕ, suc, ◌+◌, ◌-◌, ◌*◌, ◌≤◌, ◌<◌, ◌≡◌, refl, List, [], ◌∷◌, ◌⊎◌, length}
 use Rattle.std.proofs.Common.{mul-add, suc-mul, mul_left_comm, mul-zero, mul-suc, arith, sym, ap, ◌∙◌, inl, inr}
 use Rattle.std.proofs.Math.Decide.{dec_lt}
-use Rattle.call_busiest.specs.Sharing.{total, product, sharingKeeps}
-use Rattle.call_busiest.specs.SharingLaws.{kept-first}
+use Rattle.call_busiest.specs.Sharing.{total, product, sharing_keeps}
+use Rattle.call_busiest.specs.SharingLaws.{kept_first}
 
 -- The list is x and the others, x at some place.
 pub data Picked (x : ℕ) : List ℕ → List ℕ → Type 0 where
@@ -13,33 +13,33 @@ pub data Picked (x : ℕ) : List ℕ → List ℕ → Type 0 where
 
 -- ---- What does not depend on the place
 
-pub picked-length : (x : ℕ) (xs zs : List ℕ) → Picked x xs zs → length xs ≡ suc (length zs)
-picked-length x _ _ (here xs) = refl
-picked-length x _ _ (there y xs zs p) = ap suc (picked-length x xs zs p)
+pub picked_length : (x : ℕ) (xs zs : List ℕ) → Picked x xs zs → length xs ≡ suc (length zs)
+picked_length x _ _ (here xs) = refl
+picked_length x _ _ (there y xs zs p) = ap suc (picked_length x xs zs p)
 
-pub picked-total : (x : ℕ) (xs zs : List ℕ) → Picked x xs zs → total xs ≡ x + total zs
+pub picked_total : (x : ℕ) (xs zs : List ℕ) → Picked x xs zs → total xs ≡ x + total zs
 unfolding total
-picked-total x _ _ (here xs) = refl
-picked-total x _ _ (there y xs zs p) = omega (arith, picked-total x xs zs p)
+picked_total x _ _ (here xs) = refl
+picked_total x _ _ (there y xs zs p) = omega (arith, picked_total x xs zs p)
 
-pub picked-product : (x : ℕ) (xs zs : List ℕ) → Picked x xs zs → product xs ≡ x * product zs
+pub picked_product : (x : ℕ) (xs zs : List ℕ) → Picked x xs zs → product xs ≡ x * product zs
 unfolding product
-picked-product x _ _ (here xs) = refl
-picked-product x _ _ (there y xs zs p) = rw (picked-product x xs zs p) (mul_left_comm y x (product zs))
+picked_product x _ _ (here xs) = refl
+picked_product x _ _ (there y xs zs p) = rw (picked_product x xs zs p) (mul_left_comm y x (product zs))
 
-pub picked-kept : (x : ℕ) (xs zs : List ℕ) → Picked x xs zs → sharingKeeps xs ≡ suc x * sharingKeeps zs + product zs
+pub picked_kept : (x : ℕ) (xs zs : List ℕ) → Picked x xs zs → sharing_keeps xs ≡ suc x * sharing_keeps zs + product zs
 unfolding product
-picked-kept x _ _ (here xs) = kept-first x xs
-picked-kept x _ _ (there y xs zs p) =
-    let K = sharingKeeps zs in
+picked_kept x _ _ (here xs) = kept_first x xs
+picked_kept x _ _ (there y xs zs p) =
+    let K = sharing_keeps zs in
     let P = product zs in
     omega (
       arith,
-      kept-first y xs,
-      kept-first y zs,
-      ap (λ (a : ℕ). suc y * a) (picked-kept x xs zs p),
-      picked-product x xs zs p,
-      ap (λ (a : ℕ). suc x * a) (kept-first y zs),
+      kept_first y xs,
+      kept_first y zs,
+      ap (λ (a : ℕ). suc y * a) (picked_kept x xs zs p),
+      picked_product x xs zs p,
+      ap (λ (a : ℕ). suc x * a) (kept_first y zs),
       mul-add (suc y) (suc x * K) P,
       mul-add (suc x) (suc y * K) P,
       mul_left_comm (suc y) (suc x) K,
@@ -51,11 +51,11 @@ picked-kept x _ _ (there y xs zs p) =
 abbrev pub far : ℕ → ℕ → ℕ
 far q x = (q - x) + (x - suc q)
 
-abbrev pub farAll : ℕ → List ℕ → ℕ
-farAll q [] = 0
-farAll q (x ∷ xs) = far q x + farAll q xs
+abbrev pub far_all : ℕ → List ℕ → ℕ
+far_all q [] = 0
+far_all q (x ∷ xs) = far q x + far_all q xs
 
-pub picked_far : (q x : ℕ) (xs zs : List ℕ) → Picked x xs zs → farAll q xs ≡ far q x + farAll q zs
+pub picked_far : (q x : ℕ) (xs zs : List ℕ) → Picked x xs zs → far_all q xs ≡ far q x + far_all q zs
 picked_far q x _ _ (here xs) = refl
 picked_far q x _ _ (there y xs zs p) = omega (arith, picked_far q x xs zs p)
 
@@ -92,30 +92,30 @@ above b x = go (dec_lt b x)
     go (yes l) = inl l
     go (no l) = inr (omega arith)
 
-pub some-above : (b : ℕ) (xs : List ℕ) → ((x : ℕ) × (zs : List ℕ) × Picked x xs zs × (b < x)) ⊎ All (AtMost b) xs
-some-above b xs = some-or-all (λ x. b < x) (AtMost b) (above b) xs
+pub some_above : (b : ℕ) (xs : List ℕ) → ((x : ℕ) × (zs : List ℕ) × Picked x xs zs × (b < x)) ⊎ All (AtMost b) xs
+some_above b xs = some-or-all (λ x. b < x) (AtMost b) (above b) xs
 
 pub some_below : (b : ℕ) (xs : List ℕ) → ((x : ℕ) × (zs : List ℕ) × Picked x xs zs × (x < b)) ⊎ All (AtLeast b) xs
 some_below b xs = some-or-all (λ x. x < b) (AtLeast b) (λ x. above x b) xs
 
-pub most-total : (b : ℕ) (xs : List ℕ) → All (AtMost b) xs → total xs ≤ b * length xs
+pub most_total : (b : ℕ) (xs : List ℕ) → All (AtMost b) xs → total xs ≤ b * length xs
 unfolding total
-most-total b [] h = omega arith
-most-total b (x ∷ xs) h = omega (arith, h.0, most-total b xs h.1, mul-suc b (length xs))
+most_total b [] h = omega arith
+most_total b (x ∷ xs) h = omega (arith, h.0, most_total b xs h.1, mul-suc b (length xs))
 
-pub least-total : (b : ℕ) (xs : List ℕ) → All (AtLeast b) xs → b * length xs ≤ total xs
+pub least_total : (b : ℕ) (xs : List ℕ) → All (AtLeast b) xs → b * length xs ≤ total xs
 unfolding total
-least-total b [] h = omega (arith, mul-zero b)
-least-total b (x ∷ xs) h = omega (arith, h.0, least-total b xs h.1, mul-suc b (length xs))
+least_total b [] h = omega (arith, mul-zero b)
+least_total b (x ∷ xs) h = omega (arith, h.0, least_total b xs h.1, mul-suc b (length xs))
 
 -- ---- Two of them picked out
 
 -- The list is a, b and the others, as far as what is kept, the sum and the distance go.
 pub record Two (a b : ℕ) (xs zs : List ℕ) : Type 0 where
-  pub kept : sharingKeeps xs ≡ sharingKeeps (a ∷ b ∷ zs)
+  pub kept : sharing_keeps xs ≡ sharing_keeps (a ∷ b ∷ zs)
   pub long : length xs ≡ suc (suc (length zs))
   pub sum : total xs ≡ a + b + total zs
-  pub distance : (q : ℕ) → farAll q xs ≡ far q a + far q b + farAll q zs
+  pub distance : (q : ℕ) → far_all q xs ≡ far q a + far q b + far_all q zs
 
 pub two : (a b : ℕ) (xs ys zs : List ℕ) → Picked a xs ys → Picked b ys zs → Two a b xs zs
 unfolding product
@@ -123,19 +123,19 @@ two a b xs ys zs p r = record {
   kept =
       omega (
         arith,
-        picked-kept a xs ys p,
-        kept-first a (b ∷ zs),
-        ap (λ (n : ℕ). suc a * n) (picked-kept b ys zs r ∙ sym (kept-first b zs)),
-        picked-product b ys zs r,
+        picked_kept a xs ys p,
+        kept_first a (b ∷ zs),
+        ap (λ (n : ℕ). suc a * n) (picked_kept b ys zs r ∙ sym (kept_first b zs)),
+        picked_product b ys zs r,
       );
-  long = picked-length a xs ys p ∙ ap suc (picked-length b ys zs r);
-  sum = omega (arith, picked-total a xs ys p, picked-total b ys zs r);
+  long = picked_length a xs ys p ∙ ap suc (picked_length b ys zs r);
+  sum = omega (arith, picked_total a xs ys p, picked_total b ys zs r);
   distance = λ q. omega (arith, picked_far q a xs ys p, picked_far q b ys zs r);
 }
 
-pub two-swap : (a b : ℕ) (xs zs : List ℕ) → Two a b xs zs → Two b a xs zs
-two-swap a b xs zs t = record {
-  kept = t.kept ∙ picked-kept b (a ∷ b ∷ zs) (a ∷ zs) (there a (b ∷ zs) zs (here zs)) ∙ sym (kept-first b (a ∷ zs));
+pub two_swap : (a b : ℕ) (xs zs : List ℕ) → Two a b xs zs → Two b a xs zs
+two_swap a b xs zs t = record {
+  kept = t.kept ∙ picked_kept b (a ∷ b ∷ zs) (a ∷ zs) (there a (b ∷ zs) zs (here zs)) ∙ sym (kept_first b (a ∷ zs));
   long = t.long;
   sum = omega (arith, t.sum);
   distance = λ q. omega (arith, t.distance q);

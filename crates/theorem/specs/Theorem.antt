@@ -47,84 +47,84 @@ use Rattle.demands.specs.statements.Examples.{StarredExamples}
 pub record Theorem : Type 1 where
   -- Demand 1, on all bytes: each answer of open exactly if, and by its text's first fault; wrong lengths and wrong
   -- records, and that they change no byte; how the reply word tells the answers apart
-  pub open-exact : OpenIsExact
-  pub text-first-fault : ReaderFindsFirstFault
-  pub text-forms : ReaderAcceptsForms
-  pub text-faultless : ReaderAcceptsFaultless
-  pub text-place : FaultPlaceBelow1024
+  pub open_exact : OpenIsExact
+  pub text_first_fault : ReaderFindsFirstFault
+  pub text_forms : ReaderAcceptsForms
+  pub text_faultless : ReaderAcceptsFaultless
+  pub text_place : FaultPlaceBelow1024
   pub mislent : MislentIsExact
-  pub open-tells : OpenTells
-  pub offer-tells : OfferTells
-  pub take-tells : TakeTells
-  pub find-tells : FindTells
-  pub close-tells : CloseTells
+  pub open_tells : OpenTells
+  pub offer_tells : OfferTells
+  pub take_tells : TakeTells
+  pub find_tells : FindTells
+  pub close_tells : CloseTells
   -- Demand 2, after every list of calls: the window holds exactly the kept cuts with PaCTL's truth of every line; each
   -- answer of the next offer and take, exactly if; every verdict reported on the way is PaCTL's
-  pub window-exact : WindowIsExact
-  pub offer-exact : OfferIsExact
+  pub window_exact : WindowIsExact
+  pub offer_exact : OfferIsExact
   pub take_exact : TakeIsExact
-  pub verdicts-true : VerdictsAreTrue
+  pub verdicts_true : VerdictsAreTrue
   -- PaCTL's truth is the one of source 000: its clauses as printed, and over paths
-  pub clauses-as-printed : ClausesAsPrinted
-  pub over-paths : OperatorsOverPaths
+  pub clauses_as_printed : ClausesAsPrinted
+  pub over_paths : OperatorsOverPaths
   -- Demand 3, of two lists of calls; and the balance
-  pub order-independent : OrderIndependent
+  pub order_independent : OrderIndependent
   pub balance : AnswersBalance
   -- [1] Sent again
-  pub again-exact : AgainIsExact
-  pub agains-idle : AgainsMakeNoDifference
+  pub again_exact : AgainIsExact
+  pub agains_idle : AgainsMakeNoDifference
   -- [2] Messages
   pub messages : MessagesAreExact
-  pub earlier-lists : EarlierListsStand
+  pub earlier_lists : EarlierListsStand
   -- [3] The clauses of judging
-  pub clauses-right : ClausesRight
+  pub clauses_right : ClausesRight
   -- [4] The earliest frontier
   pub find_first : FindIsExact
   -- [5] Closed processes
-  pub close-exact : CloseIsExact
-  pub dropped-for-good : DroppedStaysDropped
+  pub close_exact : CloseIsExact
+  pub dropped_for_good : DroppedStaysDropped
   -- [6] Counts past 65,535: moves, on all bytes; every watch that calls and moves alone wrote, in either form, has all
   -- that demand 2 and the requests say of the watch at the end of a list; demand 3 with moves among the calls
-  pub move-exact : MoveExact
+  pub move_exact : MoveExact
   pub widening : WidenNever43
   pub there_and_back : ThereAndBack
-  pub every-watch : EveryWatchIsExact
-  pub after-a-move : ExactAfterAMove
-  pub order-with-moves : OrderIndependentWithMoves
-  pub both-forms : BothFormsAlike
+  pub every_watch : EveryWatchIsExact
+  pub after_a_move : ExactAfterAMove
+  pub order_with_moves : OrderIndependentWithMoves
+  pub both_forms : BothFormsAlike
   pub goes_on : MovedGoesOn
   -- [7] A page
-  pub page-exact : PageIsExact
-  pub page-refused : RefusedWritesNothing
-  pub page-tells : PageTells
-  pub page-shows : PageShowsKept
-  pub pages-alike : PagesAlike
+  pub page_exact : PageIsExact
+  pub page_refused : RefusedWritesNothing
+  pub page_tells : PageTells
+  pub page_shows : PageShowsKept
+  pub pages_alike : PagesAlike
   -- [8] The busiest day
-  pub busiest-exact : BusiestIsExact
-  pub kept-is-products : KeptIsProducts
-  pub even-is-best : EvenIsBest
-  pub day-listed : DayIsListed
-  pub busiest-kept : BusiestIsKept
-  pub day-fits : DayFitsItsWindow
-  pub day-taken : DayIsTaken
-  pub day-no-36 : DayMeetsNo36
+  pub busiest_exact : BusiestIsExact
+  pub kept_is_products : KeptIsProducts
+  pub even_is_best : EvenIsBest
+  pub day_listed : DayIsListed
+  pub busiest_kept : BusiestIsKept
+  pub day_fits : DayFitsItsWindow
+  pub day_taken : DayIsTaken
+  pub day_no_36 : DayMeetsNo36
   -- [10] Shares: setting them, and open, take and close of a watch that shares, on all bytes; when a take's cap makes
   -- no difference; and of every run of calls on such watches: they never keep over 1,024 together, each is as exact as
   -- any watch, demand 3 of any two, and the others make no difference
-  pub shares-exact : SharesAreExact
-  pub shared-open : SharedOpenIsExact
-  pub shared-take : SharedTakeIsExact
-  pub shared-close : SharedCloseIsExact
-  pub allowed-exactly : AllowedIsExact
-  pub caps-idle : CapsMakeNoDifference
-  pub caps-alike : CapsAreAlike
-  pub never-over : NeverOver
-  pub members-exact : EveryMemberIsExact
-  pub members-order : MembersOrderIndependent
-  pub member-and-plain : MemberAndPlainAlike
-  pub others-idle : OthersMakeNoDifference
+  pub shares_exact : SharesAreExact
+  pub shared_open : SharedOpenIsExact
+  pub shared_take : SharedTakeIsExact
+  pub shared_close : SharedCloseIsExact
+  pub allowed_exactly : AllowedIsExact
+  pub caps_idle : CapsMakeNoDifference
+  pub caps_alike : CapsAreAlike
+  pub never_over : NeverOver
+  pub members_exact : EveryMemberIsExact
+  pub members_order : MembersOrderIndependent
+  pub member_and_plain : MemberAndPlainAlike
+  pub others_idle : OthersMakeNoDifference
   -- [14] The hold empties: of every watch, and of every watch that shares
   pub empties : PendingComesToAnEnd
-  pub members-empty : EveryMemberEmpties
+  pub members_empty : EveryMemberEmpties
   -- The starred examples of 01
   pub examples : StarredExamples

@@ -4,41 +4,41 @@ use Rattle.std.proofs.Common.{arith, sym, ap, length-drop, take_all}
 use Rattle.clocks.specs.declared.Event.{Event}
 use Rattle.clocks.specs.Event.{Cut, apply, involved}
 use Rattle.clocks.specs.Counts.{at, list_of}
-use Rattle.clocks.specs.stored.CountsLaws.{length-listOf, at-listOf-all, at-beyond}
+use Rattle.clocks.specs.stored.CountsLaws.{length-list_of, at-list_of-all, at_beyond}
 use Rattle.pactl.specs.TableBytes.{lines_of}
-use Rattle.window.specs.StepCode.{settingWith}
-use Rattle.codec.specs.BitLaws.{bit-above}
+use Rattle.window.specs.StepCode.{setting_with}
+use Rattle.codec.specs.BitLaws.{bit_above}
 use Rattle.codec.specs.Little.{number}
-use Rattle.records.specs.Record.{tablePlace, processCount, closedMask, lineTotal, takenCounts, tableLines, takenPlace}
-use Rattle.trial.specs.Trial.{settingIn}
+use Rattle.records.specs.Record.{table_place, process_count, closed_mask, line_total, taken_counts, table_lines, taken_place}
+use Rattle.trial.specs.Trial.{setting_in}
 
-pub setting-with : (w : ℕ) (s : List ℕ) (e : Event) → e.mask < 256
-    → settingIn w s e
-    ≡ settingWith (processCount s) (closedMask s) (drop (tablePlace w) s) (lineTotal s) e
-    (list_of 8 (apply e (at (takenCounts w s))))
-unfolding settingIn tableLines apply involved takenCounts
-setting-with w s e m =
+pub setting_with_lem : (w : ℕ) (s : List ℕ) (e : Event) → e.mask < 256
+    → setting_in w s e
+    ≡ setting_with (process_count s) (closed_mask s) (drop (table_place w) s) (line_total s) e
+    (list_of 8 (apply e (at (taken_counts w s))))
+unfolding setting_in table_lines apply involved taken_counts
+setting_with_lem w s e m =
     ap (λ (c : Cut). record {
       stored = 8;
-      processes = processCount s;
-      closed = closedMask s;
-      table = lines_of (drop (tablePlace w) s) (lineTotal s);
+      processes = process_count s;
+      closed = closed_mask s;
+      table = lines_of (drop (table_place w) s) (line_total s);
       event = e;
       reached = c;
     })
-    (sym (at-listOf-all 8 (apply e (at (takenCounts w s))) (λ p l. silent p l)))
+    (sym (at-list_of-all 8 (apply e (at (taken_counts w s))) (λ p l. silent p l)))
   where
-    length_taken : length (takenCounts w s) ≡ 8
-    length_taken = length-listOf 8 (λ p. number s (takenPlace + p * w) w)
+    length_taken : length (taken_counts w s) ≡ 8
+    length_taken = length-list_of 8 (λ p. number s (taken_place + p * w) w)
 
-    silent : (p : ℕ) → 8 ≤ p → apply e (at (takenCounts w s)) p ≡ 0
-    silent p l = rw (bit-above e.mask 8 p m l, at-beyond (takenCounts w s) p (omega (arith, length_taken)))
+    silent : (p : ℕ) → 8 ≤ p → apply e (at (taken_counts w s)) p ≡ 0
+    silent p l = rw (bit_above e.mask 8 p m l, at_beyond (taken_counts w s) p (omega (arith, length_taken)))
 
 -- ... and with the part of the record that is lent as the table.
-pub setting-lent : (w : ℕ) (s : List ℕ) (e : Event) (k closed place lines : ℕ) (reached : List ℕ) → e.mask < 256
-    → k ≡ processCount s → closed ≡ closedMask s → place ≡ tablePlace w → lines ≡ lineTotal s
-    → reached ≡ list_of 8 (apply e (at (takenCounts w s)))
-    → settingIn w s e ≡ settingWith k closed (take (length s - place) (drop place s)) lines e reached
-setting-lent w s e k closed place lines reached m p d q l r =
+pub setting_lent : (w : ℕ) (s : List ℕ) (e : Event) (k closed place lines : ℕ) (reached : List ℕ) → e.mask < 256
+    → k ≡ process_count s → closed ≡ closed_mask s → place ≡ table_place w → lines ≡ line_total s
+    → reached ≡ list_of 8 (apply e (at (taken_counts w s)))
+    → setting_in w s e ≡ setting_with k closed (take (length s - place) (drop place s)) lines e reached
+setting_lent w s e k closed place lines reached m p d q l r =
     rw (p, d, l, r, take_all (length s - place) (drop place s) (simp length-drop (omega arith)), q)
-    (setting-with w s e m)
+    (setting_with_lem w s e m)

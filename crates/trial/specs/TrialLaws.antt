@@ -14,38 +14,38 @@ use Rattle.clocks.specs.declared.Event.{Event}
 use Rattle.window.specs.Step.{fits}
 use Rattle.clocks.specs.cuts.EventLaws.{true-T, T_true}
 use Rattle.clocks.specs.Counts.{list_of}
-use Rattle.clocks.specs.stored.CountsLaws.{length-listOf, getD-listOf}
-use Rattle.frontiers.specs.ListLaws.{place-member}
-use Rattle.records.specs.Record.{readyIn, pendingCount, pendingAt, pendingEvents}
-use Rattle.trial.specs.Trial.{settingIn, in_turn, Decision, undecided, false-clock, chosen, tried, trialBy}
-use Rattle.trial.specs.TurnLaws.{ascending, up_from, turn_below, turn-stands}
+use Rattle.clocks.specs.stored.CountsLaws.{length-list_of, get_d_list_of}
+use Rattle.frontiers.specs.ListLaws.{place_member}
+use Rattle.records.specs.Record.{ready_in, pending_count, pending_at, pending_events}
+use Rattle.trial.specs.Trial.{setting_in, in_turn, Decision, undecided, false_clock, chosen, tried, trial_by}
+use Rattle.trial.specs.TurnLaws.{ascending, up_from, turn_below, turn_stands}
 
 -- The events of a list tried as they stand, their numbers counted from i.
 unfoldable pub walked : (w : ℕ) (s : List ℕ) (valid : Event → Bool) (allowed : ℕ) (fs : List Frontier) (i : ℕ)
     (seen : Bool) (es : List Event) → Decision
 walked w s valid allowed fs i seen [] = undecided seen
 walked w s valid allowed fs i seen (e ∷ es) =
-    cond (readyIn w s e)
+    cond (ready_in w s e)
     (cond (valid e)
-    (cond (fits (settingIn w s e) allowed fs) (chosen i) (walked w s valid allowed fs (i + 1) true es))
-    (false-clock i))
+    (cond (fits (setting_in w s e) allowed fs) (chosen i) (walked w s valid allowed fs (i + 1) true es))
+    (false_clock i))
     (walked w s valid allowed fs (i + 1) seen es)
 
 -- The event decides nothing: where it is ready, its clock is valid and its window does not fit.
 abbrev pub Indecisive : ℕ → List ℕ → (Event → Bool) → ℕ → List Frontier → Event → Type 0
-Indecisive w s valid allowed fs e = T (readyIn w s e) → T (valid e) × (fits (settingIn w s e) allowed fs ≡ false)
+Indecisive w s valid allowed fs e = T (ready_in w s e) → T (valid e) × (fits (setting_in w s e) allowed fs ≡ false)
 
 pub data Outcome (w : ℕ) (s : List ℕ) (valid : Event → Bool) (allowed : ℕ) (fs : List Frontier) (i : ℕ) (seen : Bool)
     (es : List Event) (d : Event) : Type 0 where
-  none-decides : (after : Bool) → walked w s valid allowed fs i seen es ≡ undecided after
+  none_decides : (after : Bool) → walked w s valid allowed fs i seen es ≡ undecided after
       → ((e : Event) → Memᴰ e es → Indecisive w s valid allowed fs e)
-      → (T after ↔ (T seen ⊎ ((e : Event) × Memᴰ e es × T (readyIn w s e))))
+      → (T after ↔ (T seen ⊎ ((e : Event) × Memᴰ e es × T (ready_in w s e))))
       → Outcome w s valid allowed fs i seen es d
-  falsifies : (j : ℕ) → j < length es → walked w s valid allowed fs i seen es ≡ false-clock (i + j)
-      → T (readyIn w s (get_or es j d)) → valid (get_or es j d) ≡ false
+  falsifies : (j : ℕ) → j < length es → walked w s valid allowed fs i seen es ≡ false_clock (i + j)
+      → T (ready_in w s (get_or es j d)) → valid (get_or es j d) ≡ false
       → ((h : ℕ) → h < j → Indecisive w s valid allowed fs (get_or es h d)) → Outcome w s valid allowed fs i seen es d
   chooses : (j : ℕ) → j < length es → walked w s valid allowed fs i seen es ≡ chosen (i + j)
-      → T (readyIn w s (get_or es j d)) → T (valid (get_or es j d)) → T (fits (settingIn w s (get_or es j d)) allowed fs)
+      → T (ready_in w s (get_or es j d)) → T (valid (get_or es j d)) → T (fits (setting_in w s (get_or es j d)) allowed fs)
       → ((h : ℕ) → h < j → Indecisive w s valid allowed fs (get_or es h d)) → Outcome w s valid allowed fs i seen es d
 
 module _ (w : ℕ) (s : List ℕ) (valid : Event → Bool) (allowed : ℕ) (fs : List Frontier) (d : Event) where
@@ -58,9 +58,9 @@ module _ (w : ℕ) (s : List ℕ) (valid : Event → Bool) (allowed : ℕ) (fs :
   -- the first event decides nothing, so what the rest comes to is what the whole does
   passed_over : (i : ℕ) (seen seen' : Bool) (e : Event) (es : List Event)
       → walked w s valid allowed fs i seen (e ∷ es) ≡ walked w s valid allowed fs (i + 1) seen' es
-      → Indecisive w s valid allowed fs e → (T seen' ↔ (T seen ⊎ T (readyIn w s e)))
+      → Indecisive w s valid allowed fs e → (T seen' ↔ (T seen ⊎ T (ready_in w s e)))
       → Outcome w s valid allowed fs (i + 1) seen' es d → Outcome w s valid allowed fs i seen (e ∷ es) d
-  passed_over i seen seen' e es q h g (none-decides after t u o) = none-decides after (q ∙ t)
+  passed_over i seen seen' e es q h g (none_decides after t u o) = none_decides after (q ∙ t)
       (λ f m r. ⊎_elim (λ x. rw x (h (rw x at r))) (λ n. u f n r) (Memᴰ.cases_cons m)) (
         (λ a. ⊎_elim (λ x. ⊎_elim (λ y. inl y) (λ y. inr (e, Memᴰ.head refl, y)) (g.0 x))
             (λ x. inr (x.0, Memᴰ.tail x.1, x.2)) (o.0 a)),
@@ -69,27 +69,27 @@ module _ (w : ℕ) (s : List ℕ) (valid : Event → Bool) (allowed : ℕ) (fs :
             (Memᴰ.cases_cons x.1)),
       )
   passed_over i seen seen' e es q h g (falsifies j l t r n u) =
-      falsifies (suc j) (omega arith) (q ∙ t ∙ ap false-clock (omega arith)) r n (one_more e es j h u)
+      falsifies (suc j) (omega arith) (q ∙ t ∙ ap false_clock (omega arith)) r n (one_more e es j h u)
   passed_over i seen seen' e es q h g (chooses j l t r a f u) =
       chooses (suc j) (omega arith) (q ∙ t ∙ ap chosen (omega arith)) r a f (one_more e es j h u)
 
   pub outcome : (i : ℕ) (seen : Bool) (es : List Event) → Outcome w s valid allowed fs i seen es d
   unfolding walked
   outcome i seen [] =
-      none-decides seen refl (λ e m. absurd (Memᴰ.not-nil m))
-      ((λ t. inl t), ⊎_elim (λ t. t) (λ x. absurd (Memᴰ.not-nil x.1)))
+      none_decides seen refl (λ e m. absurd (Memᴰ.not_nil m))
+      ((λ t. inl t), ⊎_elim (λ t. t) (λ x. absurd (Memᴰ.not_nil x.1)))
   outcome i seen (e ∷ es) =
-      go (readyIn w s e) refl (valid e) refl (fits (settingIn w s e) allowed fs) refl (λ b. outcome (i + 1) b es)
+      go (ready_in w s e) refl (valid e) refl (fits (setting_in w s e) allowed fs) refl (λ b. outcome (i + 1) b es)
     where
-      go : (a : Bool) → readyIn w s e ≡ a → (b : Bool) → valid e ≡ b → (c : Bool)
-          → fits (settingIn w s e) allowed fs ≡ c
+      go : (a : Bool) → ready_in w s e ≡ a → (b : Bool) → valid e ≡ b → (c : Bool)
+          → fits (setting_in w s e) allowed fs ≡ c
           → ((seen' : Bool) → Outcome w s valid allowed fs (i + 1) seen' es d)
           → Outcome w s valid allowed fs i seen (e ∷ es) d
       go false p b q c t rest =
           passed_over i seen seen e es (rw p) (λ x. absurd (subst T p x))
           ((λ x. inl x), ⊎_elim (λ x. x) (λ x. absurd (subst T p x))) (rest seen)
       go true p false q c t rest =
-          falsifies 0 (omega arith) (rw (p, q) (ap false-clock (omega arith))) (true-T p) q
+          falsifies 0 (omega arith) (rw (p, q) (ap false_clock (omega arith))) (true-T p) q
           (λ x m. absurd (omega arith))
       go true p true q true t rest =
           chooses 0 (omega arith) (rw (p, q, t) (ap chosen (omega arith))) (true-T p) (true-T q) (true-T t)
@@ -101,55 +101,55 @@ module _ (w : ℕ) (s : List ℕ) (valid : Event → Bool) (allowed : ℕ) (fs :
 
 standing : (w : ℕ) (s : List ℕ) (valid : Event → Bool) (allowed : ℕ) (fs : List Frontier) (seen : Bool) (n i : ℕ)
     (f : ℕ → Event)
-    → ((j : ℕ) → f j ≡ pendingAt w s (i + j))
+    → ((j : ℕ) → f j ≡ pending_at w s (i + j))
     → tried w s valid allowed fs seen (up_from n i) ≡ walked w s valid allowed fs i seen (list_of n f)
 unfolding tried walked up_from list_of
 standing w s valid allowed fs seen zero i f same = refl
 standing w s valid allowed fs seen (suc n) i f same =
-    let here : pendingAt w s i ≡ f 0 = ap (pendingAt w s) (omega arith) ∙ sym (same 0) in
+    let here : pending_at w s i ≡ f 0 = ap (pending_at w s) (omega arith) ∙ sym (same 0) in
     let rest : (b : Bool) → tried w s valid allowed fs b (up_from n (i + 1))
     ≡ walked w s valid allowed fs (i + 1) b (list_of n (λ p. f (suc p))) =
     λ b. standing w s valid allowed fs b n (i + 1) (λ p. f (suc p))
-    (λ j. same (suc j) ∙ ap (pendingAt w s) (omega arith)) in
+    (λ j. same (suc j) ∙ ap (pending_at w s) (omega arith)) in
     rw (here, rest true, rest seen)
 
 -- Where their lowest processes ascend, the events are tried as they stand.
-pub as-they-stand : (w : ℕ) (s : List ℕ) (valid : Event → Bool) (allowed : ℕ) (fs : List Frontier)
-    → T (ascending 0 (pendingEvents w s))
-    → trialBy w s valid allowed fs ≡ walked w s valid allowed fs 0 false (pendingEvents w s)
-unfolding pendingEvents
-as-they-stand w s valid allowed fs a =
-    ap (tried w s valid allowed fs false) (turn-stands (pendingEvents w s) a)
-    ∙ ap (λ (n : ℕ). tried w s valid allowed fs false (up_from n 0)) (length-listOf (pendingCount s) (pendingAt w s))
-    ∙ standing w s valid allowed fs false (pendingCount s) 0 (pendingAt w s) (λ j. ap (pendingAt w s) (omega arith))
+pub as_they_stand : (w : ℕ) (s : List ℕ) (valid : Event → Bool) (allowed : ℕ) (fs : List Frontier)
+    → T (ascending 0 (pending_events w s))
+    → trial_by w s valid allowed fs ≡ walked w s valid allowed fs 0 false (pending_events w s)
+unfolding pending_events
+as_they_stand w s valid allowed fs a =
+    ap (tried w s valid allowed fs false) (turn_stands (pending_events w s) a)
+    ∙ ap (λ (n : ℕ). tried w s valid allowed fs false (up_from n 0)) (length-list_of (pending_count s) (pending_at w s))
+    ∙ standing w s valid allowed fs false (pending_count s) 0 (pending_at w s) (λ j. ap (pending_at w s) (omega arith))
 
 -- ---- On any bytes
 
 -- What a decision says of the event that it names.
 abbrev pub Right : (w : ℕ) (s : List ℕ) (valid : Event → Bool) (allowed : ℕ) (fs : List Frontier) → Decision → Type 0
 Right w s valid allowed fs (undecided seen) = Unit {0}
-Right w s valid allowed fs (false-clock i) =
-    (i < pendingCount s) × T (readyIn w s (pendingAt w s i)) × (valid (pendingAt w s i) ≡ false)
+Right w s valid allowed fs (false_clock i) =
+    (i < pending_count s) × T (ready_in w s (pending_at w s i)) × (valid (pending_at w s i) ≡ false)
 Right w s valid allowed fs (chosen i) =
-    (i < pendingCount s)
-    × T (readyIn w s (pendingAt w s i))
-    × T (valid (pendingAt w s i))
-    × T (fits (settingIn w s (pendingAt w s i)) allowed fs)
+    (i < pending_count s)
+    × T (ready_in w s (pending_at w s i))
+    × T (valid (pending_at w s i))
+    × T (fits (setting_in w s (pending_at w s i)) allowed fs)
 
-tried-right : (w : ℕ) (s : List ℕ) (valid : Event → Bool) (allowed : ℕ) (fs : List Frontier) (seen : Bool)
+tried_right : (w : ℕ) (s : List ℕ) (valid : Event → Bool) (allowed : ℕ) (fs : List Frontier) (seen : Bool)
     (places : List ℕ)
-    → ((i : ℕ) → Memᴰ i places → i < pendingCount s)
+    → ((i : ℕ) → Memᴰ i places → i < pending_count s)
     → Right w s valid allowed fs (tried w s valid allowed fs seen places)
 unfolding tried
-tried-right w s valid allowed fs seen [] below = tt
-tried-right w s valid allowed fs seen (i ∷ is) below =
-    go (readyIn w s e) refl (valid e) refl (fits (settingIn w s e) allowed fs) refl
-    (λ b. tried-right w s valid allowed fs b is (λ j m. below j (Memᴰ.tail m)))
+tried_right w s valid allowed fs seen [] below = tt
+tried_right w s valid allowed fs seen (i ∷ is) below =
+    go (ready_in w s e) refl (valid e) refl (fits (setting_in w s e) allowed fs) refl
+    (λ b. tried_right w s valid allowed fs b is (λ j m. below j (Memᴰ.tail m)))
   where
     e : Event
-    e = pendingAt w s i
+    e = pending_at w s i
 
-    go : (a : Bool) → readyIn w s e ≡ a → (b : Bool) → valid e ≡ b → (c : Bool) → fits (settingIn w s e) allowed fs ≡ c
+    go : (a : Bool) → ready_in w s e ≡ a → (b : Bool) → valid e ≡ b → (c : Bool) → fits (setting_in w s e) allowed fs ≡ c
         → ((seen' : Bool) → Right w s valid allowed fs (tried w s valid allowed fs seen' is))
         → Right w s valid allowed fs (tried w s valid allowed fs seen (i ∷ is))
     go false p b q c t rest = rw p (rest seen)
@@ -158,36 +158,36 @@ tried-right w s valid allowed fs seen (i ∷ is) below =
     go true p true q false t rest = rw (p, q, t) (rest true)
 
 -- Every number in turn is that of a pending event.
-pub pending-below : (w : ℕ) (s : List ℕ) (i : ℕ) → Memᴰ i (in_turn (pendingEvents w s)) → i < pendingCount s
-unfolding pendingEvents
-pending-below w s i m =
-    let n = turn_below 9 0 0 (pendingEvents w s) i m in
-    omega (arith, length-listOf (pendingCount s) (pendingAt w s))
+pub pending_below : (w : ℕ) (s : List ℕ) (i : ℕ) → Memᴰ i (in_turn (pending_events w s)) → i < pending_count s
+unfolding pending_events
+pending_below w s i m =
+    let n = turn_below 9 0 0 (pending_events w s) i m in
+    omega (arith, length-list_of (pending_count s) (pending_at w s))
 
-pub trial-right : (w : ℕ) (s : List ℕ) (valid : Event → Bool) (allowed : ℕ) (fs : List Frontier)
-    → Right w s valid allowed fs (trialBy w s valid allowed fs)
-trial-right w s valid allowed fs =
-    tried-right w s valid allowed fs false (in_turn (pendingEvents w s)) (pending-below w s)
+pub trial_right : (w : ℕ) (s : List ℕ) (valid : Event → Bool) (allowed : ℕ) (fs : List Frontier)
+    → Right w s valid allowed fs (trial_by w s valid allowed fs)
+trial_right w s valid allowed fs =
+    tried_right w s valid allowed fs false (in_turn (pending_events w s)) (pending_below w s)
 
 -- ---- Two tests of a clock
 
 same-tried : (w : ℕ) (s : List ℕ) (valid valid' : Event → Bool) (allowed : ℕ) (fs : List Frontier) (seen : Bool)
     (places : List ℕ)
-    → ((i : ℕ) → Memᴰ i places → T (readyIn w s (pendingAt w s i)) → T (valid (pendingAt w s i))
-    → T (valid' (pendingAt w s i)))
-    → ((j : ℕ) → tried w s valid allowed fs seen places ≡ false-clock j → ⊥)
+    → ((i : ℕ) → Memᴰ i places → T (ready_in w s (pending_at w s i)) → T (valid (pending_at w s i))
+    → T (valid' (pending_at w s i)))
+    → ((j : ℕ) → tried w s valid allowed fs seen places ≡ false_clock j → ⊥)
     → tried w s valid allowed fs seen places ≡ tried w s valid' allowed fs seen places
 unfolding tried
 same-tried w s valid valid' allowed fs seen [] more none = refl
 same-tried w s valid valid' allowed fs seen (i ∷ is) more none =
-    go (readyIn w s e) refl (valid e) refl (fits (settingIn w s e) allowed fs) refl
+    go (ready_in w s e) refl (valid e) refl (fits (setting_in w s e) allowed fs) refl
     (λ b. same-tried w s valid valid' allowed fs b is (λ j m. more j (Memᴰ.tail m)))
   where
     e : Event
-    e = pendingAt w s i
+    e = pending_at w s i
 
-    go : (a : Bool) → readyIn w s e ≡ a → (b : Bool) → valid e ≡ b → (c : Bool) → fits (settingIn w s e) allowed fs ≡ c
-        → ((seen' : Bool) → ((j : ℕ) → tried w s valid allowed fs seen' is ≡ false-clock j → ⊥)
+    go : (a : Bool) → ready_in w s e ≡ a → (b : Bool) → valid e ≡ b → (c : Bool) → fits (setting_in w s e) allowed fs ≡ c
+        → ((seen' : Bool) → ((j : ℕ) → tried w s valid allowed fs seen' is ≡ false_clock j → ⊥)
         → tried w s valid allowed fs seen' is ≡ tried w s valid' allowed fs seen' is)
         → tried w s valid allowed fs seen (i ∷ is) ≡ tried w s valid' allowed fs seen (i ∷ is)
     go false p b q c t rest = rw p (rest seen (λ j h. none j (rw p h)))
@@ -200,18 +200,18 @@ same-tried w s valid valid' allowed fs seen (i ∷ is) more none =
 -- Where a test lets pass every ready event that another does, a trial by the other that meets no false clock is a trial
 -- by it.
 pub same-trial : (w : ℕ) (s : List ℕ) (valid valid' : Event → Bool) (allowed : ℕ) (fs : List Frontier)
-    → ((e : Event) → Memᴰ e (pendingEvents w s) → T (readyIn w s e) → T (valid e) → T (valid' e))
-    → ((j : ℕ) → trialBy w s valid allowed fs ≡ false-clock j → ⊥)
-    → trialBy w s valid allowed fs ≡ trialBy w s valid' allowed fs
+    → ((e : Event) → Memᴰ e (pending_events w s) → T (ready_in w s e) → T (valid e) → T (valid' e))
+    → ((j : ℕ) → trial_by w s valid allowed fs ≡ false_clock j → ⊥)
+    → trial_by w s valid allowed fs ≡ trial_by w s valid' allowed fs
 same-trial w s valid valid' allowed fs more none =
-    same-tried w s valid valid' allowed fs false (in_turn (pendingEvents w s))
-    (λ i m. more (pendingAt w s i) (member i (pending-below w s i m))) none
+    same-tried w s valid valid' allowed fs false (in_turn (pending_events w s))
+    (λ i m. more (pending_at w s i) (member i (pending_below w s i m))) none
   where
-    member : (i : ℕ) → i < pendingCount s → Memᴰ (pendingAt w s i) (pendingEvents w s)
+    member : (i : ℕ) → i < pending_count s → Memᴰ (pending_at w s i) (pending_events w s)
     member i l =
-        unfold pendingEvents in
-        (let long : i < length (list_of (pendingCount s) (pendingAt w s)) =
-        omega (arith, length-listOf (pendingCount s) (pendingAt w s)) in
-        subst (λ (e : Event). Memᴰ e (list_of (pendingCount s) (pendingAt w s)))
-        (getD-listOf (pendingCount s) (pendingAt w s) i (pendingAt w s 0) l)
-        (place-member (list_of (pendingCount s) (pendingAt w s)) i (pendingAt w s 0) long))
+        unfold pending_events in
+        (let long : i < length (list_of (pending_count s) (pending_at w s)) =
+        omega (arith, length-list_of (pending_count s) (pending_at w s)) in
+        subst (λ (e : Event). Memᴰ e (list_of (pending_count s) (pending_at w s)))
+        (get_d_list_of (pending_count s) (pending_at w s) i (pending_at w s 0) l)
+        (place_member (list_of (pending_count s) (pending_at w s)) i (pending_at w s 0) long))

@@ -7,12 +7,12 @@ mod turn;
 ghost use Rattle.std.specs.Prelude.{◌≤◌, ◌≡◌, ◌&&◌, T, ltb, leb, length};
 ghost use Rattle.frontiers.specs.Width.{Width};
 ghost use Rattle.frontiers.specs.Bytes.{frontiers};
-ghost use Rattle.window.specs.Step.{keptAfter};
+ghost use Rattle.window.specs.Step.{kept_after};
 ghost use Rattle.window.specs.Room.{RoomFor};
 ghost use Rattle.window.specs.Marks.{Marked};
-ghost use Rattle.records.specs.Record.{recordLength, processCount, pendingCount, readyIn};
-ghost use Rattle.trial.specs.Trial.{settingIn, trial};
-ghost use Rattle.trial.specs.TrialCode.{choiceFor, MarkedFor};
+ghost use Rattle.records.specs.Record.{record_length, process_count, pending_count, ready_in};
+ghost use Rattle.trial.specs.Trial.{setting_in, trial};
+ghost use Rattle.trial.specs.TrialCode.{choice_for, MarkedFor};
 
 use clocks::Event;
 use frontiers::stored::counts_at;
@@ -39,13 +39,13 @@ pub fn kept_with(
     e: Event,
 ) -> usize
     requires width { Width w }
-    requires record_len { length «record».now ≡ recordLength w }
-    requires record_bound { processCount «record».now ≤ 8 }
+    requires record_len { length «record».now ≡ record_length w }
+    requires record_bound { process_count «record».now ≤ 8 }
     requires room_for { RoomFor w n window.now }
-    requires t { T (readyIn w «record».now e) }
+    requires t { T (ready_in w «record».now e) }
     requires n_in_bounds { n ≤ length marks.old }
-    ensures value { result ≡ keptAfter (settingIn w «record».now e) (frontiers w window.now n) }
-    ensures marked { Marked (settingIn w «record».now e) w window.now n marks.new }
+    ensures value { result ≡ kept_after (setting_in w «record».now e) (frontiers w window.now n) }
+    ensures marked { Marked (setting_in w «record».now e) w window.now n marks.new }
 {
     let k = process_count(record);
     let closed = closed_mask(record) as u64;
@@ -74,12 +74,12 @@ pub fn decide(
     allowed: usize,
 ) -> Choice
     requires width { Width w }
-    requires record_len { length «record».now ≡ recordLength w }
-    requires record_bound { processCount «record».now ≤ 8 }
-    requires record_bound_2 { pendingCount «record».now ≤ 32 }
+    requires record_len { length «record».now ≡ record_length w }
+    requires record_bound { process_count «record».now ≤ 8 }
+    requires record_bound_2 { pending_count «record».now ≤ 32 }
     requires room_for { RoomFor w n window.now }
     requires n_in_bounds { n ≤ length marks.old }
-    ensures value { result ≡ choiceFor w «record».now (frontiers w window.now n) (trial w «record».now allowed (frontiers w window.now n)) }
+    ensures value { result ≡ choice_for w «record».now (frontiers w window.now n) (trial w «record».now allowed (frontiers w window.now n)) }
     ensures marked_for { MarkedFor w «record».now window.now n marks.new result }
 {
     let taken = taken_counts(record, w);

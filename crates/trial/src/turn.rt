@@ -4,7 +4,7 @@
 ghost use Rattle.std.specs.Prelude.{◌≤◌, ◌<◌, ◌≡◌, length, get_or};
 ghost use Rattle.clocks.specs.Key.{lowest};
 ghost use Rattle.frontiers.specs.Width.{Width};
-ghost use Rattle.records.specs.Record.{recordLength, pendingCount, pendingAt, pendingEvents};
+ghost use Rattle.records.specs.Record.{record_length, pending_count, pending_at, pending_events};
 ghost use Rattle.trial.specs.Trial.{in_turn};
 ghost use Rattle.trial.specs.TurnLaws.{ascending};
 
@@ -13,9 +13,9 @@ use records::fields::pending_place;
 // The lowest process of pending event number i.
 fn lowest_at(record: &[u8], w: usize, i: usize) -> u32
     requires width { Width w }
-    requires record_len { length «record».now ≡ recordLength w }
+    requires record_len { length «record».now ≡ record_length w }
     requires i_bound { i < 32 }
-    ensures { (result ≡ lowest (pendingAt w «record».now i)) × (result ≤ 8) }
+    ensures { (result ≡ lowest (pending_at w «record».now i)) × (result ≤ 8) }
 {
     codec::lowest_bit(record[pending_place(w, i)])
 }
@@ -23,9 +23,9 @@ fn lowest_at(record: &[u8], w: usize, i: usize) -> u32
 // Whether none of the pending events has a lower lowest process than the one before it.
 pub fn in_order(record: &[u8], w: usize, pending: usize) -> bool
     requires width { Width w }
-    requires record_len { length «record».now ≡ recordLength w }
-    requires pending_value { (pending ≡ pendingCount «record».now) × (pending ≤ 32) }
-    ensures { result ≡ ascending 0 (pendingEvents w «record».now) }
+    requires record_len { length «record».now ≡ record_length w }
+    requires pending_value { (pending ≡ pending_count «record».now) × (pending ≤ 32) }
+    ensures { result ≡ ascending 0 (pending_events w «record».now) }
 {
     let mut last = 0;
     let mut i = 0;
@@ -43,9 +43,9 @@ pub fn in_order(record: &[u8], w: usize, pending: usize) -> bool
 // The place of the event in turn after so many, looked for from process 0 up; 8 stands for no process.
 fn sought_place(record: &[u8], w: usize, pending: usize, turn: usize) -> usize
     requires width { Width w }
-    requires record_len { length «record».now ≡ recordLength w }
-    requires pending_value { (pending ≡ pendingCount «record».now) × (pending ≤ 32) }
-    ensures { (result ≡ get_or (in_turn (pendingEvents w «record».now)) turn 0) × (result < 32) }
+    requires record_len { length «record».now ≡ record_length w }
+    requires pending_value { (pending ≡ pending_count «record».now) × (pending ≤ 32) }
+    ensures { (result ≡ get_or (in_turn (pending_events w «record».now)) turn 0) × (result < 32) }
 {
     let mut left = turn;
     let mut p = 0;
@@ -70,11 +70,11 @@ fn sought_place(record: &[u8], w: usize, pending: usize, turn: usize) -> usize
 // The place of the event in turn after so many.
 pub fn place_in_turn(record: &[u8], w: usize, pending: usize, ordered: bool, turn: usize) -> usize
     requires width { Width w }
-    requires record_len { length «record».now ≡ recordLength w }
-    requires pending_value { (pending ≡ pendingCount «record».now) × (pending ≤ 32) }
-    requires ordered_value { ordered ≡ ascending 0 (pendingEvents w «record».now) }
+    requires record_len { length «record».now ≡ record_length w }
+    requires pending_value { (pending ≡ pending_count «record».now) × (pending ≤ 32) }
+    requires ordered_value { ordered ≡ ascending 0 (pending_events w «record».now) }
     requires turn_lt_pending { turn < pending }
-    ensures { (result ≡ get_or (in_turn (pendingEvents w «record».now)) turn 0) × (result < 32) }
+    ensures { (result ≡ get_or (in_turn (pending_events w «record».now)) turn 0) × (result < 32) }
 {
     if ordered {
         return turn;

@@ -4,8 +4,8 @@ ghost use Rattle.std.specs.Prelude.{ℕ, ◌+◌, ◌*◌, ◌^◌, ◌≤◌, �
 ghost use Rattle.std.proofs.lemmas.List.Edits.{sets};
 ghost use Rattle.clocks.specs.Counts.{at};
 ghost use Rattle.frontiers.specs.Width.{Width};
-ghost use Rattle.frontiers.specs.Bytes.{countBytes};
-ghost use Rattle.records.specs.Record.{eventLength, recordLength, pendingCount, eventBytes, inserted, removed, clocksSet, counted, readyIn};
+ghost use Rattle.frontiers.specs.Bytes.{count_bytes};
+ghost use Rattle.records.specs.Record.{event_length, record_length, pending_count, event_bytes, inserted, removed, clocks_set, counted, ready_in};
 
 use clocks::Event;
 use frontiers::moving::{clear, move_down, move_up};
@@ -16,7 +16,7 @@ pub fn write_counts_at(record: &mut [u8], w: usize, place: usize, counts: [u32; 
     requires width { Width w }
     requires w_in_bounds { place + 8 * w ≤ length «record».old }
     requires by_index { (p : ℕ) → at counts p < 256 ^ w }
-    ensures { «record».new ≡ sets «record».old place (countBytes w counts) }
+    ensures { «record».new ≡ sets «record».old place (count_bytes w counts) }
 {
     frontiers::counts::write_counts(&mut record[place..], w, counts);
 }
@@ -24,9 +24,9 @@ pub fn write_counts_at(record: &mut [u8], w: usize, place: usize, counts: [u32; 
 // Stores a pending event's bytes at a place.
 pub fn write_event(record: &mut [u8], w: usize, place: usize, e: Event)
     requires width { Width w }
-    requires w_in_bounds { place + eventLength w ≤ length «record».old }
+    requires w_in_bounds { place + event_length w ≤ length «record».old }
     requires by_index { (p : ℕ) → at e.clock p < 256 ^ w }
-    ensures { «record».new ≡ sets «record».old place (eventBytes w e) }
+    ensures { «record».new ≡ sets «record».old place (event_bytes w e) }
 {
     let clock = e.clock;
     let labels = e.labels;
@@ -40,9 +40,9 @@ pub fn write_event(record: &mut [u8], w: usize, place: usize, e: Event)
 // Lays an event down as number i of the pending ones, those from i on moved up by one.
 pub fn insert_event(record: &mut [u8], w: usize, i: usize, e: Event)
     requires width { Width w }
-    requires record_len { length «record».old ≡ recordLength w }
-    requires i_bound { i ≤ pendingCount «record».old }
-    requires record_bound { pendingCount «record».old < 32 }
+    requires record_len { length «record».old ≡ record_length w }
+    requires i_bound { i ≤ pending_count «record».old }
+    requires record_bound { pending_count «record».old < 32 }
     requires by_index { (p : ℕ) → at e.clock p < 256 ^ w }
     ensures { «record».new ≡ inserted w «record».old i e }
 {
@@ -57,9 +57,9 @@ pub fn insert_event(record: &mut [u8], w: usize, i: usize, e: Event)
 // Takes pending event number i out, those behind it moved down by one, the freed place 0.
 pub fn remove_event(record: &mut [u8], w: usize, i: usize)
     requires width { Width w }
-    requires record_len { length «record».old ≡ recordLength w }
-    requires i_bound { i < pendingCount «record».old }
-    requires record_bound { pendingCount «record».old ≤ 32 }
+    requires record_len { length «record».old ≡ record_length w }
+    requires i_bound { i < pending_count «record».old }
+    requires record_bound { pending_count «record».old ≤ 32 }
     ensures { «record».new ≡ removed w «record».old i }
 {
     let n = pending_count(record);
@@ -74,9 +74,9 @@ pub fn remove_event(record: &mut [u8], w: usize, i: usize)
 // The clock of an event stored as the last one of each of its processes.
 pub fn set_clocks(record: &mut [u8], w: usize, e: Event)
     requires width { Width w }
-    requires record_len { length «record».old ≡ recordLength w }
+    requires record_len { length «record».old ≡ record_length w }
     requires by_index { (p : ℕ) → at e.clock p < 256 ^ w }
-    ensures { «record».new ≡ clocksSet w 8 «record».old e }
+    ensures { «record».new ≡ clocks_set w 8 «record».old e }
 {
     let mask = e.mask as u64;
     let clock = e.clock;
@@ -94,9 +94,9 @@ pub fn set_clocks(record: &mut [u8], w: usize, e: Event)
 // Counts a ready event as taken: the taken counts with it, its clock as its processes' last, the frontiers kept.
 pub fn count_taken(record: &mut [u8], w: usize, e: Event, kept: u32)
     requires width { Width w }
-    requires record_len { length «record».old ≡ recordLength w }
+    requires record_len { length «record».old ≡ record_length w }
     requires by_index { (p : ℕ) → at e.clock p < 256 ^ w }
-    requires t { T (readyIn w «record».old e) }
+    requires t { T (ready_in w «record».old e) }
     ensures { «record».new ≡ counted w «record».old e kept }
 {
     let taken = taken_counts(record, w);

@@ -3,14 +3,14 @@
 // of a count in every loop of either.
 
 ghost use Rattle.std.specs.Prelude.{◌≡◌, [], ◌∷◌};
-ghost use Rattle.call_words.specs.Words.{unpackCounts, unpackLabels};
-ghost use Rattle.call_open.specs.Open.{openCall};
-ghost use Rattle.call_offer.specs.Offer.{offerCall};
-ghost use Rattle.call_take.specs.Take.{takeCall};
-ghost use Rattle.call_find.specs.Find.{findCall};
-ghost use Rattle.call_close.specs.Close.{closeCall};
-ghost use Rattle.call_move.specs.Move.{moveCall};
-ghost use Rattle.answers.specs.Answer.{replyWord};
+ghost use Rattle.call_words.specs.Words.{unpack_counts, unpack_labels};
+ghost use Rattle.call_open.specs.Open.{open_call};
+ghost use Rattle.call_offer.specs.Offer.{offer_call};
+ghost use Rattle.call_take.specs.Take.{take_call};
+ghost use Rattle.call_find.specs.Find.{find_call};
+ghost use Rattle.call_close.specs.Close.{close_call};
+ghost use Rattle.call_move.specs.Move.{move_call};
+ghost use Rattle.answers.specs.Answer.{reply_word};
 
 // Opens a watch with a rule's text, so many processes, and start labels that are the bytes of a word.
 #[unsafe(no_mangle)]
@@ -21,11 +21,11 @@ pub extern "C" fn watch_open(
     record: &mut [u8],
     window: &mut [u8],
 ) -> u64
-    ensures reply { result ≡ replyWord (openCall 2 rule.now k (unpackLabels labels)
+    ensures reply { result ≡ reply_word (open_call 2 rule.now k (unpack_labels labels)
         «record».old window.old).answer }
-    ensures bytes { «record».new ≡ (openCall 2 rule.now k (unpackLabels labels)
+    ensures bytes { «record».new ≡ (open_call 2 rule.now k (unpack_labels labels)
         «record».old window.old).bytes }
-    ensures window { window.new ≡ (openCall 2 rule.now k (unpackLabels labels)
+    ensures window { window.new ≡ (open_call 2 rule.now k (unpack_labels labels)
         «record».old window.old).window }
 {
     let bytes = call_words::unpack_labels(labels);
@@ -36,10 +36,10 @@ pub extern "C" fn watch_open(
 // its labels are the bytes of a word.
 #[unsafe(no_mangle)]
 pub extern "C" fn watch_offer(mask: u64, low: u64, high: u64, labels: u64, record: &mut [u8]) -> u64
-    ensures reply { result ≡ replyWord (offerCall 2 mask (unpackCounts 2 (low ∷ high ∷ [])) (unpackLabels labels)
+    ensures reply { result ≡ reply_word (offer_call 2 mask (unpack_counts 2 (low ∷ high ∷ [])) (unpack_labels labels)
         «record».old).answer }
-    ensures bytes { «record».new ≡ (offerCall 2 mask (unpackCounts 2 (low ∷ high ∷ []))
-        (unpackLabels labels) «record».old).bytes }
+    ensures bytes { «record».new ≡ (offer_call 2 mask (unpack_counts 2 (low ∷ high ∷ []))
+        (unpack_labels labels) «record».old).bytes }
 {
     let clock = call_words::unpack_counts(low, high);
     let bytes = call_words::unpack_labels(labels);
@@ -49,13 +49,13 @@ pub extern "C" fn watch_offer(mask: u64, low: u64, high: u64, labels: u64, recor
 // Takes the first pending event that is decided on.
 #[unsafe(no_mangle)]
 pub extern "C" fn watch_take(record: &mut [u8], window: &mut [u8], scratch: &mut [u8]) -> u64
-    ensures reply { result ≡ replyWord (takeCall 2 «record».old window.old
+    ensures reply { result ≡ reply_word (take_call 2 «record».old window.old
         scratch.old).answer }
-    ensures bytes { «record».new ≡ (takeCall 2 «record».old window.old
+    ensures bytes { «record».new ≡ (take_call 2 «record».old window.old
         scratch.old).bytes }
-    ensures window { window.new ≡ (takeCall 2 «record».old window.old
+    ensures window { window.new ≡ (take_call 2 «record».old window.old
         scratch.old).window }
-    ensures scratch { scratch.new ≡ (takeCall 2 «record».old window.old
+    ensures scratch { scratch.new ≡ (take_call 2 «record».old window.old
         scratch.old).scratch }
 {
     call_take::take(2, record, window, scratch)
@@ -64,7 +64,7 @@ pub extern "C" fn watch_take(record: &mut [u8], window: &mut [u8], scratch: &mut
 // Finds the place of the first kept frontier at which a line holds.
 #[unsafe(no_mangle)]
 pub extern "C" fn watch_find(line: u64, record: &[u8], window: &[u8]) -> u64
-    ensures { result ≡ replyWord (findCall 2 line «record».now window.now) }
+    ensures { result ≡ reply_word (find_call 2 line «record».now window.now) }
 {
     call_find::find(2, line, record, window)
 }
@@ -72,11 +72,11 @@ pub extern "C" fn watch_find(line: u64, record: &[u8], window: &[u8]) -> u64
 // Closes a process that will send no more.
 #[unsafe(no_mangle)]
 pub extern "C" fn watch_close(process: u64, record: &mut [u8], window: &mut [u8]) -> u64
-    ensures reply { result ≡ replyWord (closeCall 2 process «record».old window.old).answer }
+    ensures reply { result ≡ reply_word (close_call 2 process «record».old window.old).answer }
     ensures bytes { «record».new
-        ≡ (closeCall 2 process «record».old window.old).bytes }
+        ≡ (close_call 2 process «record».old window.old).bytes }
     ensures window { window.new
-        ≡ (closeCall 2 process «record».old window.old).window }
+        ≡ (close_call 2 process «record».old window.old).window }
 {
     call_close::close(2, process, record, window)
 }
@@ -90,11 +90,11 @@ pub extern "C" fn watch_narrow(
     record: &mut [u8],
     window: &mut [u8],
 ) -> u64
-    ensures reply { result ≡ (moveCall 4 2 record32.now window32.now «record».old
+    ensures reply { result ≡ (move_call 4 2 record32.now window32.now «record».old
         window.old).number }
-    ensures bytes { «record».new ≡ (moveCall 4 2 record32.now window32.now
+    ensures bytes { «record».new ≡ (move_call 4 2 record32.now window32.now
         «record».old window.old).bytes }
-    ensures window { window.new ≡ (moveCall 4 2 record32.now window32.now
+    ensures window { window.new ≡ (move_call 4 2 record32.now window32.now
         «record».old window.old).window }
 {
     call_move::move_watch(4, 2, record32, window32, record, window)

@@ -2,19 +2,19 @@
 // that writes a watch of this form, the page, the busiest day, and the calls of watches that share a pool.
 
 ghost use Rattle.std.specs.Prelude.{◌≡◌, [], ◌∷◌};
-ghost use Rattle.call_words.specs.Words.{unpackCounts, unpackLabels};
-ghost use Rattle.call_open.specs.Open.{openCall};
-ghost use Rattle.call_offer.specs.Offer.{offerCall};
-ghost use Rattle.call_take.specs.Take.{takeCall};
-ghost use Rattle.call_find.specs.Find.{findCall};
-ghost use Rattle.call_close.specs.Close.{closeCall};
-ghost use Rattle.call_move.specs.Move.{moveCall};
-ghost use Rattle.call_page.specs.Page.{pageCall};
-ghost use Rattle.call_busiest.specs.Busiest.{busiestCall};
-ghost use Rattle.call_shares.specs.Shares.{setShares};
-ghost use Rattle.call_shared.specs.Shared.{sharedOpen, sharedTake, sharedClose};
-ghost use Rattle.answers.specs.Answer.{replyWord};
-ghost use Rattle.answers.specs.Result.{resultWord};
+ghost use Rattle.call_words.specs.Words.{unpack_counts, unpack_labels};
+ghost use Rattle.call_open.specs.Open.{open_call};
+ghost use Rattle.call_offer.specs.Offer.{offer_call};
+ghost use Rattle.call_take.specs.Take.{take_call};
+ghost use Rattle.call_find.specs.Find.{find_call};
+ghost use Rattle.call_close.specs.Close.{close_call};
+ghost use Rattle.call_move.specs.Move.{move_call};
+ghost use Rattle.call_page.specs.Page.{page_call};
+ghost use Rattle.call_busiest.specs.Busiest.{busiest_call};
+ghost use Rattle.call_shares.specs.Shares.{set_shares};
+ghost use Rattle.call_shared.specs.Shared.{shared_open, shared_take, shared_close};
+ghost use Rattle.answers.specs.Answer.{reply_word};
+ghost use Rattle.answers.specs.Result.{result_word};
 
 // Opens a watch with a rule's text, so many processes, and start labels that are the bytes of a word.
 #[unsafe(no_mangle)]
@@ -25,11 +25,11 @@ pub extern "C" fn watch32_open(
     record: &mut [u8],
     window: &mut [u8],
 ) -> u64
-    ensures reply { result ≡ replyWord (openCall 4 rule.now k (unpackLabels labels)
+    ensures reply { result ≡ reply_word (open_call 4 rule.now k (unpack_labels labels)
         «record».old window.old).answer }
-    ensures bytes { «record».new ≡ (openCall 4 rule.now k (unpackLabels labels)
+    ensures bytes { «record».new ≡ (open_call 4 rule.now k (unpack_labels labels)
         «record».old window.old).bytes }
-    ensures window { window.new ≡ (openCall 4 rule.now k (unpackLabels labels)
+    ensures window { window.new ≡ (open_call 4 rule.now k (unpack_labels labels)
         «record».old window.old).window }
 {
     let bytes = call_words::unpack_labels(labels);
@@ -48,10 +48,10 @@ pub extern "C" fn watch32_offer(
     labels: u64,
     record: &mut [u8],
 ) -> u64
-    ensures reply { result ≡ replyWord (offerCall 4 mask (unpackCounts 4 (c01 ∷ c23 ∷ c45 ∷ c67 ∷ []))
-        (unpackLabels labels) «record».old).answer }
-    ensures bytes { «record».new ≡ (offerCall 4 mask (unpackCounts 4 (c01 ∷ c23 ∷ c45 ∷ c67 ∷ []))
-        (unpackLabels labels) «record».old).bytes }
+    ensures reply { result ≡ reply_word (offer_call 4 mask (unpack_counts 4 (c01 ∷ c23 ∷ c45 ∷ c67 ∷ []))
+        (unpack_labels labels) «record».old).answer }
+    ensures bytes { «record».new ≡ (offer_call 4 mask (unpack_counts 4 (c01 ∷ c23 ∷ c45 ∷ c67 ∷ []))
+        (unpack_labels labels) «record».old).bytes }
 {
     let clock = call_words::unpack_wide_counts(c01, c23, c45, c67);
     let bytes = call_words::unpack_labels(labels);
@@ -61,13 +61,13 @@ pub extern "C" fn watch32_offer(
 // Takes the first pending event that is decided on.
 #[unsafe(no_mangle)]
 pub extern "C" fn watch32_take(record: &mut [u8], window: &mut [u8], scratch: &mut [u8]) -> u64
-    ensures reply { result ≡ replyWord (takeCall 4 «record».old window.old
+    ensures reply { result ≡ reply_word (take_call 4 «record».old window.old
         scratch.old).answer }
-    ensures bytes { «record».new ≡ (takeCall 4 «record».old window.old
+    ensures bytes { «record».new ≡ (take_call 4 «record».old window.old
         scratch.old).bytes }
-    ensures window { window.new ≡ (takeCall 4 «record».old window.old
+    ensures window { window.new ≡ (take_call 4 «record».old window.old
         scratch.old).window }
-    ensures scratch { scratch.new ≡ (takeCall 4 «record».old window.old
+    ensures scratch { scratch.new ≡ (take_call 4 «record».old window.old
         scratch.old).scratch }
 {
     call_take::take(4, record, window, scratch)
@@ -76,7 +76,7 @@ pub extern "C" fn watch32_take(record: &mut [u8], window: &mut [u8], scratch: &m
 // Finds the place of the first kept frontier at which a line holds.
 #[unsafe(no_mangle)]
 pub extern "C" fn watch32_find(line: u64, record: &[u8], window: &[u8]) -> u64
-    ensures { result ≡ replyWord (findCall 4 line «record».now window.now) }
+    ensures { result ≡ reply_word (find_call 4 line «record».now window.now) }
 {
     call_find::find(4, line, record, window)
 }
@@ -84,11 +84,11 @@ pub extern "C" fn watch32_find(line: u64, record: &[u8], window: &[u8]) -> u64
 // Closes a process that will send no more.
 #[unsafe(no_mangle)]
 pub extern "C" fn watch32_close(process: u64, record: &mut [u8], window: &mut [u8]) -> u64
-    ensures reply { result ≡ replyWord (closeCall 4 process «record».old window.old).answer }
+    ensures reply { result ≡ reply_word (close_call 4 process «record».old window.old).answer }
     ensures bytes { «record».new
-        ≡ (closeCall 4 process «record».old window.old).bytes }
+        ≡ (close_call 4 process «record».old window.old).bytes }
     ensures window { window.new
-        ≡ (closeCall 4 process «record».old window.old).window }
+        ≡ (close_call 4 process «record».old window.old).window }
 {
     call_close::close(4, process, record, window)
 }
@@ -101,11 +101,11 @@ pub extern "C" fn watch_widen(
     record32: &mut [u8],
     window32: &mut [u8],
 ) -> u64
-    ensures reply { result ≡ (moveCall 2 4 «record».now window.now record32.old
+    ensures reply { result ≡ (move_call 2 4 «record».now window.now record32.old
         window32.old).number }
-    ensures bytes { record32.new ≡ (moveCall 2 4 «record».now window.now
+    ensures bytes { record32.new ≡ (move_call 2 4 «record».now window.now
         record32.old window32.old).bytes }
-    ensures window { window32.new ≡ (moveCall 2 4 «record».now window.now
+    ensures window { window32.new ≡ (move_call 2 4 «record».now window.now
         record32.old window32.old).window }
 {
     call_move::move_watch(2, 4, record, window, record32, window32)
@@ -115,9 +115,9 @@ pub extern "C" fn watch_widen(
 #[unsafe(no_mangle)]
 pub extern "C" fn watch32_page(record: &[u8], window: &[u8], page: &mut [u8]) -> u64
     ensures reply { result
-        ≡ resultWord (pageCall 4 «record».now window.now page.old).answer }
+        ≡ result_word (page_call 4 «record».now window.now page.old).answer }
     ensures page { page.new
-        ≡ (pageCall 4 «record».now window.now page.old).page }
+        ≡ (page_call 4 «record».now window.now page.old).page }
 {
     call_page::write_page(4, record, window, page)
 }
@@ -125,8 +125,8 @@ pub extern "C" fn watch32_page(record: &[u8], window: &[u8], page: &mut [u8]) ->
 // Writes the events of a busiest day into a list (02 [8]).
 #[unsafe(no_mangle)]
 pub extern "C" fn watch32_busiest(k: u64, n: u64, events: &mut [u8]) -> u64
-    ensures reply { result ≡ resultWord (busiestCall 4 k n events.old).answer }
-    ensures events { events.new ≡ (busiestCall 4 k n events.old).events }
+    ensures reply { result ≡ result_word (busiest_call 4 k n events.old).answer }
+    ensures events { events.new ≡ (busiest_call 4 k n events.old).events }
 {
     call_busiest::busiest(4, k, n, events)
 }
@@ -134,8 +134,8 @@ pub extern "C" fn watch32_busiest(k: u64, n: u64, events: &mut [u8]) -> u64
 // Writes the shares of watches into a pool (02 [10]).
 #[unsafe(no_mangle)]
 pub extern "C" fn watch32_set_shares(shares: &[u16], pool: &mut [u8]) -> u64
-    ensures reply { result ≡ resultWord (setShares shares.now pool.old).answer }
-    ensures pool { pool.new ≡ (setShares shares.now pool.old).pool }
+    ensures reply { result ≡ result_word (set_shares shares.now pool.old).answer }
+    ensures pool { pool.new ≡ (set_shares shares.now pool.old).pool }
 {
     call_shares::set_shares(shares, pool)
 }
@@ -151,13 +151,13 @@ pub extern "C" fn watch32_shared_open(
     pool: &mut [u8],
     number: u64,
 ) -> u64
-    ensures reply { result ≡ replyWord (sharedOpen 4 rule.now k (unpackLabels labels)
+    ensures reply { result ≡ reply_word (shared_open 4 rule.now k (unpack_labels labels)
         «record».old window.old pool.old number).call.answer }
-    ensures bytes { «record».new ≡ (sharedOpen 4 rule.now k (unpackLabels labels)
+    ensures bytes { «record».new ≡ (shared_open 4 rule.now k (unpack_labels labels)
         «record».old window.old pool.old number).call.bytes }
-    ensures window { window.new ≡ (sharedOpen 4 rule.now k (unpackLabels labels)
+    ensures window { window.new ≡ (shared_open 4 rule.now k (unpack_labels labels)
         «record».old window.old pool.old number).call.window }
-    ensures pool { pool.new ≡ (sharedOpen 4 rule.now k (unpackLabels labels)
+    ensures pool { pool.new ≡ (shared_open 4 rule.now k (unpack_labels labels)
         «record».old window.old pool.old number).pool }
 {
     let bytes = call_words::unpack_labels(labels);
@@ -173,15 +173,15 @@ pub extern "C" fn watch32_shared_take(
     pool: &mut [u8],
     number: u64,
 ) -> u64
-    ensures reply { result ≡ replyWord (sharedTake 4 «record».old window.old
+    ensures reply { result ≡ reply_word (shared_take 4 «record».old window.old
         scratch.old pool.old number).call.answer }
-    ensures bytes { «record».new ≡ (sharedTake 4 «record».old window.old
+    ensures bytes { «record».new ≡ (shared_take 4 «record».old window.old
         scratch.old pool.old number).call.bytes }
-    ensures window { window.new ≡ (sharedTake 4 «record».old window.old
+    ensures window { window.new ≡ (shared_take 4 «record».old window.old
         scratch.old pool.old number).call.window }
-    ensures scratch { scratch.new ≡ (sharedTake 4 «record».old window.old
+    ensures scratch { scratch.new ≡ (shared_take 4 «record».old window.old
         scratch.old pool.old number).call.scratch }
-    ensures pool { pool.new ≡ (sharedTake 4 «record».old window.old
+    ensures pool { pool.new ≡ (shared_take 4 «record».old window.old
         scratch.old pool.old number).pool }
 {
     call_shared::taking::take(4, record, window, scratch, pool, number)
@@ -196,13 +196,13 @@ pub extern "C" fn watch32_shared_close(
     pool: &mut [u8],
     number: u64,
 ) -> u64
-    ensures reply { result ≡ replyWord (sharedClose 4 process «record».old window.old
+    ensures reply { result ≡ reply_word (shared_close 4 process «record».old window.old
         pool.old number).call.answer }
-    ensures bytes { «record».new ≡ (sharedClose 4 process «record».old window.old
+    ensures bytes { «record».new ≡ (shared_close 4 process «record».old window.old
         pool.old number).call.bytes }
-    ensures window { window.new ≡ (sharedClose 4 process «record».old window.old
+    ensures window { window.new ≡ (shared_close 4 process «record».old window.old
         pool.old number).call.window }
-    ensures pool { pool.new ≡ (sharedClose 4 process «record».old window.old
+    ensures pool { pool.new ≡ (shared_close 4 process «record».old window.old
         pool.old number).pool }
 {
     call_shared::closing::close(4, process, record, window, pool, number)

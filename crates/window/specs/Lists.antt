@@ -8,22 +8,22 @@ use mathlib.Core.List.{Memᴰ}
 use Rattle.std.proofs.Math.Logic.{⊎_elim}
 use Rattle.window.specs.Step.{filtered}
 use Rattle.clocks.specs.Counts.{list_of}
-use Rattle.clocks.specs.stored.CountsLaws.{getD-listOf}
+use Rattle.clocks.specs.stored.CountsLaws.{get_d_list_of}
 
 module _ {A : Type 0} where
-  pub filtered-e : (t : A → Bool) (xs : List A) (x : A) → Memᴰ x (filtered t xs) → Memᴰ x xs × T (t x)
+  pub filtered_e : (t : A → Bool) (xs : List A) (x : A) → Memᴰ x (filtered t xs) → Memᴰ x xs × T (t x)
   unfolding filtered
-  filtered-e t [] x m = absurd (Memᴰ.not-nil m)
-  filtered-e t (y ∷ ys) x m = go (t y) refl (filtered-e t ys x) m
+  filtered_e t [] x m = absurd (Memᴰ.not_nil m)
+  filtered_e t (y ∷ ys) x m = go (t y) refl (filtered_e t ys x) m
     where
       go : (b : Bool) → t y ≡ b → (Memᴰ x (filtered t ys) → Memᴰ x ys × T (t x)) → Memᴰ x (cond b (y ∷ filtered t ys) (filtered t ys)) → Memᴰ x (y ∷ ys) × T (t x)
       go true e r m = ⊎_elim (λ s. (Memᴰ.head s, subst T (sym (ap t s ∙ e)) tt)) (λ k. let w = r k in (Memᴰ.tail w.0, w.1)) (Memᴰ.cases_cons m)
       go false e r m = let w = r m in (Memᴰ.tail w.0, w.1)
 
-  pub filtered-i : (t : A → Bool) (xs : List A) (x : A) → Memᴰ x xs → T (t x) → Memᴰ x (filtered t xs)
+  pub filtered_i : (t : A → Bool) (xs : List A) (x : A) → Memᴰ x xs → T (t x) → Memᴰ x (filtered t xs)
   unfolding filtered
-  filtered-i t [] x m h = absurd (Memᴰ.not-nil m)
-  filtered-i t (y ∷ ys) x m h = go (t y) refl (Memᴰ.cases_cons m) (λ k. filtered-i t ys x k h)
+  filtered_i t [] x m h = absurd (Memᴰ.not_nil m)
+  filtered_i t (y ∷ ys) x m h = go (t y) refl (Memᴰ.cases_cons m) (λ k. filtered_i t ys x k h)
     where
       go : (b : Bool) → t y ≡ b → (x ≡ y) ⊎ Memᴰ x ys → (Memᴰ x ys → Memᴰ x (filtered t ys)) → Memᴰ x (cond b (y ∷ filtered t ys) (filtered t ys))
       go true e (inl s) r = Memᴰ.head s
@@ -66,19 +66,19 @@ pub map-map : {A B C : Type 0} (g : B → C) (f : A → B) (xs : List A) → map
 map-map g f [] = refl
 map-map g f (x ∷ xs) = rw (map-map g f xs)
 
-pub getD-mapped : {A B : Type 0} (f : A → B) (xs : List A) (i : ℕ) (d : A) (e : B) → i < length xs → slice_index_or (map f xs) i e ≡ f (slice_index_or xs i d)
-getD-mapped f [] i d e l = absurd (omega arith)
-getD-mapped f (x ∷ xs) zero d e l = refl
-getD-mapped f (x ∷ xs) (suc i) d e l = getD-mapped f xs i d e (omega arith)
+pub get_d_mapped : {A B : Type 0} (f : A → B) (xs : List A) (i : ℕ) (d : A) (e : B) → i < length xs → slice_index_or (map f xs) i e ≡ f (slice_index_or xs i d)
+get_d_mapped f [] i d e l = absurd (omega arith)
+get_d_mapped f (x ∷ xs) zero d e l = refl
+get_d_mapped f (x ∷ xs) (suc i) d e l = get_d_mapped f xs i d e (omega arith)
 
-pub mapped-e : {A B : Type 0} (f : A → B) (xs : List A) (z : B) → Memᴰ z (map f xs) → (x : A) × Memᴰ x xs × (z ≡ f x)
-mapped-e f [] z m = absurd (Memᴰ.not-nil m)
-mapped-e {A} f (x ∷ xs) z m = ⊎_elim (λ q. (x, Memᴰ.head refl, q)) (λ k. let w = mapped-e f xs z k in (w.0, Memᴰ.tail w.1, w.2)) (Memᴰ.cases_cons m)
+pub mapped_e : {A B : Type 0} (f : A → B) (xs : List A) (z : B) → Memᴰ z (map f xs) → (x : A) × Memᴰ x xs × (z ≡ f x)
+mapped_e f [] z m = absurd (Memᴰ.not_nil m)
+mapped_e {A} f (x ∷ xs) z m = ⊎_elim (λ q. (x, Memᴰ.head refl, q)) (λ k. let w = mapped_e f xs z k in (w.0, Memᴰ.tail w.1, w.2)) (Memᴰ.cases_cons m)
 
-pub mapped-i : {A B : Type 0} (f : A → B) (xs : List A) (x : A) → Memᴰ x xs → Memᴰ (f x) (map f xs)
-mapped-i f [] x m = absurd (Memᴰ.not-nil m)
-mapped-i f (y ∷ ys) x m = ⊎_elim (λ q. Memᴰ.head (ap f q)) (λ k. Memᴰ.tail (mapped-i f ys x k)) (Memᴰ.cases_cons m)
+pub mapped_i : {A B : Type 0} (f : A → B) (xs : List A) (x : A) → Memᴰ x xs → Memᴰ (f x) (map f xs)
+mapped_i f [] x m = absurd (Memᴰ.not_nil m)
+mapped_i f (y ∷ ys) x m = ⊎_elim (λ q. Memᴰ.head (ap f q)) (λ k. Memᴰ.tail (mapped_i f ys x k)) (Memᴰ.cases_cons m)
 
 -- What was made for process p.
 pub made_at : {A : Type 0} (xs : List A) (f : ℕ → A) (d : A) (p : ℕ) → xs ≡ list_of 8 f → p < 8 → slice_index_or xs p d ≡ f p
-made_at {A} xs f d p e l = ap (λ (ys : List A). get_or ys p d) e ∙ getD-listOf 8 f p d l
+made_at {A} xs f d p e l = ap (λ (ys : List A). get_or ys p d) e ∙ get_d_list_of 8 f p d l

@@ -6,20 +6,20 @@ use Rattle.std.proofs.Math.Decide.{dec_lt}
 use Rattle.codec.specs.Bit.{bit}
 use Rattle.clocks.specs.Event.{one}
 use Rattle.frontiers.specs.declared.Frontier.{Frontier}
-use Rattle.frontiers.specs.Bytes.{frontierAt}
-use Rattle.window.specs.Step.{Setting, stays, enabledAt}
+use Rattle.frontiers.specs.Bytes.{frontier_at}
+use Rattle.window.specs.Step.{Setting, stays, enabled_at}
 
 -- 1 where the frontier stays, and 2 more where the event is enabled there.
 abbrev pub mark_of : Setting → Frontier → ℕ
-mark_of s f = one (stays s f) + 2 * one (enabledAt s f)
+mark_of s f = one (stays s f) + 2 * one (enabled_at s f)
 
 -- The first n frontiers of a window have their marks.
 abbrev pub Marked : Setting → ℕ → List ℕ → ℕ → List ℕ → Type 0
-Marked s w window n marks = (i : ℕ) → i < n → slice_index marks i ≡ mark_of s (frontierAt w window i)
+Marked s w window n marks = (i : ℕ) → i < n → slice_index marks i ≡ mark_of s (frontier_at w window i)
 
 -- A bit of the marks tells a test of the frontiers.
 abbrev pub Tells : ℕ → (Frontier → Bool) → ℕ → List ℕ → ℕ → List ℕ → Type 0
-Tells p t w window n marks = (i : ℕ) → i < n → t (frontierAt w window i) ≡ bit (slice_index marks i) p
+Tells p t w window n marks = (i : ℕ) → i < n → t (frontier_at w window i) ≡ bit (slice_index marks i) p
 
 -- ---- What the two bits of a mark say
 
@@ -30,30 +30,30 @@ staying-bit true false = refl
 staying-bit false true = refl
 staying-bit false false = refl
 
-enabled-bit : (a b : Bool) → b ≡ bit (one a + 2 * one b) 1
+enabled_bit : (a b : Bool) → b ≡ bit (one a + 2 * one b) 1
 unfolding bit
-enabled-bit true true = refl
-enabled-bit true false = refl
-enabled-bit false true = refl
-enabled-bit false false = refl
+enabled_bit true true = refl
+enabled_bit true false = refl
+enabled_bit false true = refl
+enabled_bit false false = refl
 
 module _ (s : Setting) (w : ℕ) (window : List ℕ) (n : ℕ) (marks : List ℕ) (M : Marked s w window n marks) where
-  pub tells-stays : Tells 0 (stays s) w window n marks
-  tells-stays i l = rw (M i l) (staying-bit (stays s (frontierAt w window i)) (enabledAt s (frontierAt w window i)))
+  pub tells_stays : Tells 0 (stays s) w window n marks
+  tells_stays i l = rw (M i l) (staying-bit (stays s (frontier_at w window i)) (enabled_at s (frontier_at w window i)))
 
-  pub tells-enabled : Tells 1 (enabledAt s) w window n marks
-  tells-enabled i l = rw (M i l) (enabled-bit (stays s (frontierAt w window i)) (enabledAt s (frontierAt w window i)))
+  pub tells_enabled : Tells 1 (enabled_at s) w window n marks
+  tells_enabled i l = rw (M i l) (enabled_bit (stays s (frontier_at w window i)) (enabled_at s (frontier_at w window i)))
 
 -- ---- One more mark
 
-pub marked-none : (s : Setting) (w : ℕ) (window marks : List ℕ) → Marked s w window 0 marks
-marked-none s w window marks i l = absurd (omega arith)
+pub marked_none : (s : Setting) (w : ℕ) (window marks : List ℕ) → Marked s w window 0 marks
+marked_none s w window marks i l = absurd (omega arith)
 
-pub marked_more : (s : Setting) (w : ℕ) (window : List ℕ) (n : ℕ) (marks : List ℕ) (v : ℕ) → n < length marks → v ≡ mark_of s (frontierAt w window n)
+pub marked_more : (s : Setting) (w : ℕ) (window : List ℕ) (n : ℕ) (marks : List ℕ) (v : ℕ) → n < length marks → v ≡ mark_of s (frontier_at w window n)
     → Marked s w window n marks → Marked s w window (n + 1) (slice_set marks n v)
 marked_more s w window n marks v h e M i l = go (dec_lt i n)
   where
-    go : Dec (i < n) → slice_index (slice_set marks n v) i ≡ mark_of s (frontierAt w window i)
+    go : Dec (i < n) → slice_index (slice_set marks n v) i ≡ mark_of s (frontier_at w window i)
     go (yes a) = get_or-set_other marks n i v 0 (λ q. omega arith) ∙ M i a
     go (no a) =
         let q : i ≡ n = omega arith in

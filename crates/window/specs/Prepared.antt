@@ -19,13 +19,13 @@ span_of u n = cond (u == 0) (4294967295 - n) 0
 abbrev pub bound : Bool → ℕ → ℕ → ℕ
 bound spans u n = cond spans (span_of u n) (lowest u n)
 
-abbrev pub boundCounts : Bool → Event → List ℕ
-boundCounts spans e = list_of 8 (λ p. bound spans (one (involved e p)) (count e p))
+abbrev pub bound_counts : Bool → Event → List ℕ
+bound_counts spans e = list_of 8 (λ p. bound spans (one (involved e p)) (count e p))
 
 -- Every process that takes part has a count above 0: else the event can be taken nowhere, and no span is that short.
 abbrev pub Counted : Event → Type 0
 Counted e = (p : ℕ) → p < 8 → involved e p ≡ true → 0 < count e p
 
 -- Which of the eight are among the k processes, and open.
-abbrev pub openOnes : ℕ → ℕ → List Bool
-openOnes k closed = list_of 8 (λ p. nat_lt p k && not (bit closed p))
+abbrev pub open_ones : ℕ → ℕ → List Bool
+open_ones k closed = list_of 8 (λ p. nat_lt p k && not (bit closed p))

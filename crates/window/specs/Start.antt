@@ -4,8 +4,8 @@ use Rattle.pactl.specs.declared.Line.{Line}
 use Rattle.pactl.specs.Judge.{judge}
 use Rattle.frontiers.specs.declared.Frontier.{Frontier}
 
-unfoldable pub startFrontier : (stored : ℕ) (labels : List ℕ) (table : List Line) → Frontier
-startFrontier stored labels table = record {
+unfoldable pub start_frontier : (stored : ℕ) (labels : List ℕ) (table : List Line) → Frontier
+start_frontier stored labels table = record {
   counts = replicate stored 0;
   labels = labels;
   masks = replicate stored 0;

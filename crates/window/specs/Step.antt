@@ -6,7 +6,7 @@ use Rattle.pactl.specs.declared.Line.{Line}
 use Rattle.clocks.specs.declared.Event.{Event}
 use Rattle.codec.specs.Bit.{bit}
 use Rattle.clocks.specs.Event.{Cut, involved, apply, minus}
-use Rattle.clocks.specs.Bounded.{all_below, anyBelow}
+use Rattle.clocks.specs.Bounded.{all_below, any_below}
 use Rattle.clocks.specs.Counts.{at, list_of}
 use Rattle.clocks.specs.Tested.{ready}
 use Rattle.pactl.specs.Judge.{judge}
@@ -28,18 +28,18 @@ pub record Setting : Type 0 where
 
 -- Counts that are kept, where so many processes are stored and k there are, by the mask of the closed ones and the
 -- taken counts: some open process has all its taken events there, or they are the largest (01: dropped; 02 [5]).
-abbrev pub keptBy : (stored k closed : ℕ) (reached counts : Cut) → Bool
-keptBy stored k closed reached counts =
-    anyBelow k (λ p. not (bit closed p) && counts p == reached p)
+abbrev pub kept_by : (stored k closed : ℕ) (reached counts : Cut) → Bool
+kept_by stored k closed reached counts =
+    any_below k (λ p. not (bit closed p) && counts p == reached p)
     || all_below stored (λ p. nat_eq (counts p) (reached p))
 
 -- The frontier is kept with the event taken.
 unfoldable pub stays : (s : Setting) (f : Frontier) → Bool
-stays s f = keptBy s.stored s.processes s.closed s.reached (at f.counts)
+stays s f = kept_by s.stored s.processes s.closed s.reached (at f.counts)
 
 -- The event is enabled at the frontier.
-unfoldable pub enabledAt : (s : Setting) (f : Frontier) → Bool
-enabledAt s f = ready s.stored s.event (at f.counts)
+unfoldable pub enabled_at : (s : Setting) (f : Frontier) → Bool
+enabled_at s f = ready s.stored s.event (at f.counts)
 
 -- The frontier that the event leads to, not judged yet: it carries the values of the one that it came from.
 unfoldable pub advanced : (s : Setting) (f : Frontier) → Frontier
@@ -62,22 +62,22 @@ pub data Slot : Type 0 where
   staying : (f : Frontier) → Slot
   fresh : (f : Frontier) → Slot
 
-unfoldable pub slotCounts : (slot : Slot) → List ℕ
-slotCounts (staying f) = f.counts
-slotCounts (fresh f) = f.counts
+unfoldable pub slot_counts : (slot : Slot) → List ℕ
+slot_counts (staying f) = f.counts
+slot_counts (fresh f) = f.counts
 
 -- x and what is merged after it, where y and those behind it may come first; x first where keys are equal.
-unfoldable pub mergeInto : {A : Type 0} → (key : A → List ℕ) (x : A) (rest : List A → List A) → (xs : List A) → List A
-mergeInto key x rest [] = x ∷ rest []
-mergeInto key x rest (y ∷ ys) = cond (before (key y) (key x)) (y ∷ mergeInto key x rest ys) (x ∷ rest (y ∷ ys))
+unfoldable pub merge_into : {A : Type 0} → (key : A → List ℕ) (x : A) (rest : List A → List A) → (xs : List A) → List A
+merge_into key x rest [] = x ∷ rest []
+merge_into key x rest (y ∷ ys) = cond (before (key y) (key x)) (y ∷ merge_into key x rest ys) (x ∷ rest (y ∷ ys))
 
 -- Two lists in one, by their keys; the first list's elements first where keys are equal.
 unfoldable pub merge : {A : Type 0} → (key : A → List ℕ) → (xs : List A) → (ys : List A) → List A
 merge key [] ys = ys
-merge key (x ∷ xs) ys = mergeInto key x (merge key xs) ys
+merge key (x ∷ xs) ys = merge_into key x (merge key xs) ys
 
 unfoldable pub slots : (s : Setting) (fs : List Frontier) → List Slot
-slots s fs = merge slotCounts (map staying (filtered (stays s) fs)) (map (λ f. fresh (advanced s f)) (filtered (enabledAt s) fs))
+slots s fs = merge slot_counts (map staying (filtered (stays s) fs)) (map (λ f. fresh (advanced s f)) (filtered (enabled_at s) fs))
 
 -- ---- Judging a new frontier
 
@@ -94,20 +94,20 @@ unfoldable pub sought : (s : Setting) (g : Frontier) (p : ℕ) → Bool
 sought s g p = not (involved s.event p) && (not (slice_index g.masks p == 0) && count_trailing_zeros s.stored (slice_index g.masks p) == p)
 
 -- The counts of the new frontier less that event.
-unfoldable pub withoutLast : (s : Setting) (g : Frontier) (p : ℕ) → List ℕ
-withoutLast s g p = list_of s.stored (minus (slice_index g.masks p) (at g.counts))
+unfoldable pub without_last : (s : Setting) (g : Frontier) (p : ℕ) → List ℕ
+without_last s g p = list_of s.stored (minus (slice_index g.masks p) (at g.counts))
 
 -- The values of a frontier among those laid down.
-abbrev pub valuesAt : (laid : List Frontier) (i : ℕ) → ℕ
-valuesAt laid i = slice_index (map (λ f. f.values) laid) i
+abbrev pub values_at : (laid : List Frontier) (i : ℕ) → ℕ
+values_at laid i = slice_index (map (λ f. f.values) laid) i
 
 -- Process p is considered: looked up from its hint, and counted in where it is found; its next look-up begins behind
 -- that place.
 unfoldable pub consider : (s : Setting) (laid : List Frontier) (g : Frontier) (p : ℕ) (w : Gathered) → Gathered
 consider s laid g p w =
-    let place = seek (keys_of laid) (withoutLast s g p) (slice_index w.hints p) in
+    let place = seek (keys_of laid) (without_last s g p) (slice_index w.hints p) in
     cond (sought s g p && nat_lt place (length laid))
-    (record { ors = bit_or w.ors (valuesAt laid place); ands = bit_and w.ands (valuesAt laid place); hints = slice_set w.hints p (place + 1) })
+    (record { ors = bit_or w.ors (values_at laid place); ands = bit_and w.ands (values_at laid place); hints = slice_set w.hints p (place + 1) })
     w
 
 -- The first n processes are considered; the frontier that g came from precedes it always.
@@ -116,8 +116,8 @@ gathered s laid hints g zero = record { ors = g.values; ands = g.values; hints =
 gathered s laid hints g (suc p) = consider s laid g p (gathered s laid hints g p)
 
 -- A new frontier, judged by what was gathered.
-unfoldable pub judgedBy : (s : Setting) (g : Frontier) (w : Gathered) → Frontier
-judgedBy s g w = record { counts = g.counts; labels = g.labels; masks = g.masks; values = judge g.labels w.ors w.ands true s.table }
+unfoldable pub judged_by : (s : Setting) (g : Frontier) (w : Gathered) → Frontier
+judged_by s g w = record { counts = g.counts; labels = g.labels; masks = g.masks; values = judge g.labels w.ors w.ands true s.table }
 
 -- ---- Laying down
 unfoldable pub lay : (s : Setting) (laid : List Frontier) (hints : List ℕ) (rest : List Slot) → List Frontier
@@ -125,16 +125,16 @@ lay s laid hints [] = laid
 lay s laid hints (staying f ∷ rest) = lay s (laid ++ (f ∷ [])) hints rest
 lay s laid hints (fresh g ∷ rest) =
     let w = gathered s laid hints g s.processes in
-    lay s (laid ++ (judgedBy s g w ∷ [])) w.hints rest
+    lay s (laid ++ (judged_by s g w ∷ [])) w.hints rest
 
 -- The frontiers after the event.
 unfoldable pub stepped : (s : Setting) (fs : List Frontier) → List Frontier
 stepped s fs = lay s [] (replicate s.stored 0) (slots s fs)
 
 -- How many frontiers there are after the event.
-unfoldable pub keptAfter : (s : Setting) (fs : List Frontier) → ℕ
-keptAfter s fs = length (filtered (stays s) fs) + length (filtered (enabledAt s) fs)
+unfoldable pub kept_after : (s : Setting) (fs : List Frontier) → ℕ
+kept_after s fs = length (filtered (stays s) fs) + length (filtered (enabled_at s) fs)
 
 -- They fit where so many are allowed. (An empty window fits nowhere: 0 kept would read as nothing ready.)
 unfoldable pub fits : (s : Setting) (allowed : ℕ) (fs : List Frontier) → Bool
-fits s allowed fs = nat_lt 0 (keptAfter s fs) && nat_le (keptAfter s fs) allowed
+fits s allowed fs = nat_lt 0 (kept_after s fs) && nat_le (kept_after s fs) allowed

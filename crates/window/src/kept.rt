@@ -4,8 +4,8 @@ ghost use Rattle.std.specs.Prelude.{◌≡◌, ℕ, ◌≤◌, List, length};
 ghost use Rattle.clocks.specs.Event.{one};
 ghost use Rattle.frontiers.specs.Width.{Width};
 ghost use Rattle.frontiers.specs.Bytes.{frontiers};
-ghost use Rattle.window.specs.Step.{keptAfter};
-ghost use Rattle.window.specs.StepCode.{settingWith};
+ghost use Rattle.window.specs.Step.{kept_after};
+ghost use Rattle.window.specs.StepCode.{setting_with};
 ghost use Rattle.window.specs.Room.{RoomFor};
 ghost use Rattle.window.specs.Marks.{Marked};
 ghost use Rattle.window.specs.Prepared.{Counted};
@@ -35,9 +35,9 @@ pub fn count_after(
     requires k_bound { k ≤ 8 }
     requires n_in_bounds { n ≤ length marks.old }
     requires counted { Counted e }
-    ensures by_index { (table : List ℕ) (lines : ℕ) → result ≡ keptAfter (settingWith k closed table lines e reached) (frontiers w window.now n) }
+    ensures by_index { (table : List ℕ) (lines : ℕ) → result ≡ kept_after (setting_with k closed table lines e reached) (frontiers w window.now n) }
     ensures upper_bound { result ≤ 2048 }
-    ensures by_index_2 { (table : List ℕ) (lines : ℕ) → Marked (settingWith k closed table lines e reached) w window.now n marks.new }
+    ensures by_index_2 { (table : List ℕ) (lines : ℕ) → Marked (setting_with k closed table lines e reached) w window.now n marks.new }
 {
     let low = crate::prepared::bound_counts(e, false);
     let span = crate::prepared::bound_counts(e, true);

@@ -4,10 +4,10 @@ ghost use Rattle.std.specs.Prelude.{◌≡◌, ℕ, ◌<◌, ◌≤◌, Bool, tr
 ghost use Rattle.codec.specs.Bit.{bit};
 ghost use Rattle.clocks.specs.Counts.{at};
 ghost use Rattle.clocks.specs.Event.{one};
-ghost use Rattle.clocks.specs.Tested.{readyAt, ready};
+ghost use Rattle.clocks.specs.Tested.{ready_at, ready};
 ghost use Rattle.clocks.specs.declared.Event as event;
-ghost use Rattle.window.specs.StepCode.{complete, staysWith};
-ghost use Rattle.window.specs.Prepared.{lowest, span_of, bound, boundCounts, Counted, openOnes};
+ghost use Rattle.window.specs.StepCode.{complete, stays_with};
+ghost use Rattle.window.specs.Prepared.{lowest, span_of, bound, bound_counts, Counted, open_ones};
 
 use clocks::Event;
 
@@ -48,7 +48,7 @@ fn bound_count(spans: bool, part: u32, n: u32) -> u32
 
 // The lowest counts at which the event is enabled, or their spans.
 pub fn bound_counts(e: Event, spans: bool) -> [u32; 8]
-    ensures { result ≡ boundCounts spans e }
+    ensures { result ≡ bound_counts spans e }
 {
     let mask = e.mask as u64;
     let mut out = [0u32; 8];
@@ -65,14 +65,14 @@ pub fn bound_counts(e: Event, spans: bool) -> [u32; 8]
 // one comparison does, where two kept the compiler from testing eight counts of four bytes at once.
 fn between(low: u32, span: u32, c: u32) -> bool
     ensures { (involved : Bool) (n : ℕ) → (involved ≡ true → 0 < n) → low ≡ lowest (one involved) n
-        → span ≡ span_of (one involved) n → result ≡ readyAt involved n c }
+        → span ≡ span_of (one involved) n → result ≡ ready_at involved n c }
 {
     std::num::wrapping_sub_u32(c, low) <= span
 }
 
 // Whether the event is enabled at the counts, by its lowest and their spans.
 pub fn within(low: [u32; 8], span: [u32; 8], counts: [u32; 8]) -> bool
-    ensures { (e : event.Event) → Counted e → low ≡ boundCounts false e → span ≡ boundCounts true e
+    ensures { (e : event.Event) → Counted e → low ≡ bound_counts false e → span ≡ bound_counts true e
         → result ≡ ready 8 e (at counts) }
 {
     let mut all = true;
@@ -93,7 +93,7 @@ fn is_open(p: u32, k: u32, closed: bool) -> bool
 
 // The open ones of k processes.
 pub fn open_ones(k: u32, closed: u64) -> [bool; 8]
-    ensures { result ≡ openOnes k closed }
+    ensures { result ≡ open_ones k closed }
 {
     let mut out = [false; 8];
     let mut p: u32 = 0;
@@ -114,7 +114,7 @@ fn complete_there(opened: bool, count: u32, taken: u32) -> bool
 
 // Whether some open process has all its taken events in the counts.
 fn some_complete(opens: [bool; 8], reached: [u32; 8], counts: [u32; 8]) -> bool
-    ensures { (k closed : ℕ) → k ≤ 8 → opens ≡ openOnes k closed → result ≡ complete k closed reached counts }
+    ensures { (k closed : ℕ) → k ≤ 8 → opens ≡ open_ones k closed → result ≡ complete k closed reached counts }
 {
     let mut some = false;
     let mut p = 0;
@@ -127,7 +127,7 @@ fn some_complete(opens: [bool; 8], reached: [u32; 8], counts: [u32; 8]) -> bool
 
 // Whether a frontier with these counts stays.
 pub fn stays(opens: [bool; 8], reached: [u32; 8], counts: [u32; 8]) -> bool
-    ensures { (k closed : ℕ) → k ≤ 8 → opens ≡ openOnes k closed → result ≡ staysWith k closed reached counts }
+    ensures { (k closed : ℕ) → k ≤ 8 → opens ≡ open_ones k closed → result ≡ stays_with k closed reached counts }
 {
     if some_complete(opens, reached, counts) {
         return true;

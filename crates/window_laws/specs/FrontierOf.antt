@@ -4,8 +4,8 @@ use Rattle.std.specs.Prelude.{ℕ, zero, suc, Bool, T, length}
 use mathlib.Core.List.{List, [], ◌∷◌, Memᴰ}
 use Rattle.pactl.specs.declared.Line.{Line}
 use Rattle.clocks.specs.declared.Event.{Event}
-use Rattle.pactl.specs.Judge.{withBit}
-use Rattle.pactl.specs.Truth.{Model, lineTruth}
+use Rattle.pactl.specs.Judge.{with_bit}
+use Rattle.pactl.specs.Truth.{Model, line_truth}
 use Rattle.clocks.specs.History.{mask_of, label_of}
 use Rattle.clocks.specs.Event.{Cut}
 use Rattle.clocks.specs.Counts.{list_of}
@@ -22,21 +22,21 @@ pub record World : Type 0 where
   pub table : List Line
 
 -- The model in which the rule is judged after a history.
-abbrev pub modelOf : (W : World) (ts : List Event) → Model
-modelOf W ts = record { processes = W.processes; start = W.start; history = ts }
+abbrev pub model_of : (W : World) (ts : List Event) → Model
+model_of W ts = record { processes = W.processes; start = W.start; history = ts }
 
 -- The word whose bit i is a test at i, for the first n; the rest 0 (01: values).
 unfoldable pub word_of : (n : ℕ) (t : ℕ → Bool) → ℕ
 word_of zero t = 0
-word_of (suc i) t = withBit (word_of i t) i (t i)
+word_of (suc i) t = with_bit (word_of i t) i (t i)
 
 -- The frontier of a cut.
-unfoldable pub frontierOf : (W : World) (ts : List Event) (S : Cut) → Frontier
-frontierOf W ts S = record {
+unfoldable pub frontier_of : (W : World) (ts : List Event) (S : Cut) → Frontier
+frontier_of W ts S = record {
   counts = list_of W.stored S;
   labels = list_of W.stored (λ p. label_of W.start ts p (S p));
   masks = list_of W.stored (λ p. mask_of ts p (S p));
-  values = word_of (length W.table) (λ i. lineTruth (modelOf W ts) W.table i S);
+  values = word_of (length W.table) (λ i. line_truth (model_of W ts) W.table i S);
 }
 
 -- Elements in strictly ascending order of their keys, so each once.

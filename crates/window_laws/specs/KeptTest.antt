@@ -8,10 +8,10 @@ use Rattle.clocks.specs.declared.Event.{Event}
 use Rattle.clocks.specs.Event.{Cut}
 use Rattle.clocks.specs.History.{taken}
 use Rattle.clocks.specs.Kept.{Kept}
-use Rattle.clocks.specs.Bounded.{all_below, anyBelow}
+use Rattle.clocks.specs.Bounded.{all_below, any_below}
 use Rattle.clocks.specs.cuts.EventLaws.{true-T}
-use Rattle.clocks.specs.stored.BoundedLaws.{and_i, and_l, and_r, or_l, or_r, or-e, all-i, all-e, any-i, any-e}
-use Rattle.window.specs.Step.{keptBy}
+use Rattle.clocks.specs.stored.BoundedLaws.{and_i, and_l, and_r, or_l, or_r, or_e, all_i, all_e, any_i, any_e}
+use Rattle.window.specs.Step.{kept_by}
 
 -- A cut of which n counts are stored; the others are 0.
 abbrev pub SilentFrom : ℕ → Cut → Type 0
@@ -26,12 +26,12 @@ module _ (n k closed : ℕ) (ts : List Event) (S : Cut) (silent : SilentFrom n S
   same_at p = eqb (S p) (taken ts p)
 
   largest : T (all_below n same_at) → (p : ℕ) → Dec (p < n) → S p ≡ taken ts p
-  largest t p (yes l) = eqb→eq (S p) (taken ts p) (all-e n same_at t p l)
+  largest t p (yes l) = eqb→eq (S p) (taken ts p) (all_e n same_at t p l)
   largest t p (no l) = silent p (omega arith) ∙ sym (all-silent p (omega arith))
 
-  there : T (keptBy n k closed (taken ts) S) → Kept k (λ p. not (bit closed p)) ts S
+  there : T (kept_by n k closed (taken ts) S) → Kept k (λ p. not (bit closed p)) ts S
   there t = ⊎_elim
-      (λ a. let w = any-e k complete-at a in
+      (λ a. let w = any_e k complete-at a in
       let p = w.0 in inl (
         p,
         w.1,
@@ -39,16 +39,16 @@ module _ (n k closed : ℕ) (ts : List Event) (S : Cut) (silent : SilentFrom n S
         eqb→eq (S p) (taken ts p) (and_r (not (bit closed p)) (eqb (S p) (taken ts p)) w.2),
       ))
       (λ a. inr (fun_ext (λ p. largest a p (dec_lt p n))))
-      (or-e (anyBelow k complete-at) (all_below n same_at) t)
+      (or_e (any_below k complete-at) (all_below n same_at) t)
 
-  back : Kept k (λ p. not (bit closed p)) ts S → T (keptBy n k closed (taken ts) S)
+  back : Kept k (λ p. not (bit closed p)) ts S → T (kept_by n k closed (taken ts) S)
   back (inl w) =
       let p = w.0 in
-      or_l (anyBelow k complete-at) (all_below n same_at)
-      (any-i k complete-at p w.1
+      or_l (any_below k complete-at) (all_below n same_at)
+      (any_i k complete-at p w.1
       (and_i (not (bit closed p)) (eqb (S p) (taken ts p)) w.2 (true-T (eq-eqb (S p) (taken ts p) w.3))))
-  back (inr q) = or_r (anyBelow k complete-at) (all_below n same_at)
-      (all-i n same_at (λ p l. true-T (eq-eqb (S p) (taken ts p) (ap (λ (R : Cut). R p) q))))
+  back (inr q) = or_r (any_below k complete-at) (all_below n same_at)
+      (all_i n same_at (λ p l. true-T (eq-eqb (S p) (taken ts p) (ap (λ (R : Cut). R p) q))))
 
-  pub kept_test : T (keptBy n k closed (taken ts) S) ↔ Kept k (λ p. not (bit closed p)) ts S
+  pub kept_test : T (kept_by n k closed (taken ts) S) ↔ Kept k (λ p. not (bit closed p)) ts S
   kept_test = (there, back)

@@ -4,14 +4,14 @@ use Rattle.std.specs.Prelude.{ℕ, ◌≤◌, ◌<◌, ◌≡◌, Bool, true, no
 use mathlib.Core.List.{List, ◌∷◌, map, Memᴰ}
 use Rattle.clocks.specs.declared.Event.{Event}
 use Rattle.codec.specs.Bit.{bit}
-use Rattle.pactl.specs.Table.{goodTable}
+use Rattle.pactl.specs.Table.{good_table}
 use Rattle.clocks.specs.History.{taken}
 use Rattle.clocks.specs.Event.{Cut}
 use Rattle.clocks.specs.Kept.{KeptCut}
 use Rattle.clocks.specs.Valid.{History, ClockRule}
 use Rattle.frontiers.specs.declared.Frontier.{Frontier}
 use Rattle.window.specs.Step.{Setting}
-use Rattle.window_laws.specs.FrontierOf.{World, frontierOf, Sorted}
+use Rattle.window_laws.specs.FrontierOf.{World, frontier_of, Sorted}
 
 -- The processes that are open.
 abbrev pub open_in : (W : World) (p : ℕ) → Bool
@@ -24,7 +24,7 @@ KeptIn W ts S = KeptCut W.processes (open_in W) ts S
 -- The frontiers are those of the kept cuts.
 pub record Represents (W : World) (ts : List Event) (fs : List Frontier) : Type 0 where
   pub cuts : List Cut
-  pub are : fs ≡ map (frontierOf W ts) cuts
+  pub are : fs ≡ map (frontier_of W ts) cuts
   pub sorted : Sorted W.stored cuts
   pub kept : (S : Cut) → Memᴰ S cuts → KeptIn W ts S
   pub complete : (S : Cut) → KeptIn W ts S → Memᴰ S cuts
@@ -42,8 +42,8 @@ setting_of W ts e = record {
 
 -- What is asked of a world and a history under a rule for valid clocks.
 pub record Proper (W : World) (valid : List Event → Event → Type 0) (ts : List Event) : Type 0 where
-  pub some-process : 0 < W.processes
+  pub some_process : 0 < W.processes
   pub room : W.processes ≤ W.stored
   pub rule : ClockRule W.processes valid
-  pub by-rule : History W.processes valid ts
-  pub good : goodTable W.processes W.table ≡ true
+  pub by_rule : History W.processes valid ts
+  pub good : good_table W.processes W.table ≡ true

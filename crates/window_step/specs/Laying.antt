@@ -7,8 +7,8 @@ use Rattle.clocks.specs.Counts.{at, list_of}
 use Rattle.clocks.specs.Tested.{ready}
 use Rattle.frontiers.specs.declared.Frontier.{Frontier}
 use Rattle.lookup.specs.Order.{before}
-use Rattle.frontiers.specs.Bytes.{frontierAt, frontiers}
-use Rattle.window.specs.Step.{Setting, Slot, staying, fresh, slotCounts, merge, advanced, stays, enabledAt, filtered, lay, stepped}
+use Rattle.frontiers.specs.Bytes.{frontier_at, frontiers}
+use Rattle.window.specs.Step.{Setting, Slot, staying, fresh, slot_counts, merge, advanced, stays, enabled_at, filtered, lay, stepped}
 
 -- The event is enabled at a frontier, by its counts.
 abbrev pub takes : Event → Frontier → Bool
@@ -20,24 +20,24 @@ rest_of t w window n i = filtered t (drop i (frontiers w window n))
 
 -- The slots of frontiers that stay and of frontiers that the event leads on from.
 abbrev pub slots_of : Setting → List Frontier → List Frontier → List Slot
-slots_of s xs ys = merge slotCounts (map staying xs) (map (λ f. fresh (advanced s f)) ys)
+slots_of s xs ys = merge slot_counts (map staying xs) (map (λ f. fresh (advanced s f)) ys)
 
 -- The next one to be laid down is a new one.
-unfoldable pub freshFirst : Setting → List Frontier → List Frontier → Bool
-freshFirst s xs [] = false
-freshFirst s [] (y ∷ ys) = true
-freshFirst s (x ∷ xs) (y ∷ ys) = before (advanced s y).counts x.counts
+unfoldable pub fresh_first : Setting → List Frontier → List Frontier → Bool
+fresh_first s xs [] = false
+fresh_first s [] (y ∷ ys) = true
+fresh_first s (x ∷ xs) (y ∷ ys) = before (advanced s y).counts x.counts
 
 -- The same by places: i is the next that stays, j the next that the event leads on from; n for none.
-abbrev pub freshAt : Event → ℕ → List ℕ → ℕ → ℕ → ℕ → Bool
-freshAt e w window n i j =
-    cond (ltb j n) (cond (ltb i n) (before (list_of 8 (apply e (at (frontierAt w window j).counts))) (frontierAt w window i).counts) true) false
+abbrev pub fresh_at : Event → ℕ → List ℕ → ℕ → ℕ → ℕ → Bool
+fresh_at e w window n i j =
+    cond (ltb j n) (cond (ltb i n) (before (list_of 8 (apply e (at (frontier_at w window j).counts))) (frontier_at w window i).counts) true) false
 
 -- m frontiers are laid down, and what is left leads to the frontiers after the event.
 pub record Laying (s : Setting) (w : ℕ) (window : List ℕ) (n kept : ℕ) (laid : List Frontier) (hints : List ℕ) (i j m : ℕ) : Type 0 where
-  pub staying-within : i ≤ n
-  pub staying-here : i < n → stays s (frontierAt w window i) ≡ true
-  pub leading-within : j ≤ n
-  pub leading-here : j < n → enabledAt s (frontierAt w window j) ≡ true
-  pub counted : m + (length (rest_of (stays s) w window n i) + length (rest_of (enabledAt s) w window n j)) ≡ kept
-  pub going : lay s laid hints (slots_of s (rest_of (stays s) w window n i) (rest_of (enabledAt s) w window n j)) ≡ stepped s (frontiers w window n)
+  pub staying_within : i ≤ n
+  pub staying_here : i < n → stays s (frontier_at w window i) ≡ true
+  pub leading_within : j ≤ n
+  pub leading_here : j < n → enabled_at s (frontier_at w window j) ≡ true
+  pub counted : m + (length (rest_of (stays s) w window n i) + length (rest_of (enabled_at s) w window n j)) ≡ kept
+  pub going : lay s laid hints (slots_of s (rest_of (stays s) w window n i) (rest_of (enabled_at s) w window n j)) ≡ stepped s (frontiers w window n)

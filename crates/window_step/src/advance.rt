@@ -5,21 +5,21 @@ ghost use Rattle.codec.specs.Bit.{bit};
 ghost use Rattle.clocks.specs.Counts.{at, list_of};
 ghost use Rattle.clocks.specs.Tested.{ready};
 ghost use Rattle.window.specs.Step.{Setting, advanced as advancedBy};
-ghost use Rattle.window_step.specs.FullBytes.{fullByte, fullBytes};
+ghost use Rattle.window_step.specs.FullBytes.{full_byte, full_bytes};
 
 use clocks::Event;
 use frontiers::Frontier;
 
 // The first of two bytes where the chooser is full, the second where it is empty.
 fn chosen(full: u8, a: u8, b: u8) -> u8
-    ensures { (first : Bool) → full ≡ fullByte first → result ≡ cond first a b }
+    ensures { (first : Bool) → full ≡ full_byte first → result ≡ cond first a b }
 {
     (a & full) | (b & (255 ^ full))
 }
 
 // A full byte for yes, an empty one for no.
 fn full_byte(t: bool) -> u8
-    ensures { result ≡ fullByte t }
+    ensures { result ≡ full_byte t }
 {
     if t { 255 } else { 0 }
 }
@@ -27,7 +27,7 @@ fn full_byte(t: bool) -> u8
 // Full bytes at the processes in a mask, empty ones at the others: a step makes them once, to choose by at each new
 // frontier.
 pub fn full_bytes(mask: u8) -> [u8; 8]
-    ensures { result ≡ fullBytes mask }
+    ensures { result ≡ full_bytes mask }
 {
     let word = mask as u64;
     let mut out = [0u8; 8];
@@ -42,7 +42,7 @@ pub fn full_bytes(mask: u8) -> [u8; 8]
 
 // New bytes at the processes in a mask, the old ones at the others: the mask by its full bytes.
 fn renewed(full: [u8; 8], news: [u8; 8], olds: [u8; 8]) -> [u8; 8]
-    ensures { (mask : ℕ) → full ≡ fullBytes mask → result ≡ list_of 8 (λ p. cond (bit mask p) (get_or news p 0) (get_or olds p 0)) }
+    ensures { (mask : ℕ) → full ≡ full_bytes mask → result ≡ list_of 8 (λ p. cond (bit mask p) (get_or news p 0) (get_or olds p 0)) }
 {
     let mut out = [0u8; 8];
     let mut p = 0;
@@ -55,7 +55,7 @@ fn renewed(full: [u8; 8], news: [u8; 8], olds: [u8; 8]) -> [u8; 8]
 
 // The frontier that the event leads to: it has the values of the one that it came from.
 pub fn advanced(e: Event, full: [u8; 8], f: Frontier) -> Frontier
-    requires full_value { full ≡ fullBytes e.mask }
+    requires full_value { full ≡ full_bytes e.mask }
     requires t { T (ready 8 e (at f.counts)) }
     ensures { (s : Setting) → s.stored ≡ 8 → s.event ≡ e → result ≡ advancedBy s f }
 {

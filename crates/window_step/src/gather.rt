@@ -5,7 +5,7 @@ ghost use Rattle.frontiers.specs.Width.{Width};
 ghost use Rattle.frontiers.specs.Bytes.{frontiers};
 ghost use Rattle.window.specs.Step.{Setting, gathered};
 ghost use Rattle.window.specs.Room.{RoomFor};
-ghost use Rattle.window_step.specs.Gathering.{soughtWith, gatheredOf};
+ghost use Rattle.window_step.specs.Gathering.{sought_with, gathered_of};
 
 use crate::Found;
 use frontiers::Frontier;
@@ -14,7 +14,7 @@ use frontiers::Frontier;
 // processes.
 fn is_sought(mask: u8, last: u8, p: u32) -> bool
     requires { p < 8 }
-    ensures { result ≡ soughtWith mask last p }
+    ensures { result ≡ sought_with mask last p }
 {
     let word = mask as u64;
     if codec::has_bit(word, p) {
@@ -40,7 +40,7 @@ pub fn gather(
     requires width { Width w }
     requires room_for { RoomFor w m scratch.now }
     requires k_bound { k ≤ 8 }
-    ensures { (s : Setting) → s.stored ≡ 8 → s.event.mask ≡ mask → gatheredOf result ≡ gathered s (frontiers w scratch.now m) hints g k }
+    ensures { (s : Setting) → s.stored ≡ 8 → s.event.mask ≡ mask → gathered_of result ≡ gathered s (frontiers w scratch.now m) hints g k }
 {
     let mut ors = g.values;
     let mut ands = g.values;

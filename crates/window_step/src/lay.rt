@@ -4,12 +4,12 @@ ghost use Rattle.std.specs.Prelude.{◌+◌, ◌*◌, ◌≤◌, ◌≡◌, [], 
 ghost use Rattle.clocks.specs.Counts.{at};
 ghost use Rattle.clocks.specs.Tested.{ready};
 ghost use Rattle.frontiers.specs.Width.{Width};
-ghost use Rattle.frontiers.specs.Bytes.{frontierAt, frontiers};
+ghost use Rattle.frontiers.specs.Bytes.{frontier_at, frontiers};
 ghost use Rattle.window.specs.StepCode.{Fitting};
 ghost use Rattle.window.specs.Room.{PlaceFor};
 ghost use Rattle.window_step.specs.Fixed.{setting_of};
-ghost use Rattle.window_step.specs.FullBytes.{fullBytes};
-ghost use Rattle.window_step.specs.Gathering.{freshFrom, hintsFrom};
+ghost use Rattle.window_step.specs.FullBytes.{full_bytes};
+ghost use Rattle.window_step.specs.Gathering.{fresh_from, hints_from};
 
 use crate::Stepping;
 use frontiers::Frontier;
@@ -19,7 +19,7 @@ pub fn lay_staying(window: &[u8], scratch: &mut [u8], w: usize, i: usize, m: usi
     requires width { Width w }
     requires place_for { PlaceFor w i window.now }
     requires place_for_2 { PlaceFor w m scratch.old }
-    ensures { frontiers w scratch.new (m + 1) ≡ frontiers w scratch.old m ++ (frontierAt w window.now i ∷ []) }
+    ensures { frontiers w scratch.new (m + 1) ≡ frontiers w scratch.old m ++ (frontier_at w window.now i ∷ []) }
 {
     let f = frontiers::stored::frontier_at(window, w, i);
     frontiers::stored::lay_frontier(scratch, w, m, f);
@@ -43,10 +43,10 @@ pub fn lay_fresh(
     requires place_for_2 { PlaceFor fixed.w m scratch.old }
     requires lines_bound { (fixed.lines ≤ 64) × (3 * fixed.lines ≤ length table.now) }
     requires k_bound { fixed.k ≤ 8 }
-    requires t { T (ready 8 fixed.event (at (frontierAt fixed.w window.now j).counts)) }
-    requires full_value { full ≡ fullBytes fixed.event.mask }
-    ensures value { result ≡ hintsFrom (setting_of fixed table.now) (frontiers fixed.w scratch.old m) hints (frontierAt fixed.w window.now j) }
-    ensures m_after { frontiers fixed.w scratch.new (m + 1) ≡ frontiers fixed.w scratch.old m ++ (freshFrom (setting_of fixed table.now) (frontiers fixed.w scratch.old m) hints (frontierAt fixed.w window.now j) ∷ []) }
+    requires t { T (ready 8 fixed.event (at (frontier_at fixed.w window.now j).counts)) }
+    requires full_value { full ≡ full_bytes fixed.event.mask }
+    ensures value { result ≡ hints_from (setting_of fixed table.now) (frontiers fixed.w scratch.old m) hints (frontier_at fixed.w window.now j) }
+    ensures m_after { frontiers fixed.w scratch.new (m + 1) ≡ frontiers fixed.w scratch.old m ++ (fresh_from (setting_of fixed table.now) (frontiers fixed.w scratch.old m) hints (frontier_at fixed.w window.now j) ∷ []) }
 {
     let w = fixed.w;
     let e = fixed.event;

@@ -4,12 +4,12 @@ ghost use Rattle.std.specs.Prelude.{ℕ, ◌+◌, ◌*◌, ◌≤◌, ◌<◌, �
 ghost use Rattle.codec.specs.Bit.{bit};
 ghost use Rattle.frontiers.specs.declared.Frontier.{Frontier};
 ghost use Rattle.frontiers.specs.Width.{Width};
-ghost use Rattle.frontiers.specs.Bytes.{frontierAt, frontiers};
-ghost use Rattle.window.specs.Step.{keptAfter};
+ghost use Rattle.frontiers.specs.Bytes.{frontier_at, frontiers};
+ghost use Rattle.window.specs.Step.{kept_after};
 ghost use Rattle.window.specs.StepCode.{Fitting};
 ghost use Rattle.window.specs.Room.{RoomFor};
-ghost use Rattle.window_step.specs.Fixed.{setting_of, frontiersOf, steppedOf};
-ghost use Rattle.window_step.specs.Laying.{takes, rest_of, freshAt};
+ghost use Rattle.window_step.specs.Fixed.{setting_of, frontiers_of, stepped_of};
+ghost use Rattle.window_step.specs.Laying.{takes, rest_of, fresh_at};
 ghost use Rattle.window.specs.Marks.{Marked, Tells};
 
 use crate::Stepping;
@@ -34,7 +34,7 @@ pub fn next_marked(marks: &[u8], n: usize, from: usize, p: u32) -> usize
     requires p_bound { p < 64 }
     ensures upper_bound { result ≤ n }
     ensures from_value { (t : Frontier → Bool) (w : ℕ) (window : List ℕ) → Tells p t w window n marks.now → rest_of t w window n from ≡ rest_of t w window n result }
-    ensures result_value { (t : Frontier → Bool) (w : ℕ) (window : List ℕ) → Tells p t w window n marks.now → result < n → t (frontierAt w window result) ≡ true }
+    ensures result_value { (t : Frontier → Bool) (w : ℕ) (window : List ℕ) → Tells p t w window n marks.now → result < n → t (frontier_at w window result) ≡ true }
 {
     let mut next = from;
     while next < n {
@@ -50,8 +50,8 @@ pub fn next_marked(marks: &[u8], n: usize, from: usize, p: u32) -> usize
 pub fn fresh_first(window: &[u8], w: usize, n: usize, i: usize, j: usize, e: Event) -> bool
     requires width { Width w }
     requires room_for { RoomFor w n window.now }
-    requires j_value { j < n → takes e (frontierAt w window.now j) ≡ true }
-    ensures { result ≡ freshAt e w window.now n i j }
+    requires j_value { j < n → takes e (frontier_at w window.now j) ≡ true }
+    ensures { result ≡ fresh_at e w window.now n i j }
 {
     if n <= j {
         return false;
@@ -73,10 +73,10 @@ pub fn lay_all(window: &[u8], marks: &[u8], scratch: &mut [u8], table: &[u8], fi
     requires room_for_2 { RoomFor fixed.w fixed.kept scratch.old }
     requires lines_bound { (fixed.lines ≤ 64) × (3 * fixed.lines ≤ length table.now) }
     requires k_bound { fixed.k ≤ 8 }
-    requires kept_value { fixed.kept ≡ keptAfter (setting_of fixed table.now) (frontiersOf fixed window.now) }
+    requires kept_value { fixed.kept ≡ kept_after (setting_of fixed table.now) (frontiers_of fixed window.now) }
     requires n_in_bounds { fixed.n ≤ length marks.now }
     requires marked { Marked (setting_of fixed table.now) fixed.w window.now fixed.n marks.now }
-    ensures { frontiers fixed.w scratch.new fixed.kept ≡ steppedOf fixed table.now window.now }
+    ensures { frontiers fixed.w scratch.new fixed.kept ≡ stepped_of fixed table.now window.now }
 {
     let w = fixed.w;
     let n = fixed.n;

@@ -2,11 +2,11 @@
 
 ghost use Rattle.std.specs.Prelude.{◌*◌, ◌-◌, ◌≤◌, ◌≡◌, length, replicate};
 ghost use Rattle.frontiers.specs.Width.{Width};
-ghost use Rattle.frontiers.specs.Bytes.{frontierLength, frontiers, replaced};
-ghost use Rattle.window.specs.Step.{keptAfter};
+ghost use Rattle.frontiers.specs.Bytes.{frontier_length, frontiers, replaced};
+ghost use Rattle.window.specs.Step.{kept_after};
 ghost use Rattle.window.specs.StepCode.{Fitting};
 ghost use Rattle.window.specs.Room.{RoomFor};
-ghost use Rattle.window_step.specs.Fixed.{setting_of, frontiersOf, steppedOf};
+ghost use Rattle.window_step.specs.Fixed.{setting_of, frontiers_of, stepped_of};
 ghost use Rattle.window.specs.Marks.{Marked};
 
 use crate::Stepping;
@@ -15,7 +15,7 @@ use crate::Stepping;
 fn left_over(w: usize, n: usize, m: usize) -> usize
     requires width { Width w }
     requires n_bound { n ≤ 1024 }
-    ensures { result ≡ (n - m) * frontierLength w }
+    ensures { result ≡ (n - m) * frontier_length w }
 {
     if n <= m {
         return 0;
@@ -49,12 +49,12 @@ pub fn step(window: &mut [u8], marks: &[u8], scratch: &mut [u8], table: &[u8], f
     requires room_for_3 { RoomFor fixed.w fixed.kept window.old }
     requires lines_bound { (fixed.lines ≤ 64) × (3 * fixed.lines ≤ length table.now) }
     requires k_bound { fixed.k ≤ 8 }
-    requires kept_value { fixed.kept ≡ keptAfter (setting_of fixed table.now) (frontiersOf fixed window.old) }
+    requires kept_value { fixed.kept ≡ kept_after (setting_of fixed table.now) (frontiers_of fixed window.old) }
     requires n_in_bounds { fixed.n ≤ length marks.now }
     requires marked { Marked (setting_of fixed table.now) fixed.w window.old fixed.n marks.now }
-    ensures window_after { window.new ≡ replaced fixed.w window.old fixed.n (steppedOf fixed table.now window.old) }
+    ensures window_after { window.new ≡ replaced fixed.w window.old fixed.n (stepped_of fixed table.now window.old) }
     ensures scratch_after { scratch.new ≡ replicate (length scratch.old) 0 }
-    ensures kept_after { frontiers fixed.w window.new fixed.kept ≡ steppedOf fixed table.now window.old }
+    ensures kept_after { frontiers fixed.w window.new fixed.kept ≡ stepped_of fixed table.now window.old }
 {
     crate::merge::lay_all(window, marks, scratch, table, fixed);
     copy_back(window, scratch, fixed.w, fixed.n, fixed.kept);

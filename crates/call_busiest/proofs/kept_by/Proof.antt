@@ -4,33 +4,33 @@ use mathlib.Core.Path.{◌≡◌, refl}
 use Prim.Native.Nat.{◌≤◌, ◌-◌, ◌+◌, ◌*◌}
 use borrow.Author.Rules.{rules}
 use Rattle.clocks.specs.Counts.{list_of}
-use Rattle.call_busiest.specs.Sharing.{evenly, sharingKeeps, product as productOf}
+use Rattle.call_busiest.specs.Sharing.{evenly, sharing_keeps, product as product_of}
 use Rattle.call_busiest.specs.BusiestCode.{sharing}
-use Rattle.call_busiest.proofs.KeptSteps.{kept_step, product-step, kept-passed, kept_small, product_small}
+use Rattle.call_busiest.proofs.KeptSteps.{kept_step, product_step, kept_passed, kept_small, product_small}
 use Rattle.call_busiest.proofs.kept_by.Statement.{statement}
 use Rattle.call_busiest.proofs.kept_by.Tie as tie
 
 abbrev invariant-loop : tie.invariant-loop
 invariant-loop k each more kept₀ product₀ p₀ kept product p =
-    (p ≤ k) × (kept ≡ sharingKeeps (sharing p each more)) × (product ≡ productOf (sharing p each more)) × (kept ≤ 1024)
+    (p ≤ k) × (kept ≡ sharing_keeps (sharing p each more)) × (product ≡ product_of (sharing p each more)) × (kept ≤ 1024)
     × (product ≤ 67108864)
 
 abbrev decreases-loop : tie.decreases-loop
 decreases-loop k each more kept₀ product₀ p₀ kept product p = k - p
 
 -- What is kept with the next process.
-now-kept : (c : tie.After-share invariant-loop decreases-loop)
+now_kept : (c : tie.After-share invariant-loop decreases-loop)
     → c.before.before.loop.auto * (c.share.result + 1) + c.before.before.loop.product
-    ≡ sharingKeeps (sharing (c.before.before.loop.p + 1) c.before.before.before.args.each
+    ≡ sharing_keeps (sharing (c.before.before.loop.p + 1) c.before.before.before.args.each
     c.before.before.before.args.more)
-now-kept c =
+now_kept c =
     let l = c.before.before.loop in
     let a = c.before.before.before.args in
     kept_step (evenly a.each a.more) l.p l.auto l.product c.share.result l.invariant.1 l.invariant.2
     c.share.ensures.0
 
 loop-holds : tie.Need-loop-init invariant-loop decreases-loop
-unfolding sharingKeeps productOf list_of
+unfolding sharing_keeps product_of list_of
 loop-holds c = (search rules, refl, refl, search rules, search rules)
 
 share-requires : tie.Need-share-requires invariant-loop decreases-loop
@@ -57,17 +57,17 @@ returns c =
     let d = c.before in
     let l = d.before.before.loop in
     let a = d.before.before.before.args in
-    kept-passed (evenly a.each a.more) l.p a.k (search rules) (omega (arith, now-kept d, c.if1.true))
+    kept_passed (evenly a.each a.more) l.p a.k (search rules) (omega (arith, now_kept d, c.if1.true))
 
 -- The product is no larger than what is kept, so the next one is small too.
-small-next : (c : tie.Else1 invariant-loop decreases-loop)
+small_next : (c : tie.Else1 invariant-loop decreases-loop)
     → c.before.before.before.loop.product * c.before.share.result ≤ 67108864
-small-next c =
+small_next c =
     let l = c.before.before.before.loop in
     product_small l.product c.before.share.result (omega (arith, c.if1.false)) c.before.share.ensures.1
 
 mul-product : tie.Need-overflow-mul-product invariant-loop decreases-loop
-mul-product c = record { fits = omega (arith, small-next c) }
+mul-product c = record { fits = omega (arith, small_next c) }
 
 add-p : tie.Need-overflow-add-p invariant-loop decreases-loop
 add-p c = search rules
@@ -81,11 +81,11 @@ loop-again c =
     let l = d.before.before.loop in
     let a = d.before.before.before.args in (
       search rules,
-      now-kept d,
-      product-step (evenly a.each a.more) l.p l.product d.share.result l.invariant.2
+      now_kept d,
+      product_step (evenly a.each a.more) l.p l.product d.share.result l.invariant.2
           d.share.ensures.0,
       omega (arith, c.if1.false),
-      small-next c,
+      small_next c,
     )
 
 returns-2 : tie.Need-returns-2 invariant-loop decreases-loop

@@ -1,27 +1,27 @@
--- The events of the first p processes are laid, one process more with each turn: the law `day-step`.
+-- The events of the first p processes are laid, one process more with each turn: the law `day_step`.
 use native.Mathlib.Omega.{arith}
 use mathlib.Core.Path.{◌≡◌, refl, sym, ap, ◌∙◌}
 use Prim.Native.Nat.{ℕ, ◌≤◌, ◌<◌, ◌-◌, ◌*◌}
 use lib.ListN.{length, length-replicate}
 use lib.Seq.{sets}
 use native.Mathlib.Nat.{zero-mul, mul-le-mul}
-use Rattle.codec.specs.SetsLaws.{sets-whole}
+use Rattle.codec.specs.SetsLaws.{sets_whole}
 use borrow.Author.Rules.{rules}
 use Rattle.clocks.specs.Counts.{list_of}
-use Rattle.records.specs.Record.{eventLength, eventsBytes}
+use Rattle.records.specs.Record.{event_length, events_bytes}
 use Rattle.call_busiest.specs.Sharing.{evenly, total}
 use Rattle.call_busiest.specs.SharingLaws.{share-within}
 use Rattle.call_busiest.specs.Busiest.{day}
 use Rattle.call_busiest.specs.BusiestCode.{sharing, Blank}
 use Rattle.call_busiest.specs.DayBytes.{length-day}
-use Rattle.call_busiest.proofs.DaySteps.{day-step, day-blank, place-within, place-next, blank-zeros}
+use Rattle.call_busiest.proofs.DaySteps.{day_step, day_blank, place-within, place_next, blank_zeros}
 use Rattle.call_busiest.proofs.put_day.Statement.{statement}
 use Rattle.call_busiest.proofs.put_day.Tie as tie
 
 abbrev invariant-loop : tie.invariant-loop
 invariant-loop events₀ w k each more size place₀ p₀ events place p =
-    (p ≤ k) × (place ≡ total (sharing p each more) * eventLength w) × (length events ≡ length events₀)
-    × (events ≡ sets events₀ 0 (eventsBytes w (day (evenly each more) p)))
+    (p ≤ k) × (place ≡ total (sharing p each more) * event_length w) × (length events ≡ length events₀)
+    × (events ≡ sets events₀ 0 (events_bytes w (day (evenly each more) p)))
 
 abbrev decreases-loop : tie.decreases-loop
 decreases-loop events₀ w k each more size place₀ p₀ events place p = k - p
@@ -33,10 +33,10 @@ event-length-requires : tie.Need-event-length-requires invariant-loop decreases-
 event-length-requires c κs = search rules
 
 loop-holds : tie.Need-loop-init invariant-loop decreases-loop
-unfolding eventsBytes day total list_of
+unfolding events_bytes day total list_of
 loop-holds c = (
   search rules,
-  sym (zero-mul (eventLength c.before.before.before.before.before.before.args.w)),
+  sym (zero-mul (event_length c.before.before.before.before.before.before.args.w)),
   refl,
   refl,
 )
@@ -55,7 +55,7 @@ put-singles-requires c κs =
     let long : length z.clear-all.new.0 ≡ length a.events.now =
     ap length z.clear-all.ensures ∙ length-replicate {A = ℕ} (length a.events.now) 0 in
     let clear : Blank z.clear-all.new.0 0 =
-    λ i m. rw z.clear-all.ensures (blank-zeros (length a.events.now) i) in (
+    λ i m. rw z.clear-all.ensures (blank_zeros (length a.events.now) i) in (
       search rules,
       (
         omega arith,
@@ -65,7 +65,7 @@ put-singles-requires c κs =
             omega (arith, l.invariant.1, l.invariant.2, long, place-within a.w f l.p a.k _ inside mine),
             λ i m.
                 rw l.invariant.3
-                (day-blank a.w f z.clear-all.new.0 l.p clear i (omega (arith, l.invariant.1))),
+                (day_blank a.w f z.clear-all.new.0 l.p clear i (omega (arith, l.invariant.1))),
           ),
         ),
       ),
@@ -91,7 +91,7 @@ add-place c =
     let a = z.before.before.before.args in
     let f = evenly a.each a.more in
     let some : total (sharing a.k a.each a.more) ≤ 65535 = search rules in
-    let wide : eventLength a.w ≤ 48 = omega arith in
+    let wide : event_length a.w ≤ 48 = omega arith in
     record {
       fits =
           rw e.event-length.ensures.0
@@ -119,9 +119,9 @@ loop-again c =
     let f = evenly a.each a.more in (
       search rules,
       rw (e.event-length.ensures.0, l.invariant.1)
-          (place-next a.w f l.p h.share.result h.share.ensures.0),
+          (place_next a.w f l.p h.share.result h.share.ensures.0),
       search rules,
-      day-step a.w f z.clear-all.new.0 l.p l.events l.place h.share.result _ l.invariant.3
+      day_step a.w f z.clear-all.new.0 l.p l.events l.place h.share.result _ l.invariant.3
           l.invariant.1 h.share.ensures.0 c.before.before.put-singles.ensures,
     )
 
@@ -135,10 +135,10 @@ returns c =
     let a = z.before.before.before.args in
     let f = evenly a.each a.more in
     let all : l.p ≡ a.k = omega arith in
-    let long : length (eventsBytes a.w (day f a.k)) ≡ length z.clear-all.new.0 =
+    let long : length (events_bytes a.w (day f a.k)) ≡ length z.clear-all.new.0 =
     length-day a.w f a.k
     ∙ sym (ap length z.clear-all.ensures ∙ length-replicate {A = ℕ} (length a.events.now) 0 ∙ search rules) in
-    (rw all at l.invariant.3) ∙ sets-whole z.clear-all.new.0 (eventsBytes a.w (day f a.k)) long
+    (rw all at l.invariant.3) ∙ sets_whole z.clear-all.new.0 (events_bytes a.w (day f a.k)) long
 
 pub put-day-spec : {M : Type 1} → statement M
 put-day-spec =

@@ -1,4 +1,4 @@
--- Two stores make the event, since all else of it is 0 already: the law `single-laid`.
+-- Two stores make the event, since all else of it is 0 already: the law `single_laid`.
 use native.Mathlib.Omega.{arith}
 use mathlib.Core.Path.{ap, ◌∙◌}
 use Prim.Native.Nat.{ℕ, ◌-◌, ◌+◌, ◌*◌}
@@ -6,7 +6,7 @@ use lib.ListN.{set, length-set}
 use borrow.Author.Rules.{rules}
 use Rattle.codec.specs.Little.{put}
 use Rattle.call_busiest.specs.DayBytes.{number_fits}
-use Rattle.call_busiest.proofs.EventSteps.{single-laid, count-there}
+use Rattle.call_busiest.proofs.EventSteps.{single_laid, count-there}
 use Rattle.call_busiest.proofs.put_single.Statement.{statement}
 use Rattle.call_busiest.proofs.put_single.Tie as tie
 
@@ -47,7 +47,7 @@ returns c =
     c.before.before.write-count.ensures
     ∙ ap (λ (m : ℕ). put (set a.events.now a.place m) (a.place + 8 + a.p * a.w) a.w a.number)
     (search rules)
-    ∙ single-laid a.w a.p a.number a.events.now a.place (search rules) (search rules)
+    ∙ single_laid a.w a.p a.number a.events.now a.place (search rules) (search rules)
 
 pub put-single-spec : {M : Type 1} → statement M
 put-single-spec =

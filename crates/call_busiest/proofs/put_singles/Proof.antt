@@ -1,4 +1,4 @@
--- The first i events are laid, one more with each turn: the law `singles-step`.
+-- The first i events are laid, one more with each turn: the law `singles_step`.
 use native.Mathlib.Omega.{arith}
 use mathlib.Core.Path.{◌≡◌, refl, ◌∙◌}
 use Prim.Native.Nat.{◌≤◌, ◌-◌, ◌+◌, ◌*◌, ◌^◌}
@@ -9,16 +9,16 @@ use native.Mathlib.Nat.{zero-mul, one-mul, add-mul}
 use borrow.Author.Rules.{rules}
 use Rattle.frontiers.specs.BytesLaws.{count-within}
 use Rattle.clocks.specs.Counts.{list_of}
-use Rattle.records.specs.Record.{eventLength, eventsBytes}
+use Rattle.records.specs.Record.{event_length, events_bytes}
 use Rattle.call_busiest.specs.Busiest.{singles}
-use Rattle.call_busiest.proofs.DaySteps.{singles-step, singles-blank}
+use Rattle.call_busiest.proofs.DaySteps.{singles_step, singles_blank}
 use Rattle.call_busiest.proofs.put_singles.Statement.{statement}
 use Rattle.call_busiest.proofs.put_singles.Tie as tie
 
 abbrev invariant-loop : tie.invariant-loop
 invariant-loop events₀ w place p n size mask at₀ i₀ events at i =
-    (i ≤ n) × (at ≡ place + i * eventLength w) × (length events ≡ length events₀)
-    × (events ≡ sets events₀ place (eventsBytes w (singles p i)))
+    (i ≤ n) × (at ≡ place + i * event_length w) × (length events ≡ length events₀)
+    × (events ≡ sets events₀ place (events_bytes w (singles p i)))
 
 abbrev decreases-loop : tie.decreases-loop
 decreases-loop events₀ w place p n size mask at₀ i₀ events at i = n - i
@@ -36,8 +36,8 @@ shl-mask : tie.Need-overflow-shl-mask invariant-loop decreases-loop
 shl-mask c = search rules
 
 loop-holds : tie.Need-loop-init invariant-loop decreases-loop
-unfolding eventsBytes singles list_of
-loop-holds c = (search rules, omega (arith, zero-mul (eventLength c.before.before.args.w)), search rules, refl)
+unfolding events_bytes singles list_of
+loop-holds c = (search rules, omega (arith, zero-mul (event_length c.before.before.args.w)), search rules, refl)
 
 add-i : tie.Need-overflow-add-i invariant-loop decreases-loop
 add-i c = search rules
@@ -49,7 +49,7 @@ put-single-requires : tie.Need-put-single-requires invariant-loop decreases-loop
 put-single-requires c κs =
     let l = c.before.before.loop in
     let a = c.before.before.before.before.before.args in
-    let blank = singles-blank a.w a.p a.events.now a.place l.i (search rules) in (
+    let blank = singles_blank a.w a.p a.events.now a.place l.i (search rules) in (
       search rules,
       (
         search rules,
@@ -58,7 +58,7 @@ put-single-requires c κs =
           (
             search rules,
             (
-              omega (arith, l.invariant.1, l.invariant.2, count-within l.i a.n (eventLength a.w) (search rules)),
+              omega (arith, l.invariant.1, l.invariant.2, count-within l.i a.n (event_length a.w) (search rules)),
               λ j m. rw l.invariant.3 (blank j (omega (arith, l.invariant.1))),
             ),
           ),
@@ -76,7 +76,7 @@ add_at c =
         arith,
         l.invariant.1,
         e.event-length.ensures.0,
-        count-within l.i a.n (eventLength a.w) (search rules),
+        count-within l.i a.n (event_length a.w) (search rules),
       );
     }
 
@@ -89,9 +89,9 @@ loop-again c =
     let e = c.before.before.before.before.before.before in
     let a = e.before.before.args in (
       search rules,
-      omega (arith, l.invariant.1, e.event-length.ensures.0, add-mul l.i 1 (eventLength a.w)),
+      omega (arith, l.invariant.1, e.event-length.ensures.0, add-mul l.i 1 (event_length a.w)),
       search rules,
-      singles-step a.w a.p a.events.now a.place l.i l.events l.at _ l.invariant.3 l.invariant.1
+      singles_step a.w a.p a.events.now a.place l.i l.events l.at _ l.invariant.3 l.invariant.1
           c.before.before.put-single.ensures,
     )
 

@@ -8,7 +8,7 @@ use mir.Val.{bool_byte}
 use borrow.Author.Rules.{rules}
 use Rattle.clocks.specs.Event.{one}
 use Rattle.call_busiest.specs.Sharing.{evenly}
-use Rattle.call_busiest.specs.SharingLaws.{evenly-most}
+use Rattle.call_busiest.specs.SharingLaws.{evenly_most}
 use Rattle.call_busiest.proofs.share.Statement.{statement}
 use Rattle.call_busiest.proofs.share.Tie as tie
 
@@ -27,13 +27,13 @@ is each more p = omega (arith, byte_one (ltb p more))
 add-result : tie.Need-overflow-add-result
 add-result c =
     let a = c.args in
-    record { fits = omega (arith, is a.each a.more a.p, evenly-most a.each a.more a.p) }
+    record { fits = omega (arith, is a.each a.more a.p, evenly_most a.each a.more a.p) }
 
 returns : tie.Need-returns
 returns c =
     let a = c.args in
     let e = is a.each a.more a.p in
-    (e, omega (arith, e, evenly-most a.each a.more a.p))
+    (e, omega (arith, e, evenly_most a.each a.more a.p))
 
 pub share-spec : {M : Type 1} → statement M
 share-spec = tie.close (tie.spec cast-result add-result returns)

@@ -1,11 +1,11 @@
--- Turned back, or the process closed: the laws `close-turned`, `close-goes` and `close-fit`.
+-- Turned back, or the process closed: the laws `close_turned`, `close_goes` and `close_fit`.
 use Rattle.call_close.proofs.close.Tie as tie
 use native.Mathlib.Omega.{arith}
 use mathlib.Core.Path.{◌≡◌, sym, ◌∙◌}
 use lib.ListN.{length}
 use borrow.Author.Rules.{rules}
-use Rattle.call_close.specs.CloseCode.{closeFault}
-use Rattle.call_close.proofs.CloseSteps.{Fit, close-turned, close-goes, close-fit}
+use Rattle.call_close.specs.CloseCode.{close_fault}
+use Rattle.call_close.proofs.CloseSteps.{Fit, close_turned, close_goes, close_fit}
 use Rattle.call_close.proofs.close.Statement.{statement}
 
 -- ---- Places in the walk: the start, and where nothing turns the call back
@@ -19,14 +19,14 @@ passed c = c.before.before.before
 -- ---- What is known there
 
 none : (c : tie.Else1) → let a = (start c.before).args in
-    closeFault a.w a.process a.«record».now (length a.window.now) ≡ 0
+    close_fault a.w a.process a.«record».now (length a.window.now) ≡ 0
 none c = sym c.before.close-fault.ensures ∙ c.if1.false
 
 fit : (c : tie.Else1) → let a = (start c.before).args in
     Fit a.w a.process a.«record».now (length a.window.now)
 fit c =
     let a = (start c.before).args in
-    close-fit a.w a.process a.«record».now a.window.now (none c)
+    close_fit a.w a.process a.«record».now a.window.now (none c)
 
 -- ---- The needs
 
@@ -41,16 +41,16 @@ returns c =
     let a = (start c.before).args in
     let f = c.before.close-fault in
     let t =
-    close-turned a.w a.process a.«record».now a.window.now f.result f.ensures c.if1.true in
+    close_turned a.w a.process a.«record».now a.window.now f.result f.ensures c.if1.true in
     (t.0, (t.1, t.2))
 
 cast-close-process : tie.Need-overflow-cast-close-process
-cast-close-process c = record { fits = omega (arith, (fit c).one-of-eight) }
+cast-close-process c = record { fits = omega (arith, (fit c).one_of_eight) }
 
 close-process-requires : tie.Need-close-process-requires
 close-process-requires c κs =
     let f = fit c.before.before in
-    (search rules, (f.one-of-eight, (f.long, (f.processes, (f.few-kept, f.kept-within)))))
+    (search rules, (f.one_of_eight, (f.long, (f.processes, (f.few_kept, f.kept_within)))))
 
 same-length-2 : tie.Need-same-length-2
 same-length-2 c = search rules
@@ -63,7 +63,7 @@ returns-2 c =
     let b = c.before.before.before.before in
     let e = passed b in
     let a = (start e.before).args in
-    let goes = close-goes a.w a.process a.«record».now a.window.now (none e) in
+    let goes = close_goes a.w a.process a.«record».now a.window.now (none e) in
     let made = b.close-process.ensures in
     (rw goes made.0, (rw goes made.1.0, rw goes made.1.1))
 

@@ -1,13 +1,13 @@
--- What was read of the record, the frontiers dropped by it, and the two fields stored: the law `closed-by`.
+-- What was read of the record, the frontiers dropped by it, and the two fields stored: the law `closed_by`.
 use Rattle.call_close.proofs.close_process.Tie as tie
 use native.Mathlib.Omega.{arith}
 use mathlib.Core.Path.{ap, subst⁻¹, ◌∙◌}
 use Prim.Native.Nat.{ℕ, ◌≤◌, ◌*◌}
 use lib.ListN.{length}
 use borrow.Author.Rules.{rules}
-use Rattle.frontiers.specs.Bytes.{frontierLength}
+use Rattle.frontiers.specs.Bytes.{frontier_length}
 use Rattle.call_close.specs.Close.{closing}
-use Rattle.call_close.proofs.CloseSteps.{closed-by}
+use Rattle.call_close.proofs.CloseSteps.{closed_by}
 use Rattle.call_close.proofs.close_process.Statement.{statement}
 
 -- ---- Places in the walk: the start, when the number kept is read, the taken counts, the mask, and when the others
@@ -19,8 +19,8 @@ start c = c.before.before.before.before
 abbrev kept_read : tie.After-taken-counts → tie.After-kept-count
 kept_read c = c.before.before.before.before
 
-abbrev counts-read : tie.After-with-process → tie.After-taken-counts
-counts-read c = c.before.before.before
+abbrev counts_read : tie.After-with-process → tie.After-taken-counts
+counts_read c = c.before.before.before
 
 abbrev all_read : tie.After-drop-others → tie.After-with-process
 all_read c = c.before.before
@@ -53,11 +53,11 @@ with-process-requires c κs = search rules
 
 drop-others-requires : tie.Need-drop-others-requires
 drop-others-requires c κs =
-    let kept = kept_read (counts-read c.before) in
+    let kept = kept_read (counts_read c.before) in
     let a = (start kept).args in
     let room = (start kept).pre.1.1.1.1 in
-    let inside : kept.kept-count.result * frontierLength a.w ≤ length a.window.now =
-    subst⁻¹ (λ (n : ℕ). n * frontierLength a.w ≤ length a.window.now) kept.kept-count.ensures room.1 in
+    let inside : kept.kept-count.result * frontier_length a.w ≤ length a.window.now =
+    subst⁻¹ (λ (n : ℕ). n * frontier_length a.w ≤ length a.window.now) kept.kept-count.ensures room.1 in
     (search rules, ((omega (arith, room.0), inside), search rules))
 
 cast-set-closed : tie.Need-overflow-cast-set-closed
@@ -79,14 +79,14 @@ returns : tie.Need-returns
 returns c =
     let d = dropped c.before.before in
     let masked = all_read d in
-    let counts = counts-read masked in
+    let counts = counts_read masked in
     let kept = kept_read counts in
     let a = (start kept).args in
     let k = counts.before.before.process-count in
     let closed = masked.with-process in
     let mask = closed.ensures.0 ∙ ap (λ (m : ℕ). closing m a.p) masked.before.closed-mask.ensures.0 in
     let law =
-    closed-by a.w a.p a.«record».now a.window.now kept.kept-count.result k.result
+    closed_by a.w a.p a.«record».now a.window.now kept.kept-count.result k.result
     closed.result d.drop-others.result counts.taken-counts.result kept.kept-count.ensures k.ensures.0
     mask counts.taken-counts.ensures d.drop-others.ensures.1.0 in
     (law.0, (c.before.before.set-closed.ensures ∙ law.1, d.drop-others.ensures.1.1 ∙ law.2))

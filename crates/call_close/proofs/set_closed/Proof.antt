@@ -3,7 +3,7 @@ use Rattle.call_close.proofs.set_closed.Tie as tie
 use native.Mathlib.Omega.{arith}
 use lib.ListN.{length-set}
 use borrow.Author.Rules.{rules}
-use Rattle.records.specs.Record.{closedSet}
+use Rattle.records.specs.Record.{closed_set}
 use Rattle.call_close.proofs.set_closed.Statement.{statement}
 
 cast-record : tie.Need-overflow-cast-record
@@ -21,7 +21,7 @@ same_length c =
     omega (arith, length-set a.«record».now 3 a.closed)
 
 returns : tie.Need-returns
-unfolding closedSet
+unfolding closed_set
 returns c = cc
 
 pub set-closed-spec : {M : Type 1} → statement M

@@ -1,7 +1,7 @@
--- The first frontier at which the line holds decides, or none: the laws `find-here` and `find_none`.
+-- The first frontier at which the line holds decides, or none: the laws `find_here` and `find_none`.
 use mathlib.Core.Path.{sym, ◌∙◌}
 use borrow.Author.Rules.{rules}
-use Rattle.call_find.proofs.FindSteps.{find-here, find_none}
+use Rattle.call_find.proofs.FindSteps.{find_here, find_none}
 use Rattle.call_find.proofs.find_first.Statement.{statement}
 use Rattle.call_find.proofs.find_first.Tie as tie
 
@@ -19,7 +19,7 @@ returns c =
     let a = c.before.before.before.args in
     let f = c.before.first-holding in
     let here = f.ensures.1.1 (search rules) in
-    sym (f.ensures.1.0 ∙ find-here a.w a.line a.window.now a.kept f.result (search rules) here)
+    sym (f.ensures.1.0 ∙ find_here a.w a.line a.window.now a.kept f.result (search rules) here)
 
 returns-2 : tie.Need-returns-2
 returns-2 c =

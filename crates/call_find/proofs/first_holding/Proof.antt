@@ -1,4 +1,4 @@
--- The line holds at no frontier passed, by fours or one by one: the law `find-further`. So the one at which the loop
+-- The line holds at no frontier passed, by fours or one by one: the law `find_further`. So the one at which the loop
 -- ends is the first.
 use Rattle.call_find.proofs.first_holding.Tie as tie
 use Prim.Native.Nat.{ℕ, ◌-◌, ◌+◌, ◌≤◌, ◌<◌}
@@ -12,29 +12,29 @@ use borrow.Author.Rules.{rules}
 use borrow.Author.Tests.{ltb-true, ltb-false}
 use Rattle.codec.specs.Bit.{bit}
 use Rattle.frontiers.specs.BytesLaws.{count-within}
-use Rattle.frontiers.specs.Bytes.{frontierLength, frontierAt}
+use Rattle.frontiers.specs.Bytes.{frontier_length, frontier_at}
 use Rattle.call_find.proofs.first_holding.Statement.{statement}
-use Rattle.call_find.proofs.FindSteps.{find-further}
-use Rattle.call_find.specs.FindCode.{replyFrom}
+use Rattle.call_find.proofs.FindSteps.{find_further}
+use Rattle.call_find.specs.FindCode.{reply_from}
 
 module _ (w line : ℕ) (window : List ℕ) (kept : ℕ) where
   -- The line holds at no frontier before this one.
   abbrev NoneBefore : ℕ → Type 0
-  NoneBefore i = replyFrom w line window kept 0 ≡ replyFrom w line window kept i
+  NoneBefore i = reply_from w line window kept 0 ≡ reply_from w line window kept i
 
   -- No place is found, and those before i are passed; or it is the first.
   abbrev Seen : ℕ → ℕ → Type 0
   Seen i place =
       (i ≤ kept) × (place ≤ kept) × (place ≡ kept → NoneBefore i)
-      × (place < kept → NoneBefore place × (bit (frontierAt w window place).values line ≡ true))
+      × (place < kept → NoneBefore place × (bit (frontier_at w window place).values line ≡ true))
 
   module _ (i : ℕ) (l : i < kept) (none : NoneBefore i) where
-    seen_here : bit (frontierAt w window i).values line ≡ true → Seen (i + 1) i
+    seen_here : bit (frontier_at w window i).values line ≡ true → Seen (i + 1) i
     seen_here h = (omega arith, omega arith, λ q. absurd (omega arith), λ m. (none, h))
 
-    seen-further : bit (frontierAt w window i).values line ≡ false → Seen (i + 1) kept
-    seen-further h =
-        (omega arith, le_refl _, λ q. none ∙ find-further w line window kept i l h, λ m. absurd (omega arith))
+    seen_further : bit (frontier_at w window i).values line ≡ false → Seen (i + 1) kept
+    seen_further h =
+        (omega arith, le_refl _, λ q. none ∙ find_further w line window kept i l h, λ m. absurd (omega arith))
 
 abbrev invariant-loop : tie.invariant-loop
 invariant-loop w line window kept i₀ place₀ i place = Seen w line window kept i place
@@ -59,14 +59,14 @@ values-at-requires : tie.Need-values-at-requires invariant-loop decreases-loop
 values-at-requires c κs =
     let a = (start c.before.before).args in
     let i = c.before.before.loop.i in
-    (search rules, (omega arith, omega (arith, count-within i a.kept (frontierLength a.w) (search rules))))
+    (search rules, (omega arith, omega (arith, count-within i a.kept (frontier_length a.w) (search rules))))
 
 has-bit-requires : tie.Need-has-bit-requires invariant-loop decreases-loop
 has-bit-requires c κs = search rules
 
 -- The call's answer is the line's truth at frontier i.
 here : (c : tie.After-has-bit invariant-loop decreases-loop) → let a = (start (head c)).args in
-    bit (frontierAt a.w a.window.now (head c).loop.i).values a.line ≡ c.has-bit.result
+    bit (frontier_at a.w a.window.now (head c).loop.i).values a.line ≡ c.has-bit.result
 here c =
     ap (λ (v : ℕ). bit v (start (head c)).args.line) (sym c.before.values-at.ensures) ∙ sym c.has-bit.ensures
 
@@ -86,7 +86,7 @@ loop-again c =
     let n : NoneBefore a.w a.line s a.kept l.i = l.inv.2 q in
     ⊎_elim
     (λ x. rw x.1 (seen_here a.w a.line s a.kept l.i m n (here c.before ∙ x.0.taken)))
-    (λ x. rw (x.1, q) (seen-further a.w a.line s a.kept l.i m n (here c.before ∙ x.0.left)))
+    (λ x. rw (x.1, q) (seen_further a.w a.line s a.kept l.i m n (here c.before ∙ x.0.left)))
     c.if2.branch
 
 -- None is left.
@@ -96,7 +96,7 @@ returns c =
     let l = c.before.before.loop in
     let q : l.place ≡ a.kept = omega arith in
     let e : l.i ≡ l.place = omega (arith, ltb-false) in
-    let f = replyFrom a.w a.line a.window.now a.kept in
+    let f = reply_from a.w a.line a.window.now a.kept in
     (l.invariant.1, (l.invariant.2 q ∙ ap f e, λ k. absurd (omega arith)))
 
 -- One is found.

@@ -1,10 +1,10 @@
--- A number turns the move back; else record and window are moved: the laws `move-turned` and `move-whole`.
+-- A number turns the move back; else record and window are moved: the laws `move_turned` and `move_whole`.
 use Rattle.call_move.proofs.move_watch.Tie as tie
 use mathlib.Core.Path.{◌≡◌, sym, ◌∙◌}
 use lib.ListN.{length}
 use borrow.Author.Rules.{rules}
-use Rattle.call_move.specs.MoveCode.{moveFault}
-use Rattle.call_move.proofs.CallSteps.{move-turned, move-right, move-fits, window-asked, move-whole}
+use Rattle.call_move.specs.MoveCode.{move_fault}
+use Rattle.call_move.proofs.CallSteps.{move_turned, move_right, move_fits, window_asked, move_whole}
 use Rattle.call_move.proofs.move_watch.Statement.{statement}
 
 -- ---- Places in the walk: the start, and where nothing turns the move back
@@ -17,8 +17,8 @@ passed c = c.before.before.before.before.before
 
 -- No number was found.
 none : (c : tie.Else1) → let a = (start c.before).args in
-    moveFault a.v a.w a.«record».now a.window.now (length a.target.now)
-    (length a.target-window.now) ≡ 0
+    move_fault a.v a.w a.«record».now a.window.now (length a.target.now)
+    (length a.target_window.now) ≡ 0
 none c = sym c.before.move-fault.ensures ∙ c.if1.false
 
 -- ---- Needs
@@ -31,7 +31,7 @@ returns c =
     let f = c.before in
     let a = (start f).args in
     let back =
-    move-turned a.v a.w a.«record».now a.window.now a.target.now a.target-window.now _
+    move_turned a.v a.w a.«record».now a.window.now a.target.now a.target_window.now _
     f.move-fault.ensures c.if1.true in
     (back.0, (back.1, back.2))
 
@@ -40,10 +40,10 @@ move-record-requires c κs =
     let e = c.before in
     let a = (start e.before).args in
     let right =
-    move-right a.v a.w a.«record».now a.window.now a.target.now a.target-window.now
+    move_right a.v a.w a.«record».now a.window.now a.target.now a.target_window.now
     (none e) in
     let fits =
-    move-fits a.v a.w a.«record».now a.window.now a.target.now a.target-window.now (none e) in
+    move_fits a.v a.w a.«record».now a.window.now a.target.now a.target_window.now (none e) in
     (search rules, (search rules, (right.source, (right.target, fits.0))))
 
 room-of-requires : tie.Need-room-of-requires
@@ -55,7 +55,7 @@ move-window-requires c κs =
     let a = (start e.before).args in
     let room = c.before.room_of.ensures in
     let asked =
-    window-asked a.v a.w a.«record».now a.window.now a.target.now a.target-window.now _
+    window_asked a.v a.w a.«record».now a.window.now a.target.now a.target_window.now _
     (none e) room in
     (search rules, (search rules, (asked.0, (asked.1, (asked.2, asked.3)))))
 
@@ -73,7 +73,7 @@ returns-2 c =
     let bytes = c.before.before.before.before.before.before.before.move-record.ensures in
     let frontiers = c.before.before.move-window.ensures in
     let whole =
-    move-whole a.v a.w a.«record».now a.window.now a.target.now a.target-window.now _ _ _
+    move_whole a.v a.w a.«record».now a.window.now a.target.now a.target_window.now _ _ _
     (none e) r.room_of.ensures bytes frontiers in
     (whole.0, (whole.1, whole.2))
 

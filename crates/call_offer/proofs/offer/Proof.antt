@@ -1,4 +1,4 @@
--- Turned back by the number found, or accepted: the law `offer-by`.
+-- Turned back by the number found, or accepted: the law `offer_by`.
 use Rattle.call_offer.proofs.offer.Tie as tie
 use Prim.Native.Nat.{◌<◌}
 use native.Mathlib.Omega.{arith}
@@ -6,8 +6,8 @@ use mathlib.Core.Path.{◌≡◌, sym, ◌∙◌}
 use lib.ListN.{length}
 use borrow.Author.Rules.{rules}
 use Rattle.call_offer.proofs.offer.Statement.{statement}
-use Rattle.records.specs.Record.{recordLength, pendingCount}
-use Rattle.call_offer.proofs.OfferSteps.{offer-passed, offer-turned, offer-accepted}
+use Rattle.records.specs.Record.{record_length, pending_count}
+use Rattle.call_offer.proofs.OfferSteps.{offer_passed, offer_turned, offer_accepted}
 
 unaccepted-word-requires : tie.Need-unaccepted-word-requires
 unaccepted-word-requires c κs = search rules
@@ -18,7 +18,7 @@ same_length c = search rules
 returns : tie.Need-returns
 returns c =
     let a = c.before.before.before.before.args in
-    offer-turned a.w a.mask a.clock a.labels a.«record».now c.before.unaccepted-word.result
+    offer_turned a.w a.mask a.clock a.labels a.«record».now c.before.unaccepted-word.result
     c.before.unaccepted-word.ensures c.if1.true
 
 offered-event-requires : tie.Need-offered-event-requires
@@ -27,10 +27,10 @@ offered-event-requires c κs = search rules
 -- What is known of an accepted offer's record.
 within : (c : tie.Else1)
     → let a = c.before.before.before.before.args in
-    (length a.«record».now ≡ recordLength a.w) × (pendingCount a.«record».now < 32)
+    (length a.«record».now ≡ record_length a.w) × (pending_count a.«record».now < 32)
 within c =
     let a = c.before.before.before.before.args in
-    offer-passed a.w a.mask a.clock a.labels a.«record».now
+    offer_passed a.w a.mask a.clock a.labels a.«record».now
     (sym c.before.unaccepted-word.ensures ∙ c.if1.false)
 
 pending-count-requires : tie.Need-pending-count-requires
@@ -67,7 +67,7 @@ same-length-2 c = search rules
 returns-2 : tie.Need-returns-2
 returns-2 c =
     let a = c.before.before.before.before.before.before.before.before.before.before.before.before.before.args in
-    let both = offer-accepted a.w a.mask a.clock a.labels a.«record».now
+    let both = offer_accepted a.w a.mask a.clock a.labels a.«record».now
     (sym c.before.before.before.before.before.before.before.before.before.before.unaccepted-word.ensures
     ∙ c.before.before.before.before.before.before.before.before.before.if1.false) in
     (cc both.0, cc both.1)

@@ -1,5 +1,5 @@
 -- Every pending event passed has a key before the event's; the first that has not stands in its place: the laws
--- `place-further`, `place_here`, `place-last`.
+-- `place_further`, `place_here`, `place-last`.
 use Rattle.call_offer.proofs.place_among.Tie as tie
 use Prim.Native.Nat.{◌-◌, ◌≤◌}
 use native.Mathlib.Omega.{arith}
@@ -7,14 +7,14 @@ use native.Mathlib.Nat.{zero-add}
 use mathlib.Core.Path.{◌≡◌, sym, ◌∙◌}
 use borrow.Author.Rules.{rules}
 use borrow.Author.Tests.{not-true, not-false}
-use Rattle.clocks.specs.Key.{key_of, keyBefore}
+use Rattle.clocks.specs.Key.{key_of, key_before}
 use Rattle.call_offer.proofs.place_among.Statement.{statement}
-use Rattle.records.specs.Record.{pendingCount, pendingAt, pendingEvents}
-use Rattle.call_offer.proofs.OfferSteps.{placeFrom, place_here, place-further, place-last}
-use Rattle.call_offer.specs.Offer.{placeAmong}
+use Rattle.records.specs.Record.{pending_count, pending_at, pending_events}
+use Rattle.call_offer.proofs.OfferSteps.{place_from, place_here, place_further, place-last}
+use Rattle.call_offer.specs.Offer.{place_among}
 
 abbrev invariant-loop : tie.invariant-loop
-invariant-loop s w e n i₀ i = (i ≤ n) × (n ≡ pendingCount s) × (placeAmong e (pendingEvents w s) ≡ placeFrom w s e i)
+invariant-loop s w e n i₀ i = (i ≤ n) × (n ≡ pending_count s) × (place_among e (pending_events w s) ≡ place_from w s e i)
 
 abbrev decreases-loop : tie.decreases-loop
 decreases-loop s w e n i₀ i = n - i
@@ -38,7 +38,7 @@ key-before-requires : tie.Need-key-before-requires invariant-loop decreases-loop
 key-before-requires c κs = search rules
 
 -- The call's answer is the test at i.
-here : (c : tie.After-key-before invariant-loop decreases-loop) → keyBefore (key_of (pendingAt c.before.before.before.before.before.before.before.before.args.w c.before.before.before.before.before.before.before.before.args.«record».now c.before.before.before.before.before.loop.i)) (key_of c.before.before.before.before.before.before.before.before.args.e) ≡ c.key-before.result
+here : (c : tie.After-key-before invariant-loop decreases-loop) → key_before (key_of (pending_at c.before.before.before.before.before.before.before.before.args.w c.before.before.before.before.before.before.before.before.args.«record».now c.before.before.before.before.before.loop.i)) (key_of c.before.before.before.before.before.before.before.before.args.e) ≡ c.key-before.result
 here c = cc
 
 returns : tie.Need-returns invariant-loop decreases-loop
@@ -58,7 +58,7 @@ loop-again : tie.Need-loop-preserved invariant-loop decreases-loop
 loop-again c =
     let a = c.before.before.before.before.before.before.before.before.before.args in
     let l = c.before.before.before.before.before.before.loop in
-    let place = place-further a.w a.«record».now a.e l.i (omega arith) (here c.before ∙ not-false _ c.if1.false) in
+    let place = place_further a.w a.«record».now a.e l.i (omega arith) (here c.before ∙ not-false _ c.if1.false) in
     (search rules, search rules, l.invariant.2 ∙ place)
 
 returns-2 : tie.Need-returns-2 invariant-loop decreases-loop

@@ -5,54 +5,54 @@ use mathlib.Core.Path.{◌≡◌, sym, ◌∙◌}
 use mathlib.Core.Bool.{false}
 use borrow.Author.Rules.{rules}
 use Rattle.call_open.proofs.open_fault.Statement.{statement}
-use Rattle.refusals.specs.RefusalLaws.{processes-within}
-use Rattle.refusals.specs.Refusals.{badRecordLength, badWindowLength, badProcesses}
-use Rattle.call_open.specs.OpenCode.{openFault}
+use Rattle.refusals.specs.RefusalLaws.{processes_within}
+use Rattle.refusals.specs.Refusals.{bad_record_length, bad_window_length, bad_processes}
+use Rattle.call_open.specs.OpenCode.{open_fault}
 
 bad-record-length-requires : tie.Need-bad-record-length-requires
 bad-record-length-requires c κs = search rules
 
 -- The tests that let the call pass.
-length-passed : (c : tie.Else1) → badRecordLength c.before.before.args.w c.before.before.args.n ≡ false
-length-passed c = sym c.before.bad-record-length.ensures ∙ c.if1.false
+length_passed : (c : tie.Else1) → bad_record_length c.before.before.args.w c.before.before.args.n ≡ false
+length_passed c = sym c.before.bad-record-length.ensures ∙ c.if1.false
 
-window-passed : (c : tie.Else2) → badWindowLength c.before.before.before.before.args.w c.before.before.before.before.args.m ≡ false
-window-passed c = sym c.before.bad-window-length.ensures ∙ c.if2.false
+window_passed : (c : tie.Else2) → bad_window_length c.before.before.before.before.args.w c.before.before.before.before.args.m ≡ false
+window_passed c = sym c.before.bad-window-length.ensures ∙ c.if2.false
 
-processes-passed : (c : tie.Else3) → badProcesses c.before.before.before.before.before.before.args.k ≡ false
-processes-passed c = sym c.before.bad-processes.ensures ∙ c.if3.false
+processes_passed : (c : tie.Else3) → bad_processes c.before.before.before.before.before.before.args.k ≡ false
+processes_passed c = sym c.before.bad-processes.ensures ∙ c.if3.false
 
 returns : tie.Need-returns
-unfolding openFault
+unfolding open_fault
 returns c = rw (sym c.before.bad-record-length.ensures ∙ c.if1.true)
 
 bad-window-length-requires : tie.Need-bad-window-length-requires
 bad-window-length-requires c κs = search rules
 
 returns-2 : tie.Need-returns-2
-unfolding openFault
-returns-2 c = rw (length-passed c.before.before, sym c.before.bad-window-length.ensures ∙ c.if2.true)
+unfolding open_fault
+returns-2 c = rw (length_passed c.before.before, sym c.before.bad-window-length.ensures ∙ c.if2.true)
 
 bad-processes-requires : tie.Need-bad-processes-requires
 bad-processes-requires c κs = search rules
 
 returns-3 : tie.Need-returns-3
-unfolding openFault
-returns-3 c = rw (length-passed c.before.before.before.before, window-passed c.before.before, sym c.before.bad-processes.ensures ∙ c.if3.true)
+unfolding open_fault
+returns-3 c = rw (length_passed c.before.before.before.before, window_passed c.before.before, sym c.before.bad-processes.ensures ∙ c.if3.true)
 
 cast-bad-start : tie.Need-overflow-cast-bad-start
-cast-bad-start c = omega (arith, (processes-within c.before.before.before.before.before.before.args.k (processes-passed c)).1)
+cast-bad-start c = omega (arith, (processes_within c.before.before.before.before.before.before.args.k (processes_passed c)).1)
 
 bad-start-requires : tie.Need-bad-start-requires
 bad-start-requires c κs = search rules
 
 returns-4 : tie.Need-returns-4
-unfolding openFault
-returns-4 c = rw (length-passed c.before.before.before.before.before.before, window-passed c.before.before.before.before, processes-passed c.before.before, sym c.before.bad-start.ensures ∙ c.if4.true)
+unfolding open_fault
+returns-4 c = rw (length_passed c.before.before.before.before.before.before, window_passed c.before.before.before.before, processes_passed c.before.before, sym c.before.bad-start.ensures ∙ c.if4.true)
 
 returns-5 : tie.Need-returns-5
-unfolding openFault
-returns-5 c = rw (length-passed c.before.before.before.before.before.before, window-passed c.before.before.before.before, processes-passed c.before.before, sym c.before.bad-start.ensures ∙ c.if4.false)
+unfolding open_fault
+returns-5 c = rw (length_passed c.before.before.before.before.before.before, window_passed c.before.before.before.before, processes_passed c.before.before, sym c.before.bad-start.ensures ∙ c.if4.false)
 
 pub open-fault-spec : {M : Type 1} → statement M
 open-fault-spec =

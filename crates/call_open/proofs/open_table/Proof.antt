@@ -3,7 +3,7 @@ use Rattle.call_open.proofs.open_table.Tie as tie
 use lib.ListN.{length}
 use borrow.Author.Rules.{rules}
 use Rattle.call_open.proofs.open_table.Statement.{statement}
-use Rattle.call_open.proofs.OpenSteps.{opened-reply, opened-bytes, opened-window}
+use Rattle.call_open.proofs.OpenSteps.{opened_reply, opened_bytes, opened_window}
 
 judge-requires : tie.Need-judge-requires
 judge-requires c κs = search rules
@@ -39,10 +39,10 @@ returns c =
         c.state-word.ensures,
         c.before.has-bit.ensures,
         j.judge.ensures,
-      ) (opened-reply a.w a.k a.labels a.table.now a.lines n),
+      ) (opened_reply a.w a.k a.labels a.table.now a.lines n),
       (
-        cc (opened-bytes a.w a.k a.labels a.table.now a.lines n),
-        cc (opened-window a.w a.k a.labels a.table.now a.lines n),
+        cc (opened_bytes a.w a.k a.labels a.table.now a.lines n),
+        cc (opened_window a.w a.k a.labels a.table.now a.lines n),
       ),
     )
 

@@ -6,9 +6,9 @@ use Prim.Native.Nat.{◌≤◌, ◌-◌}
 use lib.ListN.{length}
 use borrow.Author.Rules.{rules}
 use lib.Seq.{sets}
-use Rattle.frontiers.specs.Bytes.{frontierLength, frontiers}
+use Rattle.frontiers.specs.Bytes.{frontier_length, frontiers}
 use Rattle.codec.specs.Little.{Bytes}
-use Rattle.call_page.specs.RowLaws.{few-digits}
+use Rattle.call_page.specs.RowLaws.{few_digits}
 use Rattle.call_page.proofs.PageSteps.{no_row, next_row}
 use Rattle.frontiers.specs.BytesLaws.{count-within}
 use Rattle.call_page.specs.Page.{rows}
@@ -38,14 +38,14 @@ counts-at-requires : tie.Need-counts-at-requires invariant-loop decreases-loop
 counts-at-requires c κs =
     let l = c.before.loop in
     let b = c.before.before.before.before.before in
-    let within = count-within l.i b.args.kept (frontierLength b.args.w) (omega arith) in
+    let within = count-within l.i b.args.kept (frontier_length b.args.w) (omega arith) in
     (search rules, (omega arith, omega (arith, within)))
 
 values-at-requires : tie.Need-values-at-requires invariant-loop decreases-loop
 values-at-requires c κs =
     let l = c.before.before.loop in
     let b = c.before.before.before.before.before.before in
-    let within = count-within l.i b.args.kept (frontierLength b.args.w) (omega arith) in
+    let within = count-within l.i b.args.kept (frontier_length b.args.w) (omega arith) in
     (search rules, (omega arith, omega (arith, within)))
 
 has-bit-requires : tie.Need-has-bit-requires invariant-loop decreases-loop
@@ -60,7 +60,7 @@ put-row-requires c κs =
     let l = read.before.before.loop in
     let k = read.before.before.before.before in
     let a = k.before.before.args in
-    let ten = few-digits a.w a.window.now (bytes k) (narrow k) l.i in
+    let ten = few_digits a.w a.window.now (bytes k) (narrow k) l.i in
     let pairs = k.before.before.requires.1.1.1.1.1.1 in
     (search rules, ((λ p. rw read.counts-at.ensures (ten p)), (pairs, omega arith)))
 

@@ -1,4 +1,4 @@
--- A number turns the call back; else the rows are written: the laws `page-turned` and `page-written`.
+-- A number turns the call back; else the rows are written: the laws `page_turned` and `page_written_lem`.
 use Rattle.call_page.proofs.write_page.Tie as tie
 use native.Mathlib.Omega.{arith}
 use mathlib.Core.Path.{◌≡◌, sym, ap, ◌∙◌}
@@ -9,11 +9,11 @@ use mathlib.Core.List.{List}
 use lib.Seq.{sets}
 use Rattle.codec.specs.Little.{Bytes}
 use Rattle.frontiers.specs.Bytes.{frontiers}
-use Rattle.records.specs.Record.{processCount, lineTotal, keptCount}
+use Rattle.records.specs.Record.{process_count, line_total, kept_count}
 use Rattle.refusals.specs.FaultLaws.{Good}
 use Rattle.call_page.specs.Page.{rows}
-use Rattle.call_page.specs.PageCode.{pageFault}
-use Rattle.call_page.proofs.PageSteps.{page-turned, page-good, page-written}
+use Rattle.call_page.specs.PageCode.{page_fault}
+use Rattle.call_page.proofs.PageSteps.{page_turned, page_good, page_written_lem}
 use Rattle.call_page.proofs.write_page.Statement.{statement}
 
 -- ---- Places in the walk: the start, and where nothing turns the call back
@@ -23,15 +23,15 @@ start c = c.before.before.before.before
 
 -- No number was found: record and window are good, and the page is long enough.
 none : (c : tie.Else1) → let a = (start c.before).args in
-    pageFault a.w a.«record».now a.window.now (length a.page.now) ≡ 0
+    page_fault a.w a.«record».now a.window.now (length a.page.now) ≡ 0
 none c = sym c.before.page-fault.ensures ∙ c.if1.false
 
 good : (c : tie.Else1) → let a = (start c.before).args in
     Good a.w a.«record».now (length a.window.now)
-    × (93 * keptCount a.«record».now ≤ length a.page.now)
+    × (93 * kept_count a.«record».now ≤ length a.page.now)
 good c =
     let a = (start c.before).args in
-    page-good a.w a.«record».now a.window.now a.page.now (none c)
+    page_good a.w a.«record».now a.window.now a.page.now (none c)
 
 -- ---- Needs
 
@@ -43,7 +43,7 @@ returns c =
     let f = c.before in
     let a = (start f).args in
     let back =
-    page-turned a.w a.«record».now a.window.now a.page.now _ f.page-fault.ensures
+    page_turned a.w a.«record».now a.window.now a.page.now _ f.page-fault.ensures
     c.if1.true in
     (back.0, back.1)
 
@@ -60,7 +60,7 @@ line-total-requires : tie.Need-line-total-requires
 line-total-requires c κs = omega (arith, (good c.before.before).0.record-long)
 
 sub-line : tie.Need-overflow-sub-line
-sub-line c = omega (arith, (good c.before.before.before).0.some-line)
+sub-line c = omega (arith, (good c.before.before.before).0.some_line)
 
 slice-aggregate-lay-pairs : tie.Need-slice-aggregate-lay-pairs
 slice-aggregate-lay-pairs c = search rules
@@ -79,12 +79,12 @@ put-rows-requires c κs =
     let read = c.before.before.before.before.before.before.before in
     let e = read.before in
     let fine = (good e).0 in
-    let within = fine.kept-within in (
+    let within = fine.kept_within in (
       search rules,
       (
         omega (arith, fine.processes),
         (
-          omega (arith, fine.lines, fine.some-line),
+          omega (arith, fine.lines, fine.some_line),
           (
             omega (arith, fine.kept),
             (rw read.kept-count.ensures within, (omega (arith, (good e).1), search rules)),
@@ -116,14 +116,14 @@ returns-2 c =
     let s = a.«record».now in
     let text : ℕ → ℕ → ℕ → List ℕ = λ k m n.
     sets a.page.now 0 (rows k (m - 1) (frontiers a.w a.window.now n)) in
-    let laid : done.put-rows.new.0 ≡ text (processCount s) (lineTotal s) (keptCount s) =
+    let laid : done.put-rows.new.0 ≡ text (process_count s) (line_total s) (kept_count s) =
     done.put-rows.ensures
     ∙ ap (λ (k : ℕ). text k lines.line-total.result read.kept-count.result)
     processes.process-count.ensures.0
-    ∙ ap (λ (m : ℕ). text (processCount s) m read.kept-count.result) lines.line-total.ensures.0
-    ∙ ap (λ (n : ℕ). text (processCount s) (lineTotal s) n) read.kept-count.ensures in
+    ∙ ap (λ (m : ℕ). text (process_count s) m read.kept-count.result) lines.line-total.ensures.0
+    ∙ ap (λ (n : ℕ). text (process_count s) (line_total s) n) read.kept-count.ensures in
     let whole =
-    page-written a.w a.«record».now a.window.now a.page.now (none e) bytes narrow _ laid in
+    page_written_lem a.w a.«record».now a.window.now a.page.now (none e) bytes narrow _ laid in
     (ap (λ (n : ℕ). 65536 * n) read.kept-count.ensures ∙ whole.0, whole.1)
 
 pub write-page-spec : {M : Type 1} → statement M

@@ -9,11 +9,11 @@ use borrow.Author.Rules.{rules}
 use borrow.Author.Tests.{eq-eqb, ne_eqb, lt-ltb, le-ltb}
 use Rattle.clocks.specs.Bounded.{any_of}
 use Rattle.clocks.specs.Counts.{at}
-use Rattle.clocks.specs.stored.CountsLaws.{listOf-at}
-use Rattle.clocks.specs.stored.SearchLaws.{passesFrom, search-here, search-next, search-none}
-use Rattle.pool.specs.Pool.{sumBelow}
-use Rattle.pool.specs.PoolLaws.{sum-next}
-use Rattle.call_shares.specs.Shares.{badShares}
+use Rattle.clocks.specs.stored.CountsLaws.{list_of-at_lem}
+use Rattle.clocks.specs.stored.SearchLaws.{passes_from, search_here, search_next, search_none}
+use Rattle.pool.specs.Pool.{sum_below}
+use Rattle.pool.specs.PoolLaws.{sum_next}
+use Rattle.call_shares.specs.Shares.{bad_shares}
 use Rattle.call_shares.proofs.bad_shares.Statement.{statement}
 use Rattle.call_shares.proofs.bad_shares.Tie as tie
 
@@ -22,36 +22,36 @@ empty share = eqb share 0
 
 abbrev invariant-loop : tie.invariant-loop
 invariant-loop shares n sum₀ i₀ sum i =
-    (i ≤ n) × (sum ≡ sumBelow i (at shares)) × (sum ≤ 65536 * i)
-    × (any_of empty shares ≡ passesFrom n (at shares) empty i)
+    (i ≤ n) × (sum ≡ sum_below i (at shares)) × (sum ≤ 65536 * i)
+    × (any_of empty shares ≡ passes_from n (at shares) empty i)
 
 abbrev decreases-loop : tie.decreases-loop
 decreases-loop shares n sum₀ i₀ sum i = n - i
 
 -- One to eight: what they are decides.
-some-few : (c : tie.Else2 invariant-loop decreases-loop)
+some_few : (c : tie.Else2 invariant-loop decreases-loop)
     → let shares = c.before.before.before.args.shares.now in
-    badShares shares ≡ (any_of empty shares || ltb 1024 (sumBelow (length shares) (at shares)))
-unfolding badShares
-some-few c =
+    bad_shares shares ≡ (any_of empty shares || ltb 1024 (sum_below (length shares) (at shares)))
+unfolding bad_shares
+some_few c =
     let n = length c.before.before.before.args.shares.now in
     rw (ne_eqb n 0 c.before.if1.false, le-ltb 8 n c.if2.false)
 
 returns : tie.Need-returns invariant-loop decreases-loop
-unfolding badShares
+unfolding bad_shares
 returns c = rw (eq-eqb (length c.before.before.args.shares.now) 0 c.if1.true)
 
 returns-2 : tie.Need-returns-2 invariant-loop decreases-loop
-unfolding badShares
+unfolding bad_shares
 returns-2 c =
     let n = length c.before.before.before.args.shares.now in
     rw (ne_eqb n 0 c.before.if1.false, lt-ltb 8 n c.if2.true)
 
 loop-holds : tie.Need-loop-init invariant-loop decreases-loop
-unfolding sumBelow
+unfolding sum_below
 loop-holds c =
     let shares = c.before.before.before.args.shares.now in
-    (search rules, refl, search rules, ap (any_of empty) (sym (listOf-at (length shares) shares refl)))
+    (search rules, refl, search rules, ap (any_of empty) (sym (list_of-at_lem (length shares) shares refl)))
 
 mul_wide : tie.Need-overflow-mul-wide invariant-loop decreases-loop
 mul_wide c = search rules
@@ -68,7 +68,7 @@ returns-3 c =
     let d = c.before.before.before.before.before in
     let shares = d.before.before.before.args.shares.now in
     let here = eq-eqb (at shares l.i) 0 (omega (arith, c.before.wide.ensures.0, c.if3.true)) in
-    rw (some-few d, l.invariant.3, search-here (length shares) (at shares) empty l.i (search rules) here)
+    rw (some_few d, l.invariant.3, search_here (length shares) (at shares) empty l.i (search rules) here)
 
 add-sum : tie.Need-overflow-add-sum invariant-loop decreases-loop
 add-sum c = search rules
@@ -86,9 +86,9 @@ loop-again c =
     let w = c.before.wide in
     let here = ne_eqb (at shares l.i) 0 (λ e. c.if3.false (w.ensures.0 ∙ e)) in (
       search rules,
-      sum-next (at shares) l.i l.sum w.result l.invariant.1 w.ensures.0,
+      sum_next (at shares) l.i l.sum w.result l.invariant.1 w.ensures.0,
       search rules,
-      l.invariant.3 ∙ search-next (length shares) (at shares) empty l.i (search rules) here,
+      l.invariant.3 ∙ search_next (length shares) (at shares) empty l.i (search rules) here,
     )
 
 returns-4 : tie.Need-returns-4 invariant-loop decreases-loop
@@ -97,7 +97,7 @@ returns-4 c =
     let d = c.before.before in
     let shares = d.before.before.before.args.shares.now in
     let all : l.i ≡ length shares = omega arith in
-    rw (some-few d, l.invariant.3, search-none (length shares) (at shares) empty l.i (omega arith))
+    rw (some_few d, l.invariant.3, search_none (length shares) (at shares) empty l.i (omega arith))
     (ap (ltb 1024) (rw all at l.invariant.1))
 
 pub bad-shares-spec : {M : Type 1} → statement M

@@ -1,12 +1,12 @@
--- The first i shares stand in the cleared pool, one more with each turn: the law `share-step`.
+-- The first i shares stand in the cleared pool, one more with each turn: the law `share_step`.
 use Prim.Native.Nat.{◌≤◌, ◌-◌}
 use native.Mathlib.Omega.{arith}
 use mathlib.Core.Path.{◌≡◌, refl, ap, ◌∙◌}
 use lib.ListN.{length, replicate}
 use borrow.Author.Rules.{rules}
-use Rattle.codec.specs.SetsLaws.{sets-whole}
-use Rattle.call_shares.proofs.PutSteps.{written, share-step, all-written}
-use Rattle.call_shares.specs.Shares.{sharesBytes}
+use Rattle.codec.specs.SetsLaws.{sets_whole}
+use Rattle.call_shares.proofs.PutSteps.{written, share_step, all-written}
+use Rattle.call_shares.specs.Shares.{shares_bytes}
 use Rattle.call_shares.proofs.put_shares.Statement.{statement}
 use Rattle.call_shares.proofs.put_shares.Tie as tie
 
@@ -20,12 +20,12 @@ clear-requires : tie.Need-clear-requires invariant-loop decreases-loop
 clear-requires c κs = search rules
 
 loop-holds : tie.Need-loop-init invariant-loop decreases-loop
-unfolding sharesBytes
+unfolding shares_bytes
 loop-holds c =
     let pool = c.before.before.before.before.before.before.args.pool.now in
     let size : 32 ≡ length pool = search rules in
     let cleared : c.before.before.clear.new.0 ≡ replicate 32 0 =
-    c.before.before.clear.ensures ∙ sets-whole pool (replicate 32 0) size in
+    c.before.before.clear.ensures ∙ sets_whole pool (replicate 32 0) size in
     (search rules, ap length cleared, cleared)
 
 mul-write-u16 : tie.Need-overflow-mul-write-u16 invariant-loop decreases-loop
@@ -53,7 +53,7 @@ loop-again c =
     let shares = e.before.before.before.before.before.before.args.shares.now in (
       search rules,
       search rules,
-      c.before.before.write-u16.ensures ∙ share-step shares l.pool l.i _ (search rules) l.invariant.2 refl,
+      c.before.before.write-u16.ensures ∙ share_step shares l.pool l.i _ (search rules) l.invariant.2 refl,
     )
 
 same_length : tie.Need-same-length invariant-loop decreases-loop

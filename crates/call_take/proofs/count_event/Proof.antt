@@ -6,7 +6,7 @@ use lib.Dec.{T}
 use mathlib.Core.Path.{ap, ◌∙◌}
 use borrow.Author.Rules.{rules}
 use Rattle.call_take.proofs.count_event.Statement.{statement}
-use Rattle.records.specs.Record.{counted, readyIn}
+use Rattle.records.specs.Record.{counted, ready_in}
 use Rattle.call_take.proofs.TakenSteps.{removed-ready}
 
 remove-event-requires : tie.Need-remove-event-requires
@@ -16,7 +16,7 @@ count-taken-requires : tie.Need-count-taken-requires
 count-taken-requires c κs =
     let a = c.before.before.before.before.before.before.args in
     let asked = c.before.before.before.before.before.before.requires in
-    let ready : T (readyIn a.w c.before.before.before.remove-event.new.0 a.e) =
+    let ready : T (ready_in a.w c.before.before.before.remove-event.new.0 a.e) =
     rw c.before.before.before.remove-event.ensures (removed-ready a.w a.«record».now a.i a.e asked.1.1.1.1) in
     (search rules, (search rules, (asked.1.1.1.0, ready)))
 

@@ -1,4 +1,4 @@
--- The parameters of the step make the setting of the record (`setting-lent`).
+-- The parameters of the step make the setting of the record (`setting_lent`).
 use Rattle.call_take.proofs.step_window.Tie as tie
 use Prim.Native.Nat.{ℕ, ◌<◌, ◌-◌}
 use native.Mathlib.Omega.{arith}
@@ -10,11 +10,11 @@ use Rattle.call_take.proofs.step_window.Statement.{statement}
 use Rattle.clocks.specs.Event.{apply}
 use Rattle.clocks.specs.Counts.{at, list_of}
 use Rattle.frontiers.specs.Bytes.{frontiers}
-use Rattle.window.specs.Step.{Setting, keptAfter}
-use Rattle.window.specs.StepCode.{settingWith}
-use Rattle.records.specs.Record.{takenCounts, readyIn}
-use Rattle.trial.specs.Trial.{settingIn}
-use Rattle.trial.specs.SettingLaws.{setting-lent}
+use Rattle.window.specs.Step.{Setting, kept_after}
+use Rattle.window.specs.StepCode.{setting_with}
+use Rattle.records.specs.Record.{taken_counts, ready_in}
+use Rattle.trial.specs.Trial.{setting_in}
+use Rattle.trial.specs.SettingLaws.{setting_lent}
 
 -- ---- Places in the walk: the start, and where the processes are counted
 
@@ -45,7 +45,7 @@ taken-counts-requires : tie.Need-taken-counts-requires
 taken-counts-requires c κs = search rules
 
 apply-requires : tie.Need-apply-requires
-unfolding readyIn
+unfolding ready_in
 apply-requires c κs = rw c.taken-counts.ensures (start (counted c.before)).requires.1.1.1.1.1.1.1.0
 
 table-place-requires : tie.Need-table-place-requires
@@ -69,17 +69,17 @@ setting : (c : tie.After-table-place) → let processes = counted (lined c) in
     let a = (start processes).args in
     let s = a.«record».now in
     let place = c.table-place.result in
-    settingIn a.w s a.e
-    ≡ settingWith processes.process-count.result (lined c).before.closed-mask.result
+    setting_in a.w s a.e
+    ≡ setting_with processes.process-count.result (lined c).before.closed-mask.result
     (take (length s - place) (drop place s)) (lined c).line-total.result a.e c.before.apply.result
 setting c =
     let processes = counted (lined c) in
     let a = (start processes).args in
     let s = a.«record».now in
-    let counts : c.before.apply.result ≡ list_of 8 (apply a.e (at (takenCounts a.w s))) =
+    let counts : c.before.apply.result ≡ list_of 8 (apply a.e (at (taken_counts a.w s))) =
     c.before.apply.ensures
     ∙ ap (λ (l : List ℕ). list_of 8 (apply a.e (at l))) c.before.before.taken-counts.ensures in
-    setting-lent a.w s a.e _ _ _ _ _ (small (start processes)) processes.process-count.ensures.0
+    setting_lent a.w s a.e _ _ _ _ _ (small (start processes)) processes.process-count.ensures.0
     (lined c).before.closed-mask.ensures.0 c.table-place.ensures.0 (lined c).line-total.ensures.0 counts
 
 step-requires : tie.Need-step-requires
@@ -102,7 +102,7 @@ step-requires c κs =
                   search rules,
                   (
                     asked.1.1.1.1.1.1.1.1.0
-                        ∙ ap (λ (t : Setting). keptAfter t (frontiers a.w a.window.now a.n))
+                        ∙ ap (λ (t : Setting). kept_after t (frontiers a.w a.window.now a.n))
                         (setting place),
                     (asked.1.1.1.1.1.1.1.1.1.0, rw (setting place) at asked.1.1.1.1.1.1.1.1.1.1),
                   ),

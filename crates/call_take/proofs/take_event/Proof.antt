@@ -8,7 +8,7 @@ use borrow.Author.Rules.{rules}
 use Rattle.call_take.proofs.take_event.Statement.{statement}
 use Rattle.frontiers.specs.WindowLaws.{length-frontiers}
 use Rattle.call_take.specs.Take.{decided}
-use Rattle.call_take.proofs.TakenSteps.{pending-fits, taken-answer, taken-bytes}
+use Rattle.call_take.proofs.TakenSteps.{pending_fits, taken_answer, taken_bytes}
 
 -- ---- Places in the walk: the start, and where each part is done
 
@@ -44,7 +44,7 @@ step-window-requires c κs =
     let a = (start b).args in
     let asked = (start b).pre in
     let event = b.pending-event.ensures in
-    (search rules, (search rules, (search rules, (search rules, (search rules, (search rules, (rw event (pending-fits a.w a.«record».now a.i (λ j. ((known b).slice-known.given j).fits)), (rw event asked.1.1.1.1.1.1.1.0, (rw event asked.1.1.1.1.1.1.1.1.0, (asked.1.1.1.1.1.1.1.1.1.0, rw event asked.1.1.1.1.1.1.1.1.1.1))))))))))
+    (search rules, (search rules, (search rules, (search rules, (search rules, (search rules, (rw event (pending_fits a.w a.«record».now a.i (λ j. ((known b).slice-known.given j).fits)), (rw event asked.1.1.1.1.1.1.1.0, (rw event asked.1.1.1.1.1.1.1.1.0, (asked.1.1.1.1.1.1.1.1.1.0, rw event asked.1.1.1.1.1.1.1.1.1.1))))))))))
 
 cast-count-event : tie.Need-overflow-cast-count-event
 cast-count-event c = search rules
@@ -55,7 +55,7 @@ count-event-requires c κs =
     let a = (start b).args in
     let asked = (start b).pre in
     let event = b.pending-event.ensures in
-    (search rules, (search rules, (search rules, (rw event (pending-fits a.w a.«record».now a.i (λ j. ((known b).slice-known.given j).fits)).clock-fits, rw event asked.1.1.1.1.1.1.1.0))))
+    (search rules, (search rules, (search rules, (rw event (pending_fits a.w a.«record».now a.i (λ j. ((known b).slice-known.given j).fits)).clock_fits, rw event asked.1.1.1.1.1.1.1.0))))
 
 verdict-requires : tie.Need-verdict-requires
 verdict-requires c κs =
@@ -95,8 +95,8 @@ returns c =
     let kept = asked.1.1.1.1.1.1.1.1.0 in
     let event = b.pending-event.ensures in
     let step = after.step-window.ensures in (
-      taken-answer a.w a.«record».now a.window.now a.n a.i a.kept kept after.step-window.new.1.1.0 _ _ _ (rw event at step.1.1) line.line-total.ensures.0 said.verdict.ensures c.state-word.ensures,
-      (taken-bytes a.w a.«record».now a.window.now a.n a.i a.kept kept _ _ event count.count-event.ensures, (rw (length-frontiers a.w a.window.now a.n) (rw event at step.0), step.1.0 ∙ ap (λ (m : ℕ). replicate m 0) asked.1.1.1.1.1.0)),
+      taken_answer a.w a.«record».now a.window.now a.n a.i a.kept kept after.step-window.new.1.1.0 _ _ _ (rw event at step.1.1) line.line-total.ensures.0 said.verdict.ensures c.state-word.ensures,
+      (taken_bytes a.w a.«record».now a.window.now a.n a.i a.kept kept _ _ event count.count-event.ensures, (rw (length-frontiers a.w a.window.now a.n) (rw event at step.0), step.1.0 ∙ ap (λ (m : ℕ). replicate m 0) asked.1.1.1.1.1.0)),
     )
 
 pub take-event-spec : {M : Type 1} → statement M

@@ -1,4 +1,4 @@
--- The three ways of a decision: the laws `choice-undecided`, `choice-falsified` and `choice-chosen`.
+-- The three ways of a decision: the laws `choice_undecided`, `choice_falsified` and `choice_chosen`.
 use Rattle.call_take.proofs.take_within.Tie as tie
 use Prim.Native.Nat.{ℕ}
 use native.Mathlib.Nat.{mul-le-mul_right}
@@ -8,17 +8,17 @@ use mathlib.Core.List.{List}
 use lib.ListN.{length, replicate}
 use borrow.Author.Rules.{rules}
 use Rattle.frontiers.specs.declared.Frontier.{Frontier}
-use Rattle.frontiers.specs.Bytes.{frontierLength, frontiers}
+use Rattle.frontiers.specs.Bytes.{frontier_length, frontiers}
 use Rattle.call_take.proofs.take_within.Statement.{statement}
-use Rattle.answers.specs.Answer.{replyWord}
-use Rattle.call_take.proofs.ChoiceSteps.{within_by, choice-undecided, choice-falsified, choice-chosen}
-use Rattle.records.specs.Record.{keptCount}
+use Rattle.answers.specs.Answer.{reply_word}
+use Rattle.call_take.proofs.ChoiceSteps.{within_by, choice_undecided, choice_falsified, choice_chosen}
+use Rattle.records.specs.Record.{kept_count}
 use Rattle.trial.specs.Trial.{trial}
 use Rattle.call_take.specs.Take.{Taken, decided}
-use Rattle.trial.specs.TrialCode.{choiceFor}
+use Rattle.trial.specs.TrialCode.{choice_for}
 
 abbrev kept : ℕ → List ℕ → List ℕ → List Frontier
-kept w s window = frontiers w window (keptCount s)
+kept w s window = frontiers w window (kept_count s)
 
 -- ---- Places in the walk: the start, and where each part is done
 
@@ -61,7 +61,7 @@ decide-requires c κs =
 -- What is to be known of the call that decides: its frontiers are those that the record says are kept.
 decision : (c : tie.After-decide) → let a = (start (counted c)).args in
     c.decide.result
-    ≡ choiceFor a.w a.«record».now (kept a.w a.«record».now a.window.now)
+    ≡ choice_for a.w a.«record».now (kept a.w a.«record».now a.window.now)
     (trial a.w a.«record».now a.allowed (kept a.w a.«record».now a.window.now))
 decision c = rw (← (counted c).kept-count.ensures) c.decide.ensures.0
 
@@ -81,7 +81,7 @@ remove-event-requires : tie.Need-remove-event-requires
 remove-event-requires c κs =
     let a = (start (counted (falsified c))).args in
     let asked = (start (counted (falsified c))).requires in
-    let t = choice-falsified a.w a.«record».now a.allowed _ _ (sym c.before.before.choice2.given.1 ∙ decision (falsified c)) in
+    let t = choice_falsified a.w a.«record».now a.allowed _ _ (sym c.before.before.choice2.given.1 ∙ decision (falsified c)) in
     (search rules, (search rules, (t.1, search rules)))
 
 clear-all-requires-2 : tie.Need-clear-all-requires-2
@@ -100,9 +100,9 @@ take-event-requires c κs =
     let a = (start (counted d)).args in
     let asked = (start (counted d)).requires in
     let count = (counted d).kept-count.ensures in
-    let t = (choice-chosen a.w a.«record».now a.allowed _ _ _ (sym told.choice3.given.1 ∙ decision d)).1 in
+    let t = (choice_chosen a.w a.«record».now a.allowed _ _ _ (sym told.choice3.given.1 ∙ decision d)).1 in
     let long : length d.decide.last.1.1.1.0 ≡ 1024 = search rules in
-    (search rules, (search rules, (search rules, ((rw count asked.1.1.1.1.0.0, rw count asked.1.1.1.1.0.1), ((t.some, (omega (arith, t.few), omega (arith, mul-le-mul_right (frontierLength a.w) t.few))), (search rules, ((t.pending, search rules), (t.ready, (rw count t.many, (rw (long, count) asked.1.1.1.1.0.0, d.decide.ensures.1 _ _ told.choice3.given.1))))))))))
+    (search rules, (search rules, (search rules, ((rw count asked.1.1.1.1.0.0, rw count asked.1.1.1.1.0.1), ((t.some, (omega (arith, t.few), omega (arith, mul-le-mul_right (frontier_length a.w) t.few))), (search rules, ((t.pending, search rules), (t.ready, (rw count t.many, (rw (long, count) asked.1.1.1.1.0.0, d.decide.ensures.1 _ _ told.choice3.given.1))))))))))
 
 same_length : tie.Need-same-length
 same_length c = search rules
@@ -120,8 +120,8 @@ returns c =
     let told = clear.before.before.before in
     let d = told.before.before.before in
     let a = (start (counted d)).args in
-    let whole = within_by a.w a.allowed a.«record».now a.window.now _ (choice-undecided a.w a.«record».now a.allowed _ _ (sym told.choice.given.1 ∙ decision d)) in
-    (c.undecided-word.ensures ∙ ap (λ (o : Taken). replyWord o.answer) (sym whole), (ap (λ (o : Taken). o.bytes) (sym whole), (ap (λ (o : Taken). o.window) (sym whole), clear.clear-all.ensures ∙ ap (λ (n : ℕ). replicate n 0) (start (counted d)).requires.1.1.1.1.1.1 ∙ ap (λ (o : Taken). o.scratch) (sym whole))))
+    let whole = within_by a.w a.allowed a.«record».now a.window.now _ (choice_undecided a.w a.«record».now a.allowed _ _ (sym told.choice.given.1 ∙ decision d)) in
+    (c.undecided-word.ensures ∙ ap (λ (o : Taken). reply_word o.answer) (sym whole), (ap (λ (o : Taken). o.bytes) (sym whole), (ap (λ (o : Taken). o.window) (sym whole), clear.clear-all.ensures ∙ ap (λ (n : ℕ). replicate n 0) (start (counted d)).requires.1.1.1.1.1.1 ∙ ap (λ (o : Taken). o.scratch) (sym whole))))
 
 same-length-4 : tie.Need-same-length-4
 same-length-4 c = search rules
@@ -133,14 +133,14 @@ same-length-6 : tie.Need-same-length-6
 same-length-6 c = search rules
 
 returns-2 : tie.Need-returns-2
-unfolding decided replyWord
+unfolding decided reply_word
 returns-2 c =
     let gone = removed c in
     let told = gone.before.before.before in
     let d = told.before.before.before in
     let a = (start (counted d)).args in
-    let whole = within_by a.w a.allowed a.«record».now a.window.now _ (choice-falsified a.w a.«record».now a.allowed _ _ (sym told.choice2.given.1 ∙ decision d)).0 in
-    (ap (λ (o : Taken). replyWord o.answer) (sym whole), (gone.remove-event.ensures ∙ ap (λ (o : Taken). o.bytes) (sym whole), (ap (λ (o : Taken). o.window) (sym whole), c.before.before.clear-all2.ensures ∙ ap (λ (n : ℕ). replicate n 0) (start (counted d)).requires.1.1.1.1.1.1 ∙ ap (λ (o : Taken). o.scratch) (sym whole))))
+    let whole = within_by a.w a.allowed a.«record».now a.window.now _ (choice_falsified a.w a.«record».now a.allowed _ _ (sym told.choice2.given.1 ∙ decision d)).0 in
+    (ap (λ (o : Taken). reply_word o.answer) (sym whole), (gone.remove-event.ensures ∙ ap (λ (o : Taken). o.bytes) (sym whole), (ap (λ (o : Taken). o.window) (sym whole), c.before.before.clear-all2.ensures ∙ ap (λ (n : ℕ). replicate n 0) (start (counted d)).requires.1.1.1.1.1.1 ∙ ap (λ (o : Taken). o.scratch) (sym whole))))
 
 same-length-7 : tie.Need-same-length-7
 same-length-7 c = search rules
@@ -158,7 +158,7 @@ returns-3 c =
     let told = chose take.before in
     let d = told.before.before.before in
     let a = (start (counted d)).args in
-    let whole = within_by a.w a.allowed a.«record».now a.window.now _ (choice-chosen a.w a.«record».now a.allowed _ _ _ (sym told.choice3.given.1 ∙ decision d)).0 in
+    let whole = within_by a.w a.allowed a.«record».now a.window.now _ (choice_chosen a.w a.«record».now a.allowed _ _ _ (sym told.choice3.given.1 ∙ decision d)).0 in
     let e = take.take-event.ensures in
     let count = (counted d).kept-count.ensures in
     (rw (whole, ← count) e.0, (rw (whole, ← count) e.1.0, (rw (whole, ← count) e.1.1.0, rw whole e.1.1.1)))

@@ -6,9 +6,9 @@ use mathlib.Core.Path.{sym, ap, ◌∙◌}
 use borrow.Author.Rules.{rules}
 use Rattle.call_take.proofs.verdict.Statement.{statement}
 use Rattle.codec.specs.Bit.{bit}
-use Rattle.frontiers.specs.Bytes.{frontierLength}
+use Rattle.frontiers.specs.Bytes.{frontier_length}
 use Rattle.frontiers.specs.BytesLaws.{count-within}
-use Rattle.call_take.proofs.TakenSteps.{last-values}
+use Rattle.call_take.proofs.TakenSteps.{last_values}
 
 sub-values-at : tie.Need-overflow-sub-values-at
 sub-values-at c = search rules
@@ -22,7 +22,7 @@ values-at-requires c κs = let a = c.before.args in (
   search rules,
   (
     omega arith,
-    within _ a.kept (frontierLength a.w) _ (omega arith) (search rules),
+    within _ a.kept (frontier_length a.w) _ (omega arith) (search rules),
   ),
 )
 
@@ -35,7 +35,7 @@ has-bit-requires c κs = search rules
 returns : tie.Need-returns
 returns c =
     let a = c.before.before.before.args in
-    c.has-bit.ensures ∙ ap (λ (v : ℕ). bit v (a.lines - 1)) (c.before.values-at.ensures ∙ sym (last-values a.w a.window.now a.kept (omega arith)))
+    c.has-bit.ensures ∙ ap (λ (v : ℕ). bit v (a.lines - 1)) (c.before.values-at.ensures ∙ sym (last_values a.w a.window.now a.kept (omega arith)))
 
 pub verdict-spec : {M : Type 1} → statement M
 verdict-spec = tie.close (tie.spec sub-values-at values-at-requires sub-has-bit has-bit-requires returns)

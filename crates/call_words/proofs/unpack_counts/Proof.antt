@@ -3,7 +3,7 @@ use Rattle.call_words.proofs.unpack_counts.Tie as tie
 use borrow.Author.Rules.{rules}
 use Rattle.clocks.specs.Counts.{list_of}
 use Rattle.call_words.proofs.unpack_counts.Statement.{statement}
-use Rattle.call_words.specs.Words.{unpackCounts}
+use Rattle.call_words.specs.Words.{unpack_counts}
 
 count-in-requires : tie.Need-count-in-requires
 count-in-requires c κs = search rules
@@ -30,7 +30,7 @@ count-in-requires-8 : tie.Need-count-in-requires-8
 count-in-requires-8 c κs = search rules
 
 returns : tie.Need-returns
-unfolding unpackCounts list_of
+unfolding unpack_counts list_of
 returns c = cc
 
 pub unpack-counts-spec : {M : Type 1} → statement M

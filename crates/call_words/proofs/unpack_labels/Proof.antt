@@ -3,7 +3,7 @@ use Rattle.call_words.proofs.unpack_labels.Tie as tie
 use borrow.Author.Rules.{rules}
 use Rattle.clocks.specs.Counts.{list_of}
 use Rattle.call_words.proofs.unpack_labels.Statement.{statement}
-use Rattle.call_words.specs.Words.{unpackLabels}
+use Rattle.call_words.specs.Words.{unpack_labels}
 
 label-in-requires : tie.Need-label-in-requires
 label-in-requires c κs = search rules
@@ -30,7 +30,7 @@ label-in-requires-8 : tie.Need-label-in-requires-8
 label-in-requires-8 c κs = search rules
 
 returns : tie.Need-returns
-unfolding unpackLabels list_of
+unfolding unpack_labels list_of
 returns c = cc
 
 pub unpack-labels-spec : {M : Type 1} → statement M

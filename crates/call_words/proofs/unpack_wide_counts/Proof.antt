@@ -3,7 +3,7 @@ use Rattle.call_words.proofs.unpack_wide_counts.Tie as tie
 use borrow.Author.Rules.{rules}
 use Rattle.clocks.specs.Counts.{list_of}
 use Rattle.call_words.proofs.unpack_wide_counts.Statement.{statement}
-use Rattle.call_words.specs.Words.{unpackCounts}
+use Rattle.call_words.specs.Words.{unpack_counts}
 
 wide-count-in-requires : tie.Need-wide-count-in-requires
 wide-count-in-requires c κs = search rules
@@ -30,7 +30,7 @@ wide-count-in-requires-8 : tie.Need-wide-count-in-requires-8
 wide-count-in-requires-8 c κs = search rules
 
 returns : tie.Need-returns
-unfolding unpackCounts list_of
+unfolding unpack_counts list_of
 returns c = cc
 
 pub unpack-wide-counts-spec : {M : Type 1} → statement M

@@ -9,20 +9,20 @@ use Rattle.std.proofs.Math.Option.{some}
 use Rattle.clocks.specs.declared.Event.{Event}
 use Rattle.clocks.specs.History.{taken, event, Consistent}
 use Rattle.clocks.specs.Event.{Cut, count}
-use Rattle.clocks.specs.cuts.HistoryLaws.{event-numbered}
-use Rattle.clocks.specs.cuts.CausalLaws.{clock-some, clock-cases}
+use Rattle.clocks.specs.cuts.HistoryLaws.{event_numbered}
+use Rattle.clocks.specs.cuts.CausalLaws.{clock_some, clock_cases}
 
 pub record AsWritten (ts : List Event) (S : Cut) : Type 0 where
   pub none_above : (p : ℕ) → S p ≤ taken ts p
-  pub clock-inside : (p : ℕ) → 0 < S p → (f : Event) → event ts p (S p) ≡ some f → (q : ℕ) → count f q ≤ S q
+  pub clock_inside : (p : ℕ) → 0 < S p → (f : Event) → event ts p (S p) ≡ some f → (q : ℕ) → count f q ≤ S q
 
 -- ---- Theorem
 
-pub consistent-as-written : (ts : List Event) (S : Cut) → Consistent ts S ↔ AsWritten ts S
-consistent-as-written ts S = (
-  (λ c. record { none_above = c.within; clock-inside = λ p l f h q. rw (clock-some ts p (S p) f h q) at (c.closed p q) }),
+pub consistent_as_written : (ts : List Event) (S : Cut) → Consistent ts S ↔ AsWritten ts S
+consistent_as_written ts S = (
+  (λ c. record { none_above = c.within; clock_inside = λ p l f h q. rw (clock_some ts p (S p) f h q) at (c.closed p q) }),
   (λ w. record {
     within = w.none_above;
-    closed = λ p q. clock-cases (λ x. x ≤ S q) ts p (S p) q (omega arith) (λ f h. w.clock-inside p (event-numbered ts p (S p) f h).first f h q);
+    closed = λ p q. clock_cases (λ x. x ≤ S q) ts p (S p) q (omega arith) (λ f h. w.clock_inside p (event_numbered ts p (S p) f h).first f h q);
   }),
 )

@@ -18,14 +18,14 @@ T_true true t = refl
 T_true false t = absurd t
 
 -- ---- Ready, process by process
-pub ready-next : (e : Event) (S : Cut) → Ready e S → (p : ℕ) → involved e p ≡ true → count e p ≡ S p + 1
-ready-next e S r p b = subst (λ (i : Bool). ReadyAt i (count e p) (S p)) b (r.each p)
+pub ready_next : (e : Event) (S : Cut) → Ready e S → (p : ℕ) → involved e p ≡ true → count e p ≡ S p + 1
+ready_next e S r p b = subst (λ (i : Bool). ReadyAt i (count e p) (S p)) b (r.each p)
 
-pub ready-known : (e : Event) (S : Cut) → Ready e S → (p : ℕ) → involved e p ≡ false → count e p ≤ S p
-ready-known e S r p b = subst (λ (i : Bool). ReadyAt i (count e p) (S p)) b (r.each p)
+pub ready_known : (e : Event) (S : Cut) → Ready e S → (p : ℕ) → involved e p ≡ false → count e p ≤ S p
+ready_known e S r p b = subst (λ (i : Bool). ReadyAt i (count e p) (S p)) b (r.each p)
 
-pub ready-i : (e : Event) (S : Cut) → ((p : ℕ) → involved e p ≡ true → count e p ≡ S p + 1) → ((p : ℕ) → involved e p ≡ false → count e p ≤ S p) → Ready e S
-ready-i e S n k = record { each = λ p. at p (involved e p) (n p) (k p) }
+pub ready_i : (e : Event) (S : Cut) → ((p : ℕ) → involved e p ≡ true → count e p ≡ S p + 1) → ((p : ℕ) → involved e p ≡ false → count e p ≤ S p) → Ready e S
+ready_i e S n k = record { each = λ p. at p (involved e p) (n p) (k p) }
   where
     at : (p : ℕ) (b : Bool) → (b ≡ true → count e p ≡ S p + 1) → (b ≡ false → count e p ≤ S p) → ReadyAt b (count e p) (S p)
     at p true h k = h refl
@@ -33,7 +33,7 @@ ready-i e S n k = record { each = λ p. at p (involved e p) (n p) (k p) }
 
 -- an event enabled at two cuts has the same counts of its own processes there
 pub ready-same : (e : Event) (S R : Cut) → Ready e S → Ready e R → (p : ℕ) → involved e p ≡ true → S p ≡ R p
-ready-same e S R s r p b = omega (arith, ready-next e S s p b, ready-next e R r p b)
+ready-same e S R s r p b = omega (arith, ready_next e S s p b, ready_next e R r p b)
 
 count-apply-at : (b : Bool) (n c : ℕ) → ReadyAt b n c → n ≤ one b + c
 count-apply-at true n c r = omega arith
@@ -53,30 +53,30 @@ pub lowered-ready : (e : Event) (S : Cut) → Ready e S → (p : ℕ) → lowere
 unfolding lowered less
 lowered-ready e S r p = lowered-ready-at (involved e p) (count e p) (S p) (r.each p)
 
-pub lowered-next : (e : Event) (S : Cut) → Ready e S → (p : ℕ) → involved e p ≡ true → lowered e p ≡ S p
+pub lowered_next : (e : Event) (S : Cut) → Ready e S → (p : ℕ) → involved e p ≡ true → lowered e p ≡ S p
 unfolding lowered less
-lowered-next e S r p b = rw (b, ready-next e S r p b) (omega arith)
+lowered_next e S r p b = rw (b, ready_next e S r p b) (omega arith)
 
 pub lowered-count : (e : Event) (p : ℕ) → lowered e p ≤ count e p
 unfolding lowered less
 lowered-count e p = omega arith
 
 -- ---- one event more, one event less
-pub apply-next : (e : Event) (S : Cut) (p : ℕ) → involved e p ≡ true → apply e S p ≡ S p + 1
+pub apply_next : (e : Event) (S : Cut) (p : ℕ) → involved e p ≡ true → apply e S p ≡ S p + 1
 unfolding apply
-apply-next e S p b = rw b (omega arith)
+apply_next e S p b = rw b (omega arith)
 
-pub apply-other : (e : Event) (S : Cut) (p : ℕ) → involved e p ≡ false → apply e S p ≡ S p
+pub apply_other : (e : Event) (S : Cut) (p : ℕ) → involved e p ≡ false → apply e S p ≡ S p
 unfolding apply
-apply-other e S p b = rw b (omega arith)
+apply_other e S p b = rw b (omega arith)
 
-pub apply-up : (e : Event) (S : Cut) (p : ℕ) → S p ≤ apply e S p
+pub apply_up : (e : Event) (S : Cut) (p : ℕ) → S p ≤ apply e S p
 unfolding apply
-apply-up e S p = omega arith
+apply_up e S p = omega arith
 
-pub less-next : (e : Event) (S : Cut) (p : ℕ) → involved e p ≡ true → less e S p ≡ S p - 1
+pub less_next : (e : Event) (S : Cut) (p : ℕ) → involved e p ≡ true → less e S p ≡ S p - 1
 unfolding less
-less-next e S p b = rw b
+less_next e S p b = rw b
 
 pub less_other : (e : Event) (S : Cut) (p : ℕ) → involved e p ≡ false → less e S p ≡ S p
 unfolding less
@@ -99,9 +99,9 @@ apply-less e S h = fun_ext (λ p. at p (involved e p) (h p))
     at p true g = let g' : 0 < S p = g refl in omega arith
     at p false g = omega arith
 
-pub apply-injective : (e : Event) (S R : Cut) → apply e S ≡ apply e R → S ≡ R
-apply-injective e S R q = sym (less-apply e S) ∙ ap (less e) q ∙ less-apply e R
+pub apply_injective : (e : Event) (S R : Cut) → apply e S ≡ apply e R → S ≡ R
+apply_injective e S R q = sym (less-apply e S) ∙ ap (less e) q ∙ less-apply e R
 
-pub apply-comm : (e f : Event) (S : Cut) → apply e (apply f S) ≡ apply f (apply e S)
+pub apply_comm : (e f : Event) (S : Cut) → apply e (apply f S) ≡ apply f (apply e S)
 unfolding apply
-apply-comm e f S = fun_ext (λ p. omega arith)
+apply_comm e f S = fun_ext (λ p. omega arith)

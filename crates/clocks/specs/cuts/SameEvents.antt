@@ -7,11 +7,11 @@ use Rattle.std.proofs.Math.Path.{fun_ext}
 use Rattle.std.proofs.Math.Option.{Option, none, some}
 use Rattle.clocks.specs.declared.Event.{Event}
 use Rattle.clocks.specs.Event.{Cut}
-use Rattle.clocks.specs.History.{taken, event, clockOf, lastClock, Consistent, In, Agree, Precedes}
+use Rattle.clocks.specs.History.{taken, event, clock_of, last_clock, Consistent, In, Agree, Precedes}
 use Rattle.clocks.specs.Causal.{Causal}
-use Rattle.clocks.specs.cuts.HistoryLaws.{event-exists, event-numbered, Numbered}
-use Rattle.clocks.specs.cuts.CausalLaws.{clock-same, count-number, number_of}
-use Rattle.clocks.specs.cuts.Agree.{agree-consistent, agree-precedes}
+use Rattle.clocks.specs.cuts.HistoryLaws.{event_exists, event_numbered, Numbered}
+use Rattle.clocks.specs.cuts.CausalLaws.{clock_same, count-number, number_of}
+use Rattle.clocks.specs.cuts.Agree.{agree_consistent, agree_precedes}
 
 -- ---- Definition
 
@@ -27,7 +27,7 @@ same-sym s = record { there = s.back; back = s.there }
 -- an event of one history is the other's event of the same process and number
 carried : (ts us : List Event) → Causal ts → Causal us → Same ts us → (p n : ℕ) (f : Event) → event ts p n ≡ some f → event us p n ≡ some f
 carried ts us c d s p n f h =
-    let k : Numbered ts p n f = event-numbered ts p n f h in
+    let k : Numbered ts p n f = event_numbered ts p n f h in
     rw (count-number ts c p n f h) at (number_of us d f (s.there f k.among) p k.takes)
 
 pub same-event : (ts us : List Event) → Causal ts → Causal us → Same ts us → (p n : ℕ) → event ts p n ≡ event us p n
@@ -39,30 +39,30 @@ same-event ts us c d s p n = go (event ts p n) (event us p n) refl refl
     go none (some f) h k = carried us ts d c (same-sym s) p n f k ∙ sym k
 
 -- the last event of one history is there in the other
-taken-most : (ts us : List Event) → Causal ts → Causal us → Same ts us → (p : ℕ) → taken ts p ≤ taken us p
-taken-most ts us c d s p = go (dec_le (taken ts p) 0)
+taken_most : (ts us : List Event) → Causal ts → Causal us → Same ts us → (p : ℕ) → taken ts p ≤ taken us p
+taken_most ts us c d s p = go (dec_le (taken ts p) 0)
   where
     go : Dec (taken ts p ≤ 0) → taken ts p ≤ taken us p
     go (yes z) = omega arith
     go (no z) =
-        let f = event-exists ts p (taken ts p) (omega arith) (omega arith) in
-        (event-numbered us p (taken ts p) f.0 (carried ts us c d s p (taken ts p) f.0 f.1)).within
+        let f = event_exists ts p (taken ts p) (omega arith) (omega arith) in
+        (event_numbered us p (taken ts p) f.0 (carried ts us c d s p (taken ts p) f.0 f.1)).within
 
 pub same_taken : (ts us : List Event) → Causal ts → Causal us → Same ts us → taken ts ≡ taken us
-same_taken ts us c d s = fun_ext (λ p. omega (arith, taken-most ts us c d s p, taken-most us ts d c (same-sym s) p))
+same_taken ts us c d s = fun_ext (λ p. omega (arith, taken_most ts us c d s p, taken_most us ts d c (same-sym s) p))
 
-pub same-clock : (ts us : List Event) → Causal ts → Causal us → Same ts us → (p n : ℕ) → clockOf ts p n ≡ clockOf us p n
-same-clock ts us c d s p n = fun_ext (clock-same ts us p n (same-event ts us c d s p n))
+pub same_clock : (ts us : List Event) → Causal ts → Causal us → Same ts us → (p n : ℕ) → clock_of ts p n ≡ clock_of us p n
+same_clock ts us c d s p n = fun_ext (clock_same ts us p n (same-event ts us c d s p n))
 
-pub same-last : (ts us : List Event) → Causal ts → Causal us → Same ts us → (p : ℕ) → lastClock ts p ≡ lastClock us p
-unfolding lastClock
-same-last ts us c d s p = rw (← same_taken ts us c d s) (same-clock ts us c d s p (taken ts p))
+pub same-last : (ts us : List Event) → Causal ts → Causal us → Same ts us → (p : ℕ) → last_clock ts p ≡ last_clock us p
+unfolding last_clock
+same-last ts us c d s p = rw (← same_taken ts us c d s) (same_clock ts us c d s p (taken ts p))
 
-pub same-agree : (ts us : List Event) → Causal ts → Causal us → Same ts us → (S : Cut) → Agree S ts us
-same-agree ts us c d s S = record { events = λ p n h. same-event ts us c d s p n }
+pub same_agree : (ts us : List Event) → Causal ts → Causal us → Same ts us → (S : Cut) → Agree S ts us
+same_agree ts us c d s S = record { events = λ p n h. same-event ts us c d s p n }
 
 pub same-consistent : (ts us : List Event) → Causal ts → Causal us → Same ts us → (S : Cut) → Consistent ts S → Consistent us S
-same-consistent ts us c d s S = agree-consistent ts us S (same-agree ts us c d s S)
+same-consistent ts us c d s S = agree_consistent ts us S (same_agree ts us c d s S)
 
-pub same-precedes : (ts us : List Event) → Causal ts → Causal us → Same ts us → (S' S : Cut) → Precedes ts S' S → Precedes us S' S
-same-precedes ts us c d s S' S = agree-precedes ts us c d S (same-agree ts us c d s S) S'
+pub same_precedes : (ts us : List Event) → Causal ts → Causal us → Same ts us → (S' S : Cut) → Precedes ts S' S → Precedes us S' S
+same_precedes ts us c d s S' S = agree_precedes ts us c d S (same_agree ts us c d s S) S'

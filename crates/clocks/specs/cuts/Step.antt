@@ -4,11 +4,11 @@ use Rattle.std.specs.Prelude.{ℕ, suc, ◌≤◌, ◌≡◌, true, false, List,
 use Rattle.std.proofs.Common.{arith, le_trans, sym, inl, inr, ⊎_elim}
 use Rattle.clocks.specs.declared.Event.{Event}
 use Rattle.clocks.specs.Event.{Cut, involved, count, Ready, apply, less, lowered}
-use Rattle.clocks.specs.cuts.EventLaws.{either, T_true, ready-next, ready-same, count_apply, lowered-ready, lowered-next, apply-next, apply-other, apply-up, less-next, less_other, apply-less, ready-i}
-use Rattle.clocks.specs.History.{taken, clockOf, Consistent}
+use Rattle.clocks.specs.cuts.EventLaws.{either, T_true, ready_next, ready-same, count_apply, lowered-ready, lowered_next, apply_next, apply_other, apply_up, less_next, less_other, apply-less, ready_i}
+use Rattle.clocks.specs.History.{taken, clock_of, Consistent}
 use Rattle.clocks.specs.Causal.{Follows, Causal}
-use Rattle.clocks.specs.cuts.HistoryLaws.{taken_next, taken-other, taken-up, taken-cases, event-next, event-old}
-use Rattle.clocks.specs.cuts.CausalLaws.{clock-some, clock-same, clock-within}
+use Rattle.clocks.specs.cuts.HistoryLaws.{taken_next, taken_other, taken_up, taken_cases, event_next, event-old}
+use Rattle.clocks.specs.cuts.CausalLaws.{clock_some, clock_same, clock_within}
 
 -- ---- Statement
 
@@ -22,23 +22,23 @@ pub record Advanced (ts : List Event) (e : Event) (S : Cut) : Type 0 where
 -- ---- Old cuts
 
 -- the old numbers' clocks are as they were
-pub clock-old : (e : Event) (ts : List Event) (p n : ℕ) → n ≤ taken ts p → (q : ℕ) → clockOf (e ∷ ts) p n q ≡ clockOf ts p n q
-clock-old e ts p n h q = clock-same (e ∷ ts) ts p n (event-old e ts p n h) q
+pub clock_old : (e : Event) (ts : List Event) (p n : ℕ) → n ≤ taken ts p → (q : ℕ) → clock_of (e ∷ ts) p n q ≡ clock_of ts p n q
+clock_old e ts p n h q = clock_same (e ∷ ts) ts p n (event-old e ts p n h) q
 
 pub consistent-old : (e : Event) (ts : List Event) (S : Cut) → Consistent ts S → Consistent (e ∷ ts) S
 consistent-old e ts S c = record {
-  within = λ p. omega (arith, c.within p, taken-up e ts p);
-  closed = λ p q. rw (clock-old e ts p (S p) (c.within p) q) (c.closed p q);
+  within = λ p. omega (arith, c.within p, taken_up e ts p);
+  closed = λ p q. rw (clock_old e ts p (S p) (c.within p) q) (c.closed p q);
 }
 
-pub consistent-later : (us ts : List Event) (S : Cut) → Consistent ts S → Consistent (us ++ ts) S
-consistent-later [] ts S c = c
-consistent-later (e ∷ us) ts S c = consistent-old e (us ++ ts) S (consistent-later us ts S c)
+pub consistent_later : (us ts : List Event) (S : Cut) → Consistent ts S → Consistent (us ++ ts) S
+consistent_later [] ts S c = c
+consistent_later (e ∷ us) ts S c = consistent-old e (us ++ ts) S (consistent_later us ts S c)
 
 pub consistent-within : (e : Event) (ts : List Event) (S : Cut) → Consistent (e ∷ ts) S → ((p : ℕ) → S p ≤ taken ts p) → Consistent ts S
 consistent-within e ts S c w = record {
   within = w;
-  closed = λ p q. rw (clock-old e ts p (S p) (w p) q) at (c.closed p q);
+  closed = λ p q. rw (clock_old e ts p (S p) (w p) q) at (c.closed p q);
 }
 
 -- ---- New cuts
@@ -49,68 +49,68 @@ consistent-new e ts S t c r = record {
 }
   where
     within : (p : ℕ) → (involved e p ≡ true) ⊎ (involved e p ≡ false) → apply e S p ≤ taken (e ∷ ts) p
-    within p (inl b) = omega (arith, apply-next e S p b, taken_next e ts p b, c.within p)
-    within p (inr b) = omega (arith, apply-other e S p b, taken-other e ts p b, c.within p)
+    within p (inl b) = omega (arith, apply_next e S p b, taken_next e ts p b, c.within p)
+    within p (inr b) = omega (arith, apply_other e S p b, taken_other e ts p b, c.within p)
 
-    closed : (p q : ℕ) → (involved e p ≡ true) ⊎ (involved e p ≡ false) → clockOf (e ∷ ts) p (apply e S p) q ≤ apply e S q
+    closed : (p q : ℕ) → (involved e p ≡ true) ⊎ (involved e p ≡ false) → clock_of (e ∷ ts) p (apply e S p) q ≤ apply e S q
     closed p q (inl b) =
-        let n : apply e S p ≡ suc (taken ts p) = omega (arith, apply-next e S p b, ready-same e S (taken ts) r t p b) in
-        rw (n, clock-some (e ∷ ts) p (suc (taken ts p)) e (event-next e ts p b) q) (count_apply e S r q)
-    closed p q (inr b) = rw (apply-other e S p b, clock-old e ts p (S p) (c.within p) q) (omega (arith, c.closed p q, apply-up e S q))
+        let n : apply e S p ≡ suc (taken ts p) = omega (arith, apply_next e S p b, ready-same e S (taken ts) r t p b) in
+        rw (n, clock_some (e ∷ ts) p (suc (taken ts p)) e (event_next e ts p b) q) (count_apply e S r q)
+    closed p q (inr b) = rw (apply_other e S p b, clock_old e ts p (S p) (c.within p) q) (omega (arith, c.closed p q, apply_up e S q))
 
 -- ---- No others
 module _ (e : Event) (ts : List Event) (cs : Causal ts) (f : Follows ts e) (S : Cut) (c : Consistent (e ∷ ts) S) where
   -- where the cut has the event at one of its processes, the event's clock is nowhere above the cut
   has-event : (p : ℕ) → involved e p ≡ true → S p ≡ suc (taken ts p) → (q : ℕ) → count e q ≤ S q
-  has-event p b n q = rw (n, clock-some (e ∷ ts) p (suc (taken ts p)) e (event-next e ts p b) q) at (c.closed p q)
+  has-event p b n q = rw (n, clock_some (e ∷ ts) p (suc (taken ts p)) e (event_next e ts p b) q) at (c.closed p q)
 
   -- ... so the cut has it at each of them
   has_all : ((q : ℕ) → count e q ≤ S q) → (p : ℕ) → involved e p ≡ true → S p ≡ suc (taken ts p)
-  has_all h p b = omega (arith, h p, c.within p, ready-next e (taken ts) f.ready p b, taken_next e ts p b)
+  has_all h p b = omega (arith, h p, c.within p, ready_next e (taken ts) f.ready p b, taken_next e ts p b)
 
   -- ... and, less the event, the cut is one of the history's own
-  back-enabled : ((q : ℕ) → count e q ≤ S q) → Ready e (less e S)
-  back-enabled h = ready-i e (less e S)
-      (λ p b. omega (arith, less-next e S p b, has_all h p b, ready-next e (taken ts) f.ready p b))
+  back_enabled : ((q : ℕ) → count e q ≤ S q) → Ready e (less e S)
+  back_enabled h = ready_i e (less e S)
+      (λ p b. omega (arith, less_next e S p b, has_all h p b, ready_next e (taken ts) f.ready p b))
       (λ p b. omega (arith, less_other e S p b, h p))
 
-  back-within : ((q : ℕ) → count e q ≤ S q) → (p : ℕ) → less e S p ≤ taken ts p
-  back-within h p = ⊎_elim
-      (λ b. omega (arith, less-next e S p b, has_all h p b))
-      (λ b. omega (arith, less_other e S p b, c.within p, taken-other e ts p b))
+  back_within : ((q : ℕ) → count e q ≤ S q) → (p : ℕ) → less e S p ≤ taken ts p
+  back_within h p = ⊎_elim
+      (λ b. omega (arith, less_next e S p b, has_all h p b))
+      (λ b. omega (arith, less_other e S p b, c.within p, taken_other e ts p b))
       (either (involved e p))
 
-  back-closed : ((q : ℕ) → count e q ≤ S q) → (p q : ℕ) → clockOf ts p (less e S p) q ≤ less e S q
-  back-closed h p q = go (either (involved e p)) (either (involved e q))
+  back_closed : ((q : ℕ) → count e q ≤ S q) → (p q : ℕ) → clock_of ts p (less e S p) q ≤ less e S q
+  back_closed h p q = go (either (involved e p)) (either (involved e q))
     where
       -- a process of the event: the event knows of its last one
-      own : involved e p ≡ true → clockOf ts p (less e S p) q ≤ less e S q
+      own : involved e p ≡ true → clock_of ts p (less e S p) q ≤ less e S q
       own b =
-          let n : less e S p ≡ lowered e p = omega (arith, less-next e S p b, has_all h p b, lowered-next e (taken ts) f.ready p b) in
-          rw n (le_trans (f.knows.closed p q) (lowered-ready e (less e S) (back-enabled h) q))
+          let n : less e S p ≡ lowered e p = omega (arith, less_next e S p b, has_all h p b, lowered_next e (taken ts) f.ready p b) in
+          rw n (le_trans (f.knows.closed p q) (lowered-ready e (less e S) (back_enabled h) q))
 
       -- another: its event is an old one, which counts none of the event's processes beyond what was taken
-      other : involved e p ≡ false → clockOf ts p (less e S p) q ≤ S q
+      other : involved e p ≡ false → clock_of ts p (less e S p) q ≤ S q
       other b =
           rw (less_other e S p b)
-          (rw (clock-old e ts p (S p) (omega (arith, c.within p, taken-other e ts p b)) q) at (c.closed p q))
+          (rw (clock_old e ts p (S p) (omega (arith, c.within p, taken_other e ts p b)) q) at (c.closed p q))
 
-      go : (involved e p ≡ true) ⊎ (involved e p ≡ false) → (involved e q ≡ true) ⊎ (involved e q ≡ false) → clockOf ts p (less e S p) q ≤ less e S q
+      go : (involved e p ≡ true) ⊎ (involved e p ≡ false) → (involved e q ≡ true) ⊎ (involved e q ≡ false) → clock_of ts p (less e S p) q ≤ less e S q
       go (inl b) d = own b
-      go (inr b) (inl d) = omega (arith, less-next e S q d, has_all h q d, clock-within ts cs p (less e S p) q)
+      go (inr b) (inl d) = omega (arith, less_next e S q d, has_all h q d, clock_within ts cs p (less e S p) q)
       go (inr b) (inr d) = omega (arith, less_other e S q d, other b)
 
   back : ((q : ℕ) → count e q ≤ S q) → Advanced ts e S
   back h = record {
     from = less e S;
-    consistent = record { within = back-within h; closed = back-closed h };
-    enabled = back-enabled h;
+    consistent = record { within = back_within h; closed = back_closed h };
+    enabled = back_enabled h;
     leads = sym (apply-less e S (λ p b. omega (arith, has_all h p b)));
   }
 
   -- a cut without the event is an old one
   without : ((p : ℕ) → involved e p ≡ true → S p ≡ suc (taken ts p) → ⊥) → Consistent ts S
-  without h = consistent-within e ts S c (λ p. go p (taken-cases e ts p (S p) (c.within p)))
+  without h = consistent-within e ts S c (λ p. go p (taken_cases e ts p (S p) (c.within p)))
     where
       go : (p : ℕ) → (S p ≤ taken ts p) ⊎ ((involved e p ≡ true) × (S p ≡ suc (taken ts p))) → S p ≤ taken ts p
       go p (inl w) = w
@@ -122,9 +122,9 @@ module _ (e : Event) (ts : List Event) (cs : Causal ts) (f : Follows ts e) (S : 
     where
       go : (o : ℕ) → involved e o ≡ true → Consistent ts S ⊎ Advanced ts e S
       go o b = ⊎_elim
-          (λ w. inl (without (λ p d n. omega (arith, has-event p d n o, ready-next e (taken ts) f.ready o b))))
+          (λ w. inl (without (λ p d n. omega (arith, has-event p d n o, ready_next e (taken ts) f.ready o b))))
           (λ n. inr (back (has-event o b n.1)))
-          (taken-cases e ts o (S o) (c.within o))
+          (taken_cases e ts o (S o) (c.within o))
 
 -- ---- Theorem
 pub step : (e : Event) (ts : List Event) → Causal ts → Follows ts e → (S : Cut) → Consistent (e ∷ ts) S ↔ (Consistent ts S ⊎ Advanced ts e S)

@@ -8,12 +8,12 @@ use Rattle.clocks.specs.Causal.{Follows, Causal}
 use Rattle.clocks.specs.Event.{Cut}
 use Rattle.clocks.specs.Valid.{Takeable, History, ClockRule}
 
-pub takeable-follows : (k : ℕ) (valid : List Event → Event → Type 0) → ClockRule k valid → (ts : List Event) (e : Event) → History k valid ts → Takeable k valid ts e → Follows ts e
-takeable-follows k valid r ts e h t = record { occupied = t.formed.occupied; ready = t.ready; knows = r.sound ts e h t }
+pub takeable_follows : (k : ℕ) (valid : List Event → Event → Type 0) → ClockRule k valid → (ts : List Event) (e : Event) → History k valid ts → Takeable k valid ts e → Follows ts e
+takeable_follows k valid r ts e h t = record { occupied = t.formed.occupied; ready = t.ready; knows = r.sound ts e h t }
 
-pub history-causal : (k : ℕ) (valid : List Event → Event → Type 0) → ClockRule k valid → (ts : List Event) → History k valid ts → Causal ts
-history-causal k valid r [] h = tt
-history-causal k valid r (e ∷ ts) h = (takeable-follows k valid r ts e h.1 h.0, history-causal k valid r ts h.1)
+pub history_causal : (k : ℕ) (valid : List Event → Event → Type 0) → ClockRule k valid → (ts : List Event) → History k valid ts → Causal ts
+history_causal k valid r [] h = tt
+history_causal k valid r (e ∷ ts) h = (takeable_follows k valid r ts e h.1 h.0, history_causal k valid r ts h.1)
 
 -- ---- processes from k up
 -- no event of theirs is ever taken, so a consistent cut counts none

@@ -12,39 +12,39 @@ use Rattle.clocks.specs.History.{taken, In}
 use Rattle.clocks.specs.Causal.{Causal}
 use Rattle.clocks.specs.Event.{involved, count, Ready, lowered}
 use Rattle.clocks.specs.Valid.{Takeable, History, ClockRule}
-use Rattle.clocks.specs.cuts.EventLaws.{either, ready-next, ready-known, ready-i, lowered-ready}
-use Rattle.clocks.specs.cuts.HistoryLaws.{taken-other, taken-up}
-use Rattle.clocks.specs.cuts.Agree.{agree-sym, agree-old}
-use Rattle.clocks.specs.cuts.SameEvents.{Same, same_taken, same-agree}
-use Rattle.clocks.specs.validity.ClockRule.{history-causal}
+use Rattle.clocks.specs.cuts.EventLaws.{either, ready_next, ready_known, ready_i, lowered-ready}
+use Rattle.clocks.specs.cuts.HistoryLaws.{taken_other, taken_up}
+use Rattle.clocks.specs.cuts.Agree.{agree_sym, agree_old}
+use Rattle.clocks.specs.cuts.SameEvents.{Same, same_taken, same_agree}
+use Rattle.clocks.specs.validity.ClockRule.{history_causal}
 
 -- ---- Laws
-pub apart-sym : (e f : Event) → Apart e f → Apart f e
-apart-sym e f a = record { none-common = λ p b. ⊎_elim (λ c. absurd (true≢false (sym b ∙ a.none-common p c))) (λ c. c) (either (involved e p)) }
+pub apart_sym : (e f : Event) → Apart e f → Apart f e
+apart_sym e f a = record { none_common = λ p b. ⊎_elim (λ c. absurd (true≢false (sym b ∙ a.none_common p c))) (λ c. c) (either (involved e p)) }
 
 -- the first of two does not count the second: it was ready without it
 pub first-counts : (e f : Event) (ts : List Event) → Ready e (taken ts) → Ready f (taken (e ∷ ts)) → Apart e f → Counts e f → ⊥
 first-counts e f ts r s a c =
     let p = c.0 in
-    let b : involved e p ≡ false = (apart-sym e f a).none-common p c.1 in
-    omega (arith, c.2, ready-known e (taken ts) r p b, ready-next f (taken (e ∷ ts)) s p c.1, taken-other e ts p b)
+    let b : involved e p ≡ false = (apart_sym e f a).none_common p c.1 in
+    omega (arith, c.2, ready_known e (taken ts) r p b, ready_next f (taken (e ∷ ts)) s p c.1, taken_other e ts p b)
 
 -- the second, not counting the first, was ready before it
 second-ready : (e f : Event) (ts : List Event) → Ready e (taken ts) → Ready f (taken (e ∷ ts)) → Apart e f → (Counts f e → ⊥) → Ready f (taken ts)
-second-ready e f ts r s a n = ready-i f (taken ts)
-    (λ p b. let c : involved e p ≡ false = (apart-sym e f a).none-common p b in omega (arith, ready-next f (taken (e ∷ ts)) s p b, taken-other e ts p c))
+second-ready e f ts r s a n = ready_i f (taken ts)
+    (λ p b. let c : involved e p ≡ false = (apart_sym e f a).none_common p b in omega (arith, ready_next f (taken (e ∷ ts)) s p b, taken_other e ts p c))
     (λ p b. known p b (either (involved e p)) (dec_le (count e p) (count f p)))
   where
     known : (p : ℕ) → involved f p ≡ false → (involved e p ≡ true) ⊎ (involved e p ≡ false) → Dec (count e p ≤ count f p) → count f p ≤ taken ts p
     known p b (inl c) (yes l) = absurd (n (p, c, l))
-    known p b (inl c) (no l) = omega (arith, ready-next e (taken ts) r p c)
-    known p b (inr c) l = omega (arith, ready-known f (taken (e ∷ ts)) s p b, taken-other e ts p c)
+    known p b (inl c) (no l) = omega (arith, ready_next e (taken ts) r p c)
+    known p b (inr c) l = omega (arith, ready_known f (taken (e ∷ ts)) s p b, taken_other e ts p c)
 
 -- the first is ready after the second
 first-ready : (e f : Event) (ts : List Event) → Ready e (taken ts) → Apart e f → Ready e (taken (f ∷ ts))
-first-ready e f ts r a = ready-i e (taken (f ∷ ts))
-    (λ p b. omega (arith, ready-next e (taken ts) r p b, taken-other f ts p (a.none-common p b)))
-    (λ p b. omega (arith, ready-known e (taken ts) r p b, taken-up f ts p))
+first-ready e f ts r a = ready_i e (taken (f ∷ ts))
+    (λ p b. omega (arith, ready_next e (taken ts) r p b, taken_other f ts p (a.none_common p b)))
+    (λ p b. omega (arith, ready_known e (taken ts) r p b, taken_up f ts p))
 
 pub swapped_same : (e f : Event) (ts : List Event) → Same (f ∷ e ∷ ts) (e ∷ f ∷ ts)
 swapped_same e f ts = record { there = swap e f; back = swap f e }
@@ -71,13 +71,13 @@ exchange k valid r e f ts h a n =
     let ft : Takeable k valid ts f = record {
       formed = h.0.formed;
       ready = fr;
-      true-clock = r.local (e ∷ ts) ts f h.1 h.1.1 h.0.ready fr (agree-sym (agree-old e ts (lowered f) (lowered-ready f (taken ts) fr))) h.0.true-clock;
+      true_clock = r.local (e ∷ ts) ts f h.1 h.1.1 h.0.ready fr (agree_sym (agree_old e ts (lowered f) (lowered-ready f (taken ts) fr))) h.0.true_clock;
     } in
     let fh : History k valid (f ∷ ts) = (ft, h.1.1) in
     let et : Takeable k valid (f ∷ ts) e = record {
       formed = h.1.0.formed;
       ready = er;
-      true-clock = r.local ts (f ∷ ts) e h.1.1 fh h.1.0.ready er (agree-old f ts (lowered e) (lowered-ready e (taken ts) h.1.0.ready)) h.1.0.true-clock;
+      true_clock = r.local ts (f ∷ ts) e h.1.1 fh h.1.0.ready er (agree_old f ts (lowered e) (lowered-ready e (taken ts) h.1.0.ready)) h.1.0.true_clock;
     } in
     (et, fh)
 
@@ -94,25 +94,25 @@ same_more u ts ts' s = record {
     more f (inl q) = Memᴰ.head q
     more f (inr m) = Memᴰ.tail (f m)
 
-same-behind : (us ts ts' : List Event) → Same ts ts' → Same (us ++ ts) (us ++ ts')
-same-behind [] ts ts' s = s
-same-behind (u ∷ us) ts ts' s = same_more u (us ++ ts) (us ++ ts') (same-behind us ts ts' s)
+same_behind : (us ts ts' : List Event) → Same ts ts' → Same (us ++ ts) (us ++ ts')
+same_behind [] ts ts' s = s
+same_behind (u ∷ us) ts ts' s = same_more u (us ++ ts) (us ++ ts') (same_behind us ts ts' s)
 
 module _ (k : ℕ) (valid : List Event → Event → Type 0) (r : ClockRule k valid) where
   -- what could be taken after a history can be taken after the same events in another order
-  takeable-same : (u : Event) (ts ts' : List Event) → Same ts ts' → History k valid ts → History k valid ts'
+  takeable_same : (u : Event) (ts ts' : List Event) → Same ts ts' → History k valid ts → History k valid ts'
       → Takeable k valid ts u → Takeable k valid ts' u
-  takeable-same u ts ts' s h h' t = record {
+  takeable_same u ts ts' s h h' t = record {
     formed = t.formed;
     ready = ready;
-    true-clock = r.local ts ts' u h h' t.ready ready (same-agree ts ts' c c' s (lowered u)) t.true-clock;
+    true_clock = r.local ts ts' u h h' t.ready ready (same_agree ts ts' c c' s (lowered u)) t.true_clock;
   }
     where
       c : Causal ts
-      c = history-causal k valid r ts h
+      c = history_causal k valid r ts h
 
       c' : Causal ts'
-      c' = history-causal k valid r ts' h'
+      c' = history_causal k valid r ts' h'
 
       ready : Ready u (taken ts')
       ready = rw (← same_taken ts ts' c c' s) t.ready
@@ -122,17 +122,17 @@ module _ (k : ℕ) (valid : List Event → Event → Type 0) (r : ClockRule k va
   carried [] ts ts' s h h' = h'
   carried (u ∷ us) ts ts' s h h' =
       let rest = carried us ts ts' s h.1 h' in
-      (takeable-same u (us ++ ts) (us ++ ts') (same-behind us ts ts' s) h.1 rest h.0, rest)
+      (takeable_same u (us ++ ts) (us ++ ts') (same_behind us ts ts' s) h.1 rest h.0, rest)
 
   earlier : (us ts : List Event) → History k valid (us ++ ts) → History k valid ts
   earlier [] ts h = h
   earlier (u ∷ us) ts h = earlier us ts h.1
 
   -- ---- Theorem
-  pub exchange-exactly : (us : List Event) (e f : Event) (ts : List Event) → History k valid (us ++ (f ∷ e ∷ ts))
+  pub exchange_exactly : (us : List Event) (e f : Event) (ts : List Event) → History k valid (us ++ (f ∷ e ∷ ts))
       → Apart e f
       → History k valid (us ++ (e ∷ f ∷ ts)) ↔ NeitherCounts e f
-  exchange-exactly us e f ts h a =
+  exchange_exactly us e f ts h a =
       (there, λ n. carried us (f ∷ e ∷ ts) (e ∷ f ∷ ts) (swapped_same e f ts) h (exchange k valid r e f ts ef a n.1))
     where
       ef : History k valid (f ∷ e ∷ ts)
@@ -142,5 +142,5 @@ module _ (k : ℕ) (valid : List Event → Event → Type 0) (r : ClockRule k va
       there g =
           let fe = earlier us (e ∷ f ∷ ts) g in (
             first-counts e f ts ef.1.0.ready ef.0.ready a,
-            first-counts f e ts fe.1.0.ready fe.0.ready (apart-sym e f a),
+            first-counts f e ts fe.1.0.ready fe.0.ready (apart_sym e f a),
           )

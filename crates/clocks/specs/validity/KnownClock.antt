@@ -3,10 +3,10 @@
 use Rattle.std.specs.Prelude.{ℕ}
 use Rattle.clocks.specs.Event.{lowered}
 use Rattle.clocks.specs.Valid.{Known, ClockRule}
-use Rattle.clocks.specs.cuts.Agree.{agree-consistent}
+use Rattle.clocks.specs.cuts.Agree.{agree_consistent}
 
-pub known-rule : (k : ℕ) → ClockRule k Known
-known-rule k = record {
-  sound = λ ts e h t. t.true-clock;
-  local = λ ts us e h i r s a v. agree-consistent ts us (lowered e) a v;
+pub known_rule : (k : ℕ) → ClockRule k Known
+known_rule k = record {
+  sound = λ ts e h t. t.true_clock;
+  local = λ ts us e h i r s a v. agree_consistent ts us (lowered e) a v;
 }

@@ -5,26 +5,26 @@ use Rattle.std.proofs.lemmas.List.{length-replicate, replicate-append-replicate}
 use Rattle.std.proofs.lemmas.List.Edits.{sets, sets-eq}
 use Rattle.std.proofs.Math.Seq.{drop-append-add}
 use Rattle.codec.specs.Little.{bytes_of, number, Bytes}
-use Rattle.codec.specs.LittleLaws.{Bytes-bytesOf}
-use Rattle.codec.specs.SetsLaws.{sets-tail, sets-front}
-use Rattle.frontiers.specs.BytesLaws.{number-countBytes}
-use Rattle.frontiers.specs.Bytes.{countBytes}
+use Rattle.codec.specs.LittleLaws.{Bytes-bytes_of}
+use Rattle.codec.specs.SetsLaws.{sets-tail, sets_front}
+use Rattle.frontiers.specs.BytesLaws.{number-count_bytes}
+use Rattle.frontiers.specs.Bytes.{count_bytes}
 use Rattle.clocks.specs.Counts.{at, list_of}
 use Rattle.clocks.specs.stored.CountsLaws.{filled}
 
 module _ {A : Type 0} (a b : List A) (n : ℕ) (long : length a ≡ n) where
-  pub getD-behind : (i : ℕ) (d : A) → get_or (a ++ b) (n + i) d ≡ get_or b i d
-  getD-behind i d = rw (← long) (get_or-append-add a b i d)
+  pub get_d_behind : (i : ℕ) (d : A) → get_or (a ++ b) (n + i) d ≡ get_or b i d
+  get_d_behind i d = rw (← long) (get_or-append-add a b i d)
 
-  pub drop-behind : (i : ℕ) → drop (n + i) (a ++ b) ≡ drop i b
-  drop-behind i = rw (← long) (drop-append-add a b i)
+  pub drop_behind : (i : ℕ) → drop (n + i) (a ++ b) ≡ drop i b
+  drop_behind i = rw (← long) (drop-append-add a b i)
 
   pub sets_behind : (i : ℕ) (xs : List A) → sets (a ++ b) (n + i) xs ≡ a ++ sets b i xs
   sets_behind i xs = sym (rw (take_at a b n long, drop_at a b n long) at (sets-tail (a ++ b) n i xs))
 
 pub number_behind : (a b : List ℕ) (n : ℕ) → length a ≡ n → (i k : ℕ) → number (a ++ b) (n + i) k ≡ number b i k
 unfolding number
-number_behind a b n long i k = rw (drop-behind a b n long i)
+number_behind a b n long i k = rw (drop_behind a b n long i)
 
 module _ {A : Type 0} (a b c : List A) (n : ℕ) (long : length a ≡ n) where
   -- A whole list in the middle, stored anew.
@@ -32,7 +32,7 @@ module _ {A : Type 0} (a b c : List A) (n : ℕ) (long : length a ≡ n) where
   sets_over xs e = rw (
     sets-eq xs (a ++ (b ++ c)) n fits,
     take_at a (b ++ c) n long,
-    drop-behind a (b ++ c) n long (length xs),
+    drop_behind a (b ++ c) n long (length xs),
     drop_at b c (length xs) (sym e),
     append_assoc,
   )
@@ -41,20 +41,20 @@ module _ {A : Type 0} (a b c : List A) (n : ℕ) (long : length a ≡ n) where
       fits = simp length-append (omega arith)
 
   -- A part of it, stored anew.
-  pub sets-inside : (i : ℕ) (xs : List A) → i + length xs ≤ length b
+  pub sets_inside : (i : ℕ) (xs : List A) → i + length xs ≤ length b
       → sets (a ++ (b ++ c)) (n + i) xs ≡ a ++ (sets b i xs ++ c)
-  sets-inside i xs h =
+  sets_inside i xs h =
       rw (sets_behind a (b ++ c) n long i xs)
       (ap (λ (l : List A). a ++ l)
-      (sym (rw (take_at b c (length b) refl, drop_at b c (length b) refl) at (sets-front (b ++ c) (length b) i xs h))))
+      (sym (rw (take_at b c (length b) refl, drop_at b c (length b) refl) at (sets_front (b ++ c) (length b) i xs h))))
 
 -- Counts come back from their bytes, wherever they stand.
-pub numbers-countBytes : (w : ℕ) (cs a c : List ℕ) (n k : ℕ) → length a ≡ n → length cs ≡ k
+pub numbers_count_bytes : (w : ℕ) (cs a c : List ℕ) (n k : ℕ) → length a ≡ n → length cs ≡ k
     → ((p : ℕ) → at cs p < 256 ^ w)
-    → list_of k (λ p. number (a ++ (countBytes w cs ++ c)) (n + p * w) w) ≡ cs
-numbers-countBytes w cs a c n k long e fit =
-    sym (filled k (λ p. number (a ++ (countBytes w cs ++ c)) (n + p * w) w) 0 cs e
-    (λ p l. sym (number_behind a (countBytes w cs ++ c) n long (p * w) w ∙ number-countBytes w cs c fit p (rw e l))))
+    → list_of k (λ p. number (a ++ (count_bytes w cs ++ c)) (n + p * w) w) ≡ cs
+numbers_count_bytes w cs a c n k long e fit =
+    sym (filled k (λ p. number (a ++ (count_bytes w cs ++ c)) (n + p * w) w) 0 cs e
+    (λ p l. sym (number_behind a (count_bytes w cs ++ c) n long (p * w) w ∙ number-count_bytes w cs c fit p (rw e l))))
 
 -- So many zeros.
 abbrev pub zeros : ℕ → List ℕ
@@ -67,20 +67,20 @@ Bytes-append [] ys g h i = h i
 Bytes-append (x ∷ xs) ys g h zero = g 0
 Bytes-append (x ∷ xs) ys g h (suc i) = Bytes-append xs ys (λ j. g (suc j)) h i
 
-pub Bytes-cons : (x : ℕ) (xs : List ℕ) → x < 256 → Bytes xs → Bytes (x ∷ xs)
-Bytes-cons x xs l h zero = l
-Bytes-cons x xs l h (suc i) = h i
+pub Bytes_cons : (x : ℕ) (xs : List ℕ) → x < 256 → Bytes xs → Bytes (x ∷ xs)
+Bytes_cons x xs l h zero = l
+Bytes_cons x xs l h (suc i) = h i
 
 pub Bytes-zeros : (n : ℕ) → Bytes (zeros n)
 Bytes-zeros zero i = lit< tt
 Bytes-zeros (suc n) zero = lit< tt
 Bytes-zeros (suc n) (suc i) = Bytes-zeros n i
 
-pub Bytes-countBytes : (w : ℕ) (cs : List ℕ) → Bytes (countBytes w cs)
-unfolding countBytes
-Bytes-countBytes w [] i = lit< tt
-Bytes-countBytes w (c ∷ cs) i =
-    Bytes-append (bytes_of w c) (countBytes w cs) (Bytes-bytesOf w c) (Bytes-countBytes w cs) i
+pub Bytes-count_bytes : (w : ℕ) (cs : List ℕ) → Bytes (count_bytes w cs)
+unfolding count_bytes
+Bytes-count_bytes w [] i = lit< tt
+Bytes-count_bytes w (c ∷ cs) i =
+    Bytes-append (bytes_of w c) (count_bytes w cs) (Bytes-bytes_of w c) (Bytes-count_bytes w cs) i
 
 -- ---- Zeros
 

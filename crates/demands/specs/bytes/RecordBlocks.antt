@@ -8,184 +8,184 @@ use Rattle.std.proofs.lemmas.List.{length-replicate}
 use Rattle.pactl.specs.declared.Line.{Line}
 use Rattle.clocks.specs.declared.Event.{Event}
 use Rattle.codec.specs.Little.{bytes_of}
-use Rattle.codec.specs.LittleLaws.{pow-256-pos, length-bytesOf}
-use Rattle.frontiers.specs.ListLaws.{member-place}
-use Rattle.frontiers.specs.Bytes.{countBytes}
-use Rattle.pactl.specs.TableLaws.{length-tableBytes}
-use Rattle.pactl.specs.Table.{tableBytes}
+use Rattle.codec.specs.LittleLaws.{pow_256_pos, length-bytes_of}
+use Rattle.frontiers.specs.ListLaws.{member_place}
+use Rattle.frontiers.specs.Bytes.{count_bytes}
+use Rattle.pactl.specs.TableLaws.{length-table_bytes}
+use Rattle.pactl.specs.Table.{table_bytes}
 use Rattle.clocks.specs.Event.{Cut}
 use Rattle.clocks.specs.Counts.{at, list_of}
-use Rattle.clocks.specs.stored.CountsLaws.{length-listOf, getD-listOf, at-listOf, at-beyond}
+use Rattle.clocks.specs.stored.CountsLaws.{length-list_of, get_d_list_of, at-list_of, at_beyond}
 use Rattle.demands.specs.bytes.PlaceLaws.{zeros}
-use Rattle.demands.specs.bytes.BlockLaws.{Even, clockBytes-blocks, eventsBytes-blocks, length-blocks}
-use Rattle.records.specs.Record.{eventLength, eventBytes, eventsBytes}
-use Rattle.demands.specs.Status.{Status, clockBytes, recordBytes}
-use Rattle.demands.specs.bytes.StoredLaws.{length-counts, length-eventBytes}
+use Rattle.demands.specs.bytes.BlockLaws.{Even, clock_bytes-blocks_lem, events_bytes-blocks_lem, length-blocks}
+use Rattle.records.specs.Record.{event_length, event_bytes, events_bytes}
+use Rattle.demands.specs.Status.{Status, clock_bytes, record_bytes}
+use Rattle.demands.specs.bytes.StoredLaws.{length-counts, length-event_bytes}
 use Rattle.demands.specs.bytes.Sized.{Storable}
 
 -- The first eight bytes.
-abbrev pub headBytes : ℕ → ℕ → ℕ → ℕ → ℕ → List ℕ
-headBytes k lines waiting closed kept = k ∷ lines ∷ waiting ∷ closed ∷ bytes_of 4 kept
+abbrev pub head_bytes : ℕ → ℕ → ℕ → ℕ → ℕ → List ℕ
+head_bytes k lines waiting closed kept = k ∷ lines ∷ waiting ∷ closed ∷ bytes_of 4 kept
 
 -- The eight last clocks, as they are stored.
-abbrev pub clockRows : (ℕ → Cut) → List (List ℕ)
-clockRows g = list_of 8 (λ p. list_of 8 (g p))
+abbrev pub clock_rows : (ℕ → Cut) → List (List ℕ)
+clock_rows g = list_of 8 (λ p. list_of 8 (g p))
 
-abbrev pub tableBlock : List Line → List ℕ
-tableBlock ls = tableBytes ls ++ zeros (192 - 3 * length ls)
+abbrev pub table_block : List Line → List ℕ
+table_block ls = table_bytes ls ++ zeros (192 - 3 * length ls)
 
-abbrev pub pendingBlock : ℕ → List Event → List ℕ
-pendingBlock w es = eventsBytes w es ++ zeros ((32 - length es) * eventLength w)
+abbrev pub pending_block : ℕ → List Event → List ℕ
+pending_block w es = events_bytes w es ++ zeros ((32 - length es) * event_length w)
 
 -- What stands before the pending events, where there are so many of them.
-abbrev pub frontBytes : ℕ → Status → ℕ → List ℕ
-frontBytes w t waiting =
-    headBytes t.processes (length t.table) waiting t.closed t.kept
-    ++ countBytes w (list_of 8 t.counts) ++ clockBytes w (clockRows t.clocks) ++ tableBlock t.table
+abbrev pub front_bytes : ℕ → Status → ℕ → List ℕ
+front_bytes w t waiting =
+    head_bytes t.processes (length t.table) waiting t.closed t.kept
+    ++ count_bytes w (list_of 8 t.counts) ++ clock_bytes w (clock_rows t.clocks) ++ table_block t.table
 
-pub recordBytes-blocks : (w : ℕ) (t : Status)
-    → recordBytes w t ≡ frontBytes w t (length t.pending) ++ pendingBlock w t.pending
-unfolding recordBytes
-recordBytes-blocks w t = refl
+pub record_bytes-blocks_lem : (w : ℕ) (t : Status)
+    → record_bytes w t ≡ front_bytes w t (length t.pending) ++ pending_block w t.pending
+unfolding record_bytes
+record_bytes-blocks_lem w t = refl
 
 -- What stands before one of the blocks, and what stands behind it.
 abbrev pub head_of : Status → List ℕ
-head_of t = headBytes t.processes (length t.table) (length t.pending) t.closed t.kept
+head_of t = head_bytes t.processes (length t.table) (length t.pending) t.closed t.kept
 
-abbrev pub beforeClocks : ℕ → Status → List ℕ
-beforeClocks w t = head_of t ++ countBytes w (list_of 8 t.counts)
+abbrev pub before_clocks : ℕ → Status → List ℕ
+before_clocks w t = head_of t ++ count_bytes w (list_of 8 t.counts)
 
-abbrev pub beforeTable : ℕ → Status → List ℕ
-beforeTable w t = beforeClocks w t ++ clockBytes w (clockRows t.clocks)
+abbrev pub before_table : ℕ → Status → List ℕ
+before_table w t = before_clocks w t ++ clock_bytes w (clock_rows t.clocks)
 
-abbrev pub afterClocks : ℕ → Status → List ℕ
-afterClocks w t = tableBlock t.table ++ pendingBlock w t.pending
+abbrev pub after_clocks : ℕ → Status → List ℕ
+after_clocks w t = table_block t.table ++ pending_block w t.pending
 
-abbrev pub afterCounts : ℕ → Status → List ℕ
-afterCounts w t = clockBytes w (clockRows t.clocks) ++ afterClocks w t
+abbrev pub after_counts : ℕ → Status → List ℕ
+after_counts w t = clock_bytes w (clock_rows t.clocks) ++ after_clocks w t
 
 abbrev pub after_head : ℕ → Status → List ℕ
-after_head w t = countBytes w (list_of 8 t.counts) ++ afterCounts w t
+after_head w t = count_bytes w (list_of 8 t.counts) ++ after_counts w t
 
 -- Lists side by side, the first of them apart.
-first-apart : (h c k b p : List ℕ) → h ++ c ++ k ++ b ++ p ≡ h ++ (c ++ (k ++ (b ++ p)))
-first-apart h c k b p = simp append_assoc
+first_apart : (h c k b p : List ℕ) → h ++ c ++ k ++ b ++ p ≡ h ++ (c ++ (k ++ (b ++ p)))
+first_apart h c k b p = simp append_assoc
 
 module _ (w : ℕ) (t : Status) where
-  pub kept-split : recordBytes w t ≡ (t.processes ∷ length t.table ∷ length t.pending ∷ t.closed ∷ [])
+  pub kept_split : record_bytes w t ≡ (t.processes ∷ length t.table ∷ length t.pending ∷ t.closed ∷ [])
       ++ (bytes_of 4 t.kept ++ after_head w t)
-  unfolding recordBytes
-  kept-split = first-apart (head_of t) _ _ _ _
+  unfolding record_bytes
+  kept_split = first_apart (head_of t) _ _ _ _
 
-  pub counts-split : recordBytes w t ≡ head_of t ++ (countBytes w (list_of 8 t.counts) ++ afterCounts w t)
-  unfolding recordBytes
-  counts-split = first-apart (head_of t) _ _ _ _
+  pub counts_split : record_bytes w t ≡ head_of t ++ (count_bytes w (list_of 8 t.counts) ++ after_counts w t)
+  unfolding record_bytes
+  counts_split = first_apart (head_of t) _ _ _ _
 
-  pub clocks-split : recordBytes w t ≡ beforeClocks w t ++ (clockBytes w (clockRows t.clocks) ++ afterClocks w t)
-  unfolding recordBytes
-  clocks-split =
-      apart (beforeClocks w t) (clockBytes w (clockRows t.clocks)) (tableBlock t.table)
-      (pendingBlock w t.pending)
+  pub clocks_split : record_bytes w t ≡ before_clocks w t ++ (clock_bytes w (clock_rows t.clocks) ++ after_clocks w t)
+  unfolding record_bytes
+  clocks_split =
+      apart (before_clocks w t) (clock_bytes w (clock_rows t.clocks)) (table_block t.table)
+      (pending_block w t.pending)
     where
       apart : (h k b p : List ℕ) → h ++ k ++ b ++ p ≡ h ++ (k ++ (b ++ p))
       apart h k b p = simp append_assoc
 
-  pub table-split : recordBytes w t ≡ beforeTable w t
-      ++ (tableBytes t.table ++ (zeros (192 - 3 * length t.table) ++ pendingBlock w t.pending))
-  unfolding recordBytes
-  table-split =
-      apart (beforeTable w t) (tableBytes t.table) (zeros (192 - 3 * length t.table))
-      (pendingBlock w t.pending)
+  pub table_split : record_bytes w t ≡ before_table w t
+      ++ (table_bytes t.table ++ (zeros (192 - 3 * length t.table) ++ pending_block w t.pending))
+  unfolding record_bytes
+  table_split =
+      apart (before_table w t) (table_bytes t.table) (zeros (192 - 3 * length t.table))
+      (pending_block w t.pending)
     where
       apart : (h b z p : List ℕ) → h ++ (b ++ z) ++ p ≡ h ++ (b ++ (z ++ p))
       apart h b z p = simp append_assoc
 
 -- ---- Lengths
 
-pub length-headBytes : (k lines waiting closed kept : ℕ) → length (headBytes k lines waiting closed kept) ≡ 8
-length-headBytes k lines waiting closed kept = rw (length-bytesOf 4 kept)
+pub length-head_bytes : (k lines waiting closed kept : ℕ) → length (head_bytes k lines waiting closed kept) ≡ 8
+length-head_bytes k lines waiting closed kept = rw (length-bytes_of 4 kept)
 
-pub length-headOf : (t : Status) → length (head_of t) ≡ 8
-length-headOf t = length-headBytes t.processes (length t.table) (length t.pending) t.closed t.kept
+pub length-head_of : (t : Status) → length (head_of t) ≡ 8
+length-head_of t = length-head_bytes t.processes (length t.table) (length t.pending) t.closed t.kept
 
 -- A member of the list of a function's values is one of them.
-pub member-listOf : {A : Type 0} (n : ℕ) (f : ℕ → A) (x : A) → Memᴰ x (list_of n f) → (p : ℕ) × (p < n) × (x ≡ f p)
-member-listOf n f x m =
-    let r = member-place (list_of n f) x x m in
-    let l : r.0 < n = rw (length-listOf n f) at r.1 in
-    (r.0, l, sym r.2 ∙ getD-listOf n f r.0 x l)
+pub member_list_of : {A : Type 0} (n : ℕ) (f : ℕ → A) (x : A) → Memᴰ x (list_of n f) → (p : ℕ) × (p < n) × (x ≡ f p)
+member_list_of n f x m =
+    let r = member_place (list_of n f) x x m in
+    let l : r.0 < n = rw (length-list_of n f) at r.1 in
+    (r.0, l, sym r.2 ∙ get_d_list_of n f r.0 x l)
 
 -- Values that fit, fit as a list of counts.
-pub fit-listOf : (w n : ℕ) (f : ℕ → ℕ) → ((p : ℕ) → f p < 256 ^ w) → (p : ℕ) → at (list_of n f) p < 256 ^ w
-fit-listOf w n f h p = go (dec_lt p n)
+pub fit_list_of : (w n : ℕ) (f : ℕ → ℕ) → ((p : ℕ) → f p < 256 ^ w) → (p : ℕ) → at (list_of n f) p < 256 ^ w
+fit_list_of w n f h p = go (dec_lt p n)
   where
     go : Dec (p < n) → at (list_of n f) p < 256 ^ w
-    go (yes l) = rw (at-listOf n f p l) (h p)
-    go (no l) = rw (at-beyond (list_of n f) p (rw (length-listOf n f) (omega arith))) (pow-256-pos w)
+    go (yes l) = rw (at-list_of n f p l) (h p)
+    go (no l) = rw (at_beyond (list_of n f) p (rw (length-list_of n f) (omega arith))) (pow_256_pos w)
 
-pub length-eight : (w : ℕ) (f : ℕ → ℕ) → length (countBytes w (list_of 8 f)) ≡ 8 * w
-length-eight w f = length-counts w (list_of 8 f) (length-listOf 8 f)
+pub length-eight : (w : ℕ) (f : ℕ → ℕ) → length (count_bytes w (list_of 8 f)) ≡ 8 * w
+length-eight w f = length-counts w (list_of 8 f) (length-list_of 8 f)
 
-pub even-clocks : (w : ℕ) (g : ℕ → Cut) → Even (countBytes w) (8 * w) (clockRows g)
-even-clocks w g c m =
-    let r = member-listOf 8 (λ p. list_of 8 (g p)) c m in
+pub even_clocks : (w : ℕ) (g : ℕ → Cut) → Even (count_bytes w) (8 * w) (clock_rows g)
+even_clocks w g c m =
+    let r = member_list_of 8 (λ p. list_of 8 (g p)) c m in
     rw r.2 (length-eight w (g r.0))
 
-pub length-clocks : (w : ℕ) (g : ℕ → Cut) → length (clockBytes w (clockRows g)) ≡ 64 * w
-length-clocks w g =
+pub length_clocks : (w : ℕ) (g : ℕ → Cut) → length (clock_bytes w (clock_rows g)) ≡ 64 * w
+length_clocks w g =
     rw (
-      clockBytes-blocks w (clockRows g),
-      length-blocks (countBytes w) (8 * w) (clockRows g) (even-clocks w g),
-      length-listOf 8 (λ p. list_of 8 (g p)),
+      clock_bytes-blocks_lem w (clock_rows g),
+      length-blocks (count_bytes w) (8 * w) (clock_rows g) (even_clocks w g),
+      length-list_of 8 (λ p. list_of 8 (g p)),
     )
     (omega arith)
 
-pub length-tableBlock : (ls : List Line) → length ls ≤ 64 → length (tableBlock ls) ≡ 192
-length-tableBlock ls h = rw (length-append, length-tableBytes ls, length-replicate) (omega arith)
+pub length-table_block : (ls : List Line) → length ls ≤ 64 → length (table_block ls) ≡ 192
+length-table_block ls h = rw (length-append, length-table_bytes ls, length-replicate) (omega arith)
 
 -- Each of some events can be stored.
 abbrev pub AllStorable : ℕ → List Event → Type 0
 AllStorable w es = (e : Event) → Memᴰ e es → Storable w e
 
-pub even-pending : (w : ℕ) (es : List Event) → AllStorable w es → Even (eventBytes w) (eventLength w) es
-even-pending w es h e m = length-eventBytes w e (h e m)
+pub even_pending : (w : ℕ) (es : List Event) → AllStorable w es → Even (event_bytes w) (event_length w) es
+even_pending w es h e m = length-event_bytes w e (h e m)
 
-pub length-eventsBytes : (w : ℕ) (es : List Event) → AllStorable w es
-    → length (eventsBytes w es) ≡ length es * eventLength w
-length-eventsBytes w es h =
-    rw (eventsBytes-blocks w es) (length-blocks (eventBytes w) (eventLength w) es (even-pending w es h))
+pub length-events_bytes : (w : ℕ) (es : List Event) → AllStorable w es
+    → length (events_bytes w es) ≡ length es * event_length w
+length-events_bytes w es h =
+    rw (events_bytes-blocks_lem w es) (length-blocks (event_bytes w) (event_length w) es (even_pending w es h))
 
-pub length-pendingBlock : (w : ℕ) (es : List Event) → length es ≤ 32 → AllStorable w es
-    → length (pendingBlock w es) ≡ 32 * eventLength w
-length-pendingBlock w es few h =
+pub length-pending_block : (w : ℕ) (es : List Event) → length es ≤ 32 → AllStorable w es
+    → length (pending_block w es) ≡ 32 * event_length w
+length-pending_block w es few h =
     let whole : length es + (32 - length es) ≡ 32 = omega arith in
     rw (
       length-append,
-      length-eventsBytes w es h,
+      length-events_bytes w es h,
       length-replicate,
-      ← add-mul (length es) (32 - length es) (eventLength w),
+      ← add-mul (length es) (32 - length es) (event_length w),
       whole,
     )
 
-pub length-frontBytes : (w : ℕ) (t : Status) (waiting : ℕ) → length t.table ≤ 64
-    → length (frontBytes w t waiting) ≡ 200 + 72 * w
-length-frontBytes w t waiting short =
-    length-four (headBytes t.processes (length t.table) waiting t.closed t.kept)
-    (countBytes w (list_of 8 t.counts)) (clockBytes w (clockRows t.clocks)) (tableBlock t.table)
+pub length-front_bytes : (w : ℕ) (t : Status) (waiting : ℕ) → length t.table ≤ 64
+    → length (front_bytes w t waiting) ≡ 200 + 72 * w
+length-front_bytes w t waiting short =
+    length_four (head_bytes t.processes (length t.table) waiting t.closed t.kept)
+    (count_bytes w (list_of 8 t.counts)) (clock_bytes w (clock_rows t.clocks)) (table_block t.table)
     ∙ rw (
-      length-headBytes t.processes (length t.table) waiting t.closed t.kept,
+      length-head_bytes t.processes (length t.table) waiting t.closed t.kept,
       length-eight w t.counts,
-      length-clocks w t.clocks,
-      length-tableBlock t.table short,
+      length_clocks w t.clocks,
+      length-table_block t.table short,
     )
     (omega arith)
   where
-    length-four : (h c k b : List ℕ) → length (h ++ c ++ k ++ b) ≡ length h + length c + length k + length b
-    length-four h c k b = simp length-append
+    length_four : (h c k b : List ℕ) → length (h ++ c ++ k ++ b) ≡ length h + length c + length k + length b
+    length_four h c k b = simp length-append
 
-pub length-beforeClocks : (w : ℕ) (t : Status) → length (beforeClocks w t) ≡ 8 + 8 * w
-length-beforeClocks w t =
-    rw (length-append, length-headOf t, length-eight w t.counts)
+pub length-before_clocks : (w : ℕ) (t : Status) → length (before_clocks w t) ≡ 8 + 8 * w
+length-before_clocks w t =
+    rw (length-append, length-head_of t, length-eight w t.counts)
 
-pub length-beforeTable : (w : ℕ) (t : Status) → length (beforeTable w t) ≡ 8 + 72 * w
-length-beforeTable w t = rw (length-append, length-beforeClocks w t, length-clocks w t.clocks) (omega arith)
+pub length-before_table : (w : ℕ) (t : Status) → length (before_table w t) ≡ 8 + 72 * w
+length-before_table w t = rw (length-append, length-before_clocks w t, length_clocks w t.clocks) (omega arith)

@@ -11,53 +11,53 @@ use Rattle.std.proofs.lemmas.List.{length-replicate}
 use Rattle.std.proofs.Math.Dec.{T, leb}
 use Rattle.pactl.specs.declared.Line.{Line}
 use Rattle.clocks.specs.declared.Event.{Event}
-use Rattle.frontiers.specs.Bytes.{windowBytes, frontierLength, frontiers}
+use Rattle.frontiers.specs.Bytes.{window_bytes, frontier_length, frontiers}
 use Rattle.clocks.specs.Event.{Cut, Ready}
 use Rattle.clocks.specs.Counts.{at}
 use Rattle.frontiers.specs.declared.Frontier.{Frontier}
-use Rattle.window.specs.SteppedCount.{stepped-many}
-use Rattle.window.specs.Step.{Setting, stepped, keptAfter, fits}
+use Rattle.window.specs.SteppedCount.{stepped_many}
+use Rattle.window.specs.Step.{Setting, stepped, kept_after, fits}
 use Rattle.window_laws.specs.Represents.{setting_of}
-use Rattle.frontiers.specs.ListLaws.{place-member}
+use Rattle.frontiers.specs.ListLaws.{place_member}
 use Rattle.clocks.specs.History.{taken}
-use Rattle.clocks.specs.stored.BoundedLaws.{and_r, or-false-e}
+use Rattle.clocks.specs.stored.BoundedLaws.{and_r, or-false_e}
 use Rattle.clocks.specs.Valid.{WellFormed}
 use Rattle.demands.specs.Watching.{Rule, Watching}
-use Rattle.demands.specs.calls.WatchingLaws.{says-pending, lent_longer, never-34, says-frontiers, says-event, ready-in, valid-in, setting-in}
-use Rattle.call_offer.specs.Offer.{offeredEvent}
+use Rattle.demands.specs.calls.WatchingLaws.{says_pending, lent_longer, never_34, says_frontiers, says_event, ready_in_lem, valid_in, setting_in_lem}
+use Rattle.call_offer.specs.Offer.{offered_event}
 use Rattle.demands.specs.Ledger.{Ledger}
-use Rattle.demands.specs.Run.{Passed, Watch, offeredLedger, closedLedger, after, offers, Call, run, takes, finds, closes, mislends, takenLedger, stoppedAt, trialOf}
-use Rattle.call_offer.specs.OfferCases.{OfferCase, offer-case, turned, repeats, accepted}
-use Rattle.demands.specs.calls.OfferLaws.{accepted-watching}
+use Rattle.demands.specs.Run.{Passed, Watch, offered_ledger, closed_ledger, after, offers, Call, run, takes, finds, closes, mislends, taken_ledger, stopped_at, trial_of}
+use Rattle.call_offer.specs.OfferCases.{OfferCase, offer_case, turned, repeats, accepted}
+use Rattle.demands.specs.calls.OfferLaws.{accepted_watching}
 use Rattle.call_close.specs.CloseCases as closing
-use Rattle.call_close.specs.CloseCases.{CloseCase, close-case}
-use Rattle.demands.specs.calls.CloseLaws.{closed-are, closed-watching}
-use Rattle.trial.specs.Trial.{validAmong, Decision, settingIn}
+use Rattle.call_close.specs.CloseCases.{CloseCase, close_case}
+use Rattle.demands.specs.calls.CloseLaws.{closed_are, closed_watching}
+use Rattle.trial.specs.Trial.{valid_among, Decision, setting_in}
 use Rattle.call_take.specs.Take as take
-use Rattle.call_take.specs.Take.{decided, allowedOf, takeCapped, Taken}
-use Rattle.records.specs.Record.{readyIn, keptCount, removed}
-use Rattle.refusals.specs.Refusals.{badRecordLength, badWindowLength, roomOf, badState}
-use Rattle.answers.specs.Answer.{turnedBack}
-use Rattle.trial.specs.TrialLaws.{walked, as-they-stand, Outcome, outcome, none-decides, falsifies, chooses}
-use Rattle.demands.specs.calls.PendingOrder.{ordered-ascends}
-use Rattle.demands.specs.calls.TakeLaws.{falsified-watching, taken-watching, taken-window}
-use Rattle.demands.specs.Status.{removeAt}
-use Rattle.refusals.specs.RefusalLaws.{room-few}
-use Rattle.demands.specs.World.{worldOf, Valid}
-use Rattle.demands.specs.calls.TakeLedger.{ledgerAfter, ledger-follows, within-trial}
+use Rattle.call_take.specs.Take.{decided, allowed_of, take_capped, Taken}
+use Rattle.records.specs.Record.{ready_in, kept_count, removed}
+use Rattle.refusals.specs.Refusals.{bad_record_length, bad_window_length, room_of, bad_state}
+use Rattle.answers.specs.Answer.{turned_back}
+use Rattle.trial.specs.TrialLaws.{walked, as_they_stand, Outcome, outcome, none_decides, falsifies, chooses}
+use Rattle.demands.specs.calls.PendingOrder.{ordered_ascends}
+use Rattle.demands.specs.calls.TakeLaws.{falsified_watching, taken_watching, taken_window}
+use Rattle.demands.specs.Status.{remove_at}
+use Rattle.refusals.specs.RefusalLaws.{room_few}
+use Rattle.demands.specs.World.{world_of, Valid}
+use Rattle.demands.specs.calls.TakeLedger.{ledger_after, ledger_follows, within-trial}
 
 -- ---- A watch and its ledger
 abbrev pub WatchRight : ℕ → ℕ → List Line → Cut → Watch → Type 0
 WatchRight w k table start W = Watching w k table start W.ledger W.bytes W.window
 
 -- Stands for an event that is not there.
-abbrev pub noEvent : Event
-noEvent = record { mask = 0; clock = []; labels = [] }
+abbrev pub no_event : Event
+no_event = record { mask = 0; clock = []; labels = [] }
 
 -- the room of a window, in frontiers and in bytes
-pub room-iff : (w n total : ℕ) → (n ≤ roomOf w total) ↔ (n * frontierLength w ≤ total)
-unfolding roomOf frontierLength
-room-iff w n total = le-div_iff_mul-le (omega arith)
+pub room_iff : (w n total : ℕ) → (n ≤ room_of w total) ↔ (n * frontier_length w ≤ total)
+unfolding room_of frontier_length
+room_iff w n total = le-div_iff_mul-le (omega arith)
 
 module _ (w k : ℕ) (table : List Line) (start : Cut) (R : Rule w k table start) where
   -- ---- a window lent longer
@@ -65,9 +65,9 @@ module _ (w k : ℕ) (table : List Line) (start : Cut) (R : Rule w k table start
       → Watching w k table start L bytes (window ++ replicate zeros 0)
   lengthened L bytes window X zeros = record {
     kept = X.kept;
-    bytes-are = X.bytes-are;
-    window-is =
-        lent_longer w k table start R L bytes window X zeros ∙ ap (λ (t : ℕ). windowBytes w t X.kept) (sym long);
+    bytes_are = X.bytes_are;
+    window_is =
+        lent_longer w k table start R L bytes window X zeros ∙ ap (λ (t : ℕ). window_bytes w t X.kept) (sym long);
     room = omega (arith, long, X.room);
     few = X.few;
     represents = X.represents;
@@ -77,185 +77,185 @@ module _ (w k : ℕ) (table : List Line) (start : Cut) (R : Rule w k table start
     faultless = X.faultless;
     storable = X.storable;
     many = X.many;
-    closed-below = X.closed-below;
-    names-open = X.names-open;
+    closed_below = X.closed_below;
+    names_open = X.names_open;
   }
     where
       long : length (window ++ replicate zeros 0) ≡ length window + zeros
       long = length-append window (replicate zeros 0) ∙ ap (λ (n : ℕ). length window + n) (length-replicate zeros 0)
 
   -- ---- offer
-  offer-right : (W : Watch) → WatchRight w k table start W → (mask : ℕ) (clock labels : List ℕ)
+  offer_right : (W : Watch) → WatchRight w k table start W → (mask : ℕ) (clock labels : List ℕ)
       → Passed w (offers mask clock labels) → WatchRight w k table start (after w (offers mask clock labels) W)
-  unfolding after offeredLedger
-  offer-right W X mask clock labels p = go (offer-case w mask clock labels W.bytes)
+  unfolding after offered_ledger
+  offer_right W X mask clock labels p = go (offer_case w mask clock labels W.bytes)
     where
       e : Event
-      e = offeredEvent mask clock labels
+      e = offered_event mask clock labels
 
       go : OfferCase w mask clock labels W.bytes → WatchRight w k table start (after w (offers mask clock labels) W)
       go (turned n some small other q) = rw q X
       go (repeats h7 h q) = rw q X
       go (accepted h7 h8 h9 h42 h31 h32 h33 q) =
-          let says = says-pending w k table start R W.ledger W.bytes W.window X in
-          let watched = accepted-watching w k table start R W.ledger W.bytes W.window X mask clock labels p
+          let says = says_pending w k table start R W.ledger W.bytes W.window X in
+          let watched = accepted_watching w k table start R W.ledger W.bytes W.window X mask clock labels p
           h7 h8 h9 h42 h31 h32 h33 in
           rw (q, says) (rw says at watched)
 
   -- ---- close
-  close-right : (W : Watch) → WatchRight w k table start W → (p : ℕ) → WatchRight w k table start (after w (closes p) W)
-  unfolding after closedLedger
-  close-right W X p = go (close-case w p W.bytes W.window)
+  close_right : (W : Watch) → WatchRight w k table start W → (p : ℕ) → WatchRight w k table start (after w (closes p) W)
+  unfolding after closed_ledger
+  close_right W X p = go (close_case w p W.bytes W.window)
     where
       go : CloseCase w p W.bytes W.window → WatchRight w k table start (after w (closes p) W)
       go (closing.turned n some small other q) = rw q X
       go (closing.accepted h41 h42 q) =
-          rw (q, closed-are w k table start R W.ledger W.bytes W.window X p h41 h42)
-          (closed-watching w k table start R W.ledger W.bytes W.window X p h41 h42)
+          rw (q, closed_are w k table start R W.ledger W.bytes W.window X p h41 h42)
+          (closed_watching w k table start R W.ledger W.bytes W.window X p h41 h42)
 
   -- ---- take, lent a window of whatever length
   module _ (L : Ledger) (bytes lent : List ℕ) (X : Watching w k table start L bytes lent) (cap : ℕ)
       (scratch : List ℕ) where
     -- 6, of the three lent buffers
-    unfoldable pub badLengths : Bool
-    badLengths = take.badLengths w (length bytes) (length lent) (length scratch)
+    unfoldable pub bad_lengths : Bool
+    bad_lengths = take.bad_lengths w (length bytes) (length lent) (length scratch)
 
     -- the ledger after the take
-    abbrev pub ledgerThen : Ledger
-    ledgerThen =
-        takenLedger w bytes (stoppedAt (trialOf w cap bytes lent)) L (takeCapped w cap bytes lent scratch).answer
+    abbrev pub ledger_then : Ledger
+    ledger_then =
+        taken_ledger w bytes (stopped_at (trial_of w cap bytes lent)) L (take_capped w cap bytes lent scratch).answer
 
-    pub take-6 : badLengths ≡ true
-        → (takeCapped w cap bytes lent scratch
-        ≡ record { answer = turnedBack 6 0; bytes = bytes; window = lent; scratch = scratch }) × (ledgerThen ≡ L)
-    unfolding takeCapped takenLedger badLengths
-    take-6 h = (rw h, rw h)
+    pub take_6 : bad_lengths ≡ true
+        → (take_capped w cap bytes lent scratch
+        ≡ record { answer = turned_back 6 0; bytes = bytes; window = lent; scratch = scratch }) × (ledger_then ≡ L)
+    unfolding take_capped taken_ledger bad_lengths
+    take_6 h = (rw h, rw h)
 
     -- else it goes through the pending events, which stand in the order in which they are tried
     abbrev pub decision : Decision
-    decision = walked w bytes (validAmong X.kept) (allowedOf w cap lent) X.kept 0 false L.pending
+    decision = walked w bytes (valid_among X.kept) (allowed_of w cap lent) X.kept 0 false L.pending
 
-    read : frontiers w lent (keptCount bytes) ≡ X.kept
+    read : frontiers w lent (kept_count bytes) ≡ X.kept
     read =
-        ap (λ (s : List ℕ). frontiers w s (keptCount bytes)) X.window-is
-        ∙ says-frontiers w k table start R L bytes lent X (length lent)
+        ap (λ (s : List ℕ). frontiers w s (kept_count bytes)) X.window_is
+        ∙ says_frontiers w k table start R L bytes lent X (length lent)
 
-    pub take-else : badLengths ≡ false
-        → (takeCapped w cap bytes lent scratch ≡ decided w bytes lent X.kept decision)
-        × (ledgerThen ≡ ledgerAfter w bytes L decision)
-    unfolding takeCapped badLengths trialOf
+    pub take-else : bad_lengths ≡ false
+        → (take_capped w cap bytes lent scratch ≡ decided w bytes lent X.kept decision)
+        × (ledger_then ≡ ledger_after w bytes L decision)
+    unfolding take_capped bad_lengths trial_of
     take-else h = (
       whole,
-      ap₂ (λ (d : Decision) (x : Taken). takenLedger w bytes (stoppedAt d) L x.answer) same whole
-          ∙ ledger-follows w bytes lent X.kept L decision,
+      ap₂ (λ (d : Decision) (x : Taken). taken_ledger w bytes (stopped_at d) L x.answer) same whole
+          ∙ ledger_follows w bytes lent X.kept L decision,
     )
       where
-        same : trialOf w cap bytes lent ≡ decision
+        same : trial_of w cap bytes lent ≡ decision
         same =
-            let pending = says-pending w k table start R L bytes lent X in
-            as-they-stand w bytes _ _ _ (rw pending (ordered-ascends L.pending X.ordered)) ∙ rw (read, pending)
+            let pending = says_pending w k table start R L bytes lent X in
+            as_they_stand w bytes _ _ _ (rw pending (ordered_ascends L.pending X.ordered)) ∙ rw (read, pending)
 
-        n : badState w (roomOf w (length lent)) bytes ≡ false
+        n : bad_state w (room_of w (length lent)) bytes ≡ false
         n =
-            never-34 w k table start R L bytes lent X (roomOf w (length lent))
-            ((room-iff w (length X.kept) (length lent)).1 X.room)
+            never_34 w k table start R L bytes lent X (room_of w (length lent))
+            ((room_iff w (length X.kept) (length lent)).1 X.room)
 
-        whole : takeCapped w cap bytes lent scratch ≡ decided w bytes lent X.kept decision
+        whole : take_capped w cap bytes lent scratch ≡ decided w bytes lent X.kept decision
         whole = rw (h, n) (within-trial w cap bytes lent ∙ ap₂ (decided w bytes lent) read same)
 
     -- what the trial comes to
-    pub trial : Outcome w bytes (validAmong X.kept) (allowedOf w cap lent) X.kept 0 false L.pending noEvent
-    trial = outcome w bytes (validAmong X.kept) (allowedOf w cap lent) X.kept noEvent 0 false L.pending
+    pub trial : Outcome w bytes (valid_among X.kept) (allowed_of w cap lent) X.kept 0 false L.pending no_event
+    trial = outcome w bytes (valid_among X.kept) (allowed_of w cap lent) X.kept no_event 0 false L.pending
 
     -- of a pending event, by the taken events
     module _ (j : ℕ) (l : j < length L.pending) where
       abbrev e : Event
-      e = get_or L.pending j noEvent
+      e = get_or L.pending j no_event
 
       member : Memᴰ e L.pending
-      member = place-member L.pending j noEvent l
+      member = place_member L.pending j no_event l
 
       formed : WellFormed k e
       formed = X.right.formed e member
 
-      pub is-ready : T (readyIn w bytes e) → Ready e (taken L.history)
-      is-ready = (ready-in w k table start R L bytes lent X e formed).0
+      pub is_ready : T (ready_in w bytes e) → Ready e (taken L.history)
+      is_ready = (ready_in_lem w k table start R L bytes lent X e formed).0
 
-      pub is-valid : T (readyIn w bytes e) → T (validAmong X.kept e) → Valid L.history e
-      is-valid r = (valid-in w k table start R L bytes lent X e formed (X.names-open e member) (is-ready r)).0
+      pub is_valid : T (ready_in w bytes e) → T (valid_among X.kept e) → Valid L.history e
+      is_valid r = (valid_in w k table start R L bytes lent X e formed (X.names_open e member) (is_ready r)).0
 
-      is_false : T (readyIn w bytes e) → validAmong X.kept e ≡ false → Valid L.history e → ⊥
+      is_false : T (ready_in w bytes e) → valid_among X.kept e ≡ false → Valid L.history e → ⊥
       is_false r h t =
-          subst T h ((valid-in w k table start R L bytes lent X e formed (X.names-open e member) (is-ready r)).1 t)
+          subst T h ((valid_in w k table start R L bytes lent X e formed (X.names_open e member) (is_ready r)).1 t)
 
       abbrev gs : List Frontier
-      gs = stepped (setting_of (worldOf k L.closed table start) L.history e) X.kept
+      gs = stepped (setting_of (world_of k L.closed table start) L.history e) X.kept
 
       -- it fits exactly if the stepped window does
-      fits-allowed : T (fits (settingIn w bytes e) (allowedOf w cap lent) X.kept) → length gs ≤ allowedOf w cap lent
+      fits_allowed : T (fits (setting_in w bytes e) (allowed_of w cap lent) X.kept) → length gs ≤ allowed_of w cap lent
       unfolding fits
-      fits-allowed t =
-          let s : Setting = setting_of (worldOf k L.closed table start) L.history e in
-          let q : settingIn w bytes e ≡ s = setting-in w k table start R L bytes lent X e in
-          let u : T (ltb 0 (keptAfter s X.kept) && leb (keptAfter s X.kept) (allowedOf w cap lent)) = rw q at t in
-          rw (stepped-many s X.kept)
-          (leb→le (keptAfter s X.kept) (allowedOf w cap lent)
-          (and_r (ltb 0 (keptAfter s X.kept)) (leb (keptAfter s X.kept) (allowedOf w cap lent)) u))
+      fits_allowed t =
+          let s : Setting = setting_of (world_of k L.closed table start) L.history e in
+          let q : setting_in w bytes e ≡ s = setting_in_lem w k table start R L bytes lent X e in
+          let u : T (ltb 0 (kept_after s X.kept) && leb (kept_after s X.kept) (allowed_of w cap lent)) = rw q at t in
+          rw (stepped_many s X.kept)
+          (leb→le (kept_after s X.kept) (allowed_of w cap lent)
+          (and_r (ltb 0 (kept_after s X.kept)) (leb (kept_after s X.kept) (allowed_of w cap lent)) u))
 
     -- ---- the watch after it
-    room-1024 : badLengths ≡ false → roomOf w (length lent) ≤ 1024
-    unfolding badLengths
-    room-1024 h =
+    room_1024 : bad_lengths ≡ false → room_of w (length lent) ≤ 1024
+    unfolding bad_lengths
+    room_1024 h =
         let uneven : Bool = not (eqb (length scratch) (length lent)) in
-        let windows = (or-false-e (badRecordLength w (length bytes)) (badWindowLength w (length lent) || uneven) h).1 in
-        room-few w (length lent) (or-false-e (badWindowLength w (length lent)) uneven windows).0
+        let windows = (or-false_e (bad_record_length w (length bytes)) (bad_window_length w (length lent) || uneven) h).1 in
+        room_few w (length lent) (or-false_e (bad_window_length w (length lent)) uneven windows).0
 
-    pub take-right : badLengths ≡ false
-        → Watching w k table start (ledgerAfter w bytes L decision) (decided w bytes lent X.kept decision).bytes
+    pub take_right : bad_lengths ≡ false
+        → Watching w k table start (ledger_after w bytes L decision) (decided w bytes lent X.kept decision).bytes
         (decided w bytes lent X.kept decision).window
-    unfolding ledgerAfter decided
-    take-right h = go trial
+    unfolding ledger_after decided
+    take_right h = go trial
       where
-        go : Outcome w bytes (validAmong X.kept) (allowedOf w cap lent) X.kept 0 false L.pending noEvent
-            → Watching w k table start (ledgerAfter w bytes L decision) (decided w bytes lent X.kept decision).bytes
+        go : Outcome w bytes (valid_among X.kept) (allowed_of w cap lent) X.kept 0 false L.pending no_event
+            → Watching w k table start (ledger_after w bytes L decision) (decided w bytes lent X.kept decision).bytes
             (decided w bytes lent X.kept decision).window
-        go (none-decides b q u o) = rw q X
+        go (none_decides b q u o) = rw q X
         go (falsifies j l q r n x) =
             let i : 0 + j ≡ j = omega arith in
             let without : Ledger = record {
               history = L.history;
-              pending = removeAt j L.pending;
-              falsified = get_or L.pending j noEvent ∷ L.falsified;
+              pending = remove_at j L.pending;
+              falsified = get_or L.pending j no_event ∷ L.falsified;
               closed = L.closed;
             } in
-            rw (q, i, says-event w k table start R L bytes lent X j noEvent l)
-            (subst (Watching w k table start without (removed w bytes j)) (sym X.window-is)
-            (falsified-watching w k table start R L bytes lent X j noEvent l (is-ready j l r) (is_false j l r n)
+            rw (q, i, says_event w k table start R L bytes lent X j no_event l)
+            (subst (Watching w k table start without (removed w bytes j)) (sym X.window_is)
+            (falsified_watching w k table start R L bytes lent X j no_event l (is_ready j l r) (is_false j l r n)
             (length lent) (omega arith)))
         go (chooses j l q r v f x) =
             let i : 0 + j ≡ j = omega arith in
-            let many : length (gs j l) ≤ roomOf w (length lent) =
-            le_trans (fits-allowed j l f) (min-le_right cap (roomOf w (length lent))) in
-            let fit = (room-iff w (length (gs j l)) (length lent)).0 many in
+            let many : length (gs j l) ≤ room_of w (length lent) =
+            le_trans (fits_allowed j l f) (min-le_right cap (room_of w (length lent))) in
+            let fit = (room_iff w (length (gs j l)) (length lent)).0 many in
             rw (
               q,
               i,
-              says-event w k table start R L bytes lent X j noEvent l,
-              setting-in w k table start R L bytes lent X (get_or L.pending j noEvent),
-              taken-window w k table start R L bytes lent X j noEvent l (is-ready j l r) (is-valid j l r v) fit,
+              says_event w k table start R L bytes lent X j no_event l,
+              setting_in_lem w k table start R L bytes lent X (get_or L.pending j no_event),
+              taken_window w k table start R L bytes lent X j no_event l (is_ready j l r) (is_valid j l r v) fit,
             )
-            (taken-watching w k table start R L bytes lent X j noEvent l (is-ready j l r) (is-valid j l r v)
-            (length lent) fit (le_trans many (room-1024 h)))
+            (taken_watching w k table start R L bytes lent X j no_event l (is_ready j l r) (is_valid j l r v)
+            (length lent) fit (le_trans many (room_1024 h)))
 
   -- ---- Theorem
-  pub after-right : (W : Watch) → WatchRight w k table start W → (c : Call) → Passed w c
+  pub after_right : (W : Watch) → WatchRight w k table start W → (c : Call) → Passed w c
       → WatchRight w k table start (after w c W)
-  unfolding after ledgerAfter
-  after-right W X (offers mask clock labels) p = offer-right W X mask clock labels p
-  after-right W X (finds line) p = X
-  after-right W X (mislends m) p = X
-  after-right W X (closes p) q = close-right W X p
-  after-right W X (takes cap zeros scratch) p = go (badLengths L bytes lent X' cap scratch) refl
+  unfolding after ledger_after
+  after_right W X (offers mask clock labels) p = offer_right W X mask clock labels p
+  after_right W X (finds line) p = X
+  after_right W X (mislends m) p = X
+  after_right W X (closes p) q = close_right W X p
+  after_right W X (takes cap zeros scratch) p = go (bad_lengths L bytes lent X' cap scratch) refl
     where
       L : Ledger
       L = W.ledger
@@ -269,16 +269,16 @@ module _ (w k : ℕ) (table : List Line) (start : Cut) (R : Rule w k table start
       X' : Watching w k table start L bytes lent
       X' = lengthened L bytes W.window X zeros
 
-      go : (b : Bool) → badLengths L bytes lent X' cap scratch ≡ b
+      go : (b : Bool) → bad_lengths L bytes lent X' cap scratch ≡ b
           → WatchRight w k table start (after w (takes cap zeros scratch) W)
-      go true h = let t = take-6 L bytes lent X' cap scratch h in rw (t.1, t.0) X'
+      go true h = let t = take_6 L bytes lent X' cap scratch h in rw (t.1, t.0) X'
       go false h =
           let t = take-else L bytes lent X' cap scratch h in
-          rw (t.1, t.0) (take-right L bytes lent X' cap scratch h)
+          rw (t.1, t.0) (take_right L bytes lent X' cap scratch h)
 
-  pub run-right : (W : Watch) → WatchRight w k table start W → (cs : List Call)
+  pub run_right : (W : Watch) → WatchRight w k table start W → (cs : List Call)
       → ((c : Call) → Memᴰ c cs → Passed w c) → WatchRight w k table start (run w cs W)
   unfolding run
-  run-right W X [] p = X
-  run-right W X (c ∷ cs) p =
-      run-right (after w c W) (after-right W X c (p c (Memᴰ.head refl))) cs (λ d m. p d (Memᴰ.tail m))
+  run_right W X [] p = X
+  run_right W X (c ∷ cs) p =
+      run_right (after w c W) (after_right W X c (p c (Memᴰ.head refl))) cs (λ d m. p d (Memᴰ.tail m))

@@ -6,67 +6,67 @@ use Rattle.pactl.specs.declared.Line.{Line}
 use Rattle.clocks.specs.declared.Event.{Event}
 use Rattle.clocks.specs.Event.{Cut}
 use Rattle.clocks.specs.History.{taken}
-use Rattle.clocks.specs.Refusal.{badMask, badClock, badLabels}
-use Rattle.records.specs.Record.{recordLength, pendingEvents}
-use Rattle.refusals.specs.Refusals.{badRecordLength, namesClosed, alreadyTaken, conflicting}
+use Rattle.clocks.specs.Refusal.{bad_mask, bad_clock, bad_labels}
+use Rattle.records.specs.Record.{record_length, pending_events}
+use Rattle.refusals.specs.Refusals.{bad_record_length, names_closed, already_taken, conflicting}
 use Rattle.repeats.specs.Repeats.{repeated}
-use Rattle.answers.specs.Answer.{Answer, turnedBack, state, nothingReady, held, again, found, absent, processClosed}
-use Rattle.call_offer.specs.Offer.{Offered, offeredEvent, offerCall}
+use Rattle.answers.specs.Answer.{Answer, turned_back, state, nothing_ready, held, again, found, absent, process_closed}
+use Rattle.call_offer.specs.Offer.{Offered, offered_event, offer_call}
 use Rattle.demands.specs.Ledger.{Ledger}
-use Rattle.demands.specs.Run.{offeredLedger}
+use Rattle.demands.specs.Run.{offered_ledger}
 use Rattle.demands.specs.Watching.{Rule, Watching}
-use Rattle.demands.specs.calls.WatchingLaws.{bytes-long, says-processes, says-many, says-closed, says-pending, says-taken, never-34}
+use Rattle.demands.specs.calls.WatchingLaws.{bytes_long, says_processes, says_many, says_closed, says_pending, says_taken, never_34}
 
 -- ---- Definition
 
-abbrev pub offerAnswer : ℕ → Ledger → ℕ → List ℕ → List ℕ → Answer
-offerAnswer k L mask clock labels =
-    let e = offeredEvent mask clock labels in
-    cond (badMask k mask) (turnedBack 7 0)
-    (cond (badClock k mask clock) (turnedBack 8 0)
-    (cond (badLabels mask labels) (turnedBack 9 0)
-    (cond (namesClosed L.closed e) (turnedBack 42 0)
-    (cond (alreadyTaken e (taken L.history)) (turnedBack 31 0)
+abbrev pub offer_answer : ℕ → Ledger → ℕ → List ℕ → List ℕ → Answer
+offer_answer k L mask clock labels =
+    let e = offered_event mask clock labels in
+    cond (bad_mask k mask) (turned_back 7 0)
+    (cond (bad_clock k mask clock) (turned_back 8 0)
+    (cond (bad_labels mask labels) (turned_back 9 0)
+    (cond (names_closed L.closed e) (turned_back 42 0)
+    (cond (already_taken e (taken L.history)) (turned_back 31 0)
     (cond (repeated e L.pending) again
-    (cond (conflicting e L.pending) (turnedBack 32 0)
-    (cond (leb 32 (length L.pending)) (turnedBack 33 0)
+    (cond (conflicting e L.pending) (turned_back 32 0)
+    (cond (leb 32 (length L.pending)) (turned_back 33 0)
     (held (length L.pending + 1)))))))))
 
 -- ---- Laws
 
-answer-cond : (b : Bool) (x y : Offered) → (cond b x y).answer ≡ cond b x.answer y.answer
-answer-cond true x y = refl
-answer-cond false x y = refl
+answer_cond : (b : Bool) (x y : Offered) → (cond b x y).answer ≡ cond b x.answer y.answer
+answer_cond true x y = refl
+answer_cond false x y = refl
 
 module _ (w k : ℕ) (table : List Line) (start : Cut) (R : Rule w k table start) (L : Ledger) (bytes window : List ℕ)
     (X : Watching w k table start L bytes window) (mask : ℕ) (clock labels : List ℕ) where
-  long : badRecordLength w (length bytes) ≡ false
-  unfolding badRecordLength
-  long = rw (eq-eqb (length bytes) (recordLength w) (bytes-long w k table start R L bytes window X))
+  long : bad_record_length w (length bytes) ≡ false
+  unfolding bad_record_length
+  long = rw (eq-eqb (length bytes) (record_length w) (bytes_long w k table start R L bytes window X))
 
-  pub offer-by-ledger : (offerCall w mask clock labels bytes).answer ≡ offerAnswer k L mask clock labels
-  unfolding offerCall
-  offer-by-ledger =
+  pub offer_by_ledger : (offer_call w mask clock labels bytes).answer ≡ offer_answer k L mask clock labels
+  unfolding offer_call
+  offer_by_ledger =
       rw (
         long,
-        never-34 w k table start R L bytes window X 1024 X.few,
-        says-processes w k table start R L bytes window X,
-        says-closed w k table start R L bytes window X,
-        says-taken w k table start R L bytes window X,
-        says-pending w k table start R L bytes window X,
-        says-many w k table start R L bytes window X,
+        never_34 w k table start R L bytes window X 1024 X.few,
+        says_processes w k table start R L bytes window X,
+        says_closed w k table start R L bytes window X,
+        says_taken w k table start R L bytes window X,
+        says_pending w k table start R L bytes window X,
+        says_many w k table start R L bytes window X,
       )
-      (simp answer-cond)
+      (simp answer_cond)
 
 -- Where the pending events are the same in two records, so is the ledger that an answer leaves.
-pub offered-alike : (v w : ℕ) (s t : List ℕ) → pendingEvents v s ≡ pendingEvents w t → (e : Event) (L : Ledger)
-    (a : Answer) → offeredLedger v s e L a ≡ offeredLedger w t e L a
-unfolding offeredLedger
-offered-alike v w s t q e L (held n) = rw q
-offered-alike v w s t q e L again = refl
-offered-alike v w s t q e L (turnedBack n i) = refl
-offered-alike v w s t q e L (state c u k) = refl
-offered-alike v w s t q e L nothingReady = refl
-offered-alike v w s t q e L (found i) = refl
-offered-alike v w s t q e L absent = refl
-offered-alike v w s t q e L (processClosed n) = refl
+pub offered_alike : (v w : ℕ) (s t : List ℕ) → pending_events v s ≡ pending_events w t → (e : Event) (L : Ledger)
+    (a : Answer) → offered_ledger v s e L a ≡ offered_ledger w t e L a
+unfolding offered_ledger
+offered_alike v w s t q e L (held n) = rw q
+offered_alike v w s t q e L again = refl
+offered_alike v w s t q e L (turned_back n i) = refl
+offered_alike v w s t q e L (state c u k) = refl
+offered_alike v w s t q e L nothing_ready = refl
+offered_alike v w s t q e L (found i) = refl
+offered_alike v w s t q e L absent = refl
+offered_alike v w s t q e L (process_closed n) = refl

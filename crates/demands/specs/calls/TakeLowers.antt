@@ -6,40 +6,40 @@ use Rattle.std.proofs.Math.Path.{refl}
 use Rattle.pactl.specs.declared.Line.{Line}
 use Rattle.clocks.specs.Event.{Cut}
 use Rattle.demands.specs.Watching.{Rule, Watching}
-use Rattle.records.specs.Record.{pendingCount}
-use Rattle.demands.specs.bytes.RecordLaws.{pendingCount-recordBytes}
-use Rattle.demands.specs.Status.{removeAt}
-use Rattle.trial.specs.Trial.{validAmong, Decision, undecided}
-use Rattle.call_take.specs.Take.{allowedOf, takeCapped, Taken, decided}
-use Rattle.answers.specs.Answer.{turnedBack, nothingReady}
-use Rattle.trial.specs.TrialLaws.{Outcome, none-decides, falsifies, chooses}
+use Rattle.records.specs.Record.{pending_count}
+use Rattle.demands.specs.bytes.RecordLaws.{pending_count-record_bytes_lem}
+use Rattle.demands.specs.Status.{remove_at}
+use Rattle.trial.specs.Trial.{valid_among, Decision, undecided}
+use Rattle.call_take.specs.Take.{allowed_of, take_capped, Taken, decided}
+use Rattle.answers.specs.Answer.{turned_back, nothing_ready}
+use Rattle.trial.specs.TrialLaws.{Outcome, none_decides, falsifies, chooses}
 use Rattle.demands.specs.Ledger.{Ledger}
-use Rattle.demands.specs.bytes.InsertLaws.{length-removeAt}
-use Rattle.demands.specs.calls.AfterCall.{noEvent, badLengths, decision, take-6, take-else, take-right, trial}
-use Rattle.demands.specs.calls.TakeLedger.{ledgerAfter}
+use Rattle.demands.specs.bytes.InsertLaws.{length-remove_at}
+use Rattle.demands.specs.calls.AfterCall.{no_event, bad_lengths, decision, take_6, take-else, take_right, trial}
+use Rattle.demands.specs.calls.TakeLedger.{ledger_after}
 
 module _ (w k : ℕ) (table : List Line) (start : Cut) (R : Rule w k table start) (L : Ledger) (bytes lent : List ℕ)
     (X : Watching w k table start L bytes lent) (cap : ℕ) (scratch : List ℕ) where
   abbrev took : Taken
-  took = takeCapped w cap bytes lent scratch
+  took = take_capped w cap bytes lent scratch
 
   -- the record's number of pending events is the ledger's
-  many : (M : Ledger) (s window : List ℕ) → Watching w k table start M s window → pendingCount s ≡ length M.pending
-  many M s window Y = ap pendingCount Y.bytes-are ∙ pendingCount-recordBytes w _
+  many : (M : Ledger) (s window : List ℕ) → Watching w k table start M s window → pending_count s ≡ length M.pending
+  many M s window Y = ap pending_count Y.bytes_are ∙ pending_count-record_bytes_lem w _
 
   -- ---- Theorem
-  pub take-lowers : took.answer ≢ nothingReady → took.answer ≢ turnedBack 6 0 → took.answer ≢ turnedBack 36 0
-      → pendingCount took.bytes + 1 ≡ pendingCount bytes
-  unfolding decided ledgerAfter
-  take-lowers n0 n6 n36 = lengths (badLengths w k table start R L bytes lent X cap scratch) refl
+  pub take_lowers : took.answer ≢ nothing_ready → took.answer ≢ turned_back 6 0 → took.answer ≢ turned_back 36 0
+      → pending_count took.bytes + 1 ≡ pending_count bytes
+  unfolding decided ledger_after
+  take_lowers n0 n6 n36 = lengths (bad_lengths w k table start R L bytes lent X cap scratch) refl
     where
       D : Decision
       D = decision w k table start R L bytes lent X cap scratch
 
-      lengths : (b : Bool) → badLengths w k table start R L bytes lent X cap scratch ≡ b
-          → pendingCount took.bytes + 1 ≡ pendingCount bytes
+      lengths : (b : Bool) → bad_lengths w k table start R L bytes lent X cap scratch ≡ b
+          → pending_count took.bytes + 1 ≡ pending_count bytes
       lengths true h =
-          absurd (n6 (ap (λ (x : Taken). x.answer) (take-6 w k table start R L bytes lent X cap scratch h).0))
+          absurd (n6 (ap (λ (x : Taken). x.answer) (take_6 w k table start R L bytes lent X cap scratch h).0))
       lengths false h = go (trial w k table start R L bytes lent X cap scratch)
         where
           t : took ≡ decided w bytes lent X.kept D
@@ -48,23 +48,23 @@ module _ (w k : ℕ) (table : List Line) (start : Cut) (R : Rule w k table start
           answered : (d : Decision) → D ≡ d → took.answer ≡ (decided w bytes lent X.kept d).answer
           answered d q = ap (λ (x : Taken). x.answer) (t ∙ ap (decided w bytes lent X.kept) q)
 
-          after : pendingCount took.bytes ≡ length (ledgerAfter w bytes L D).pending
+          after : pending_count took.bytes ≡ length (ledger_after w bytes L D).pending
           after =
-              ap (λ (x : Taken). pendingCount x.bytes) t
-              ∙ many (ledgerAfter w bytes L D) _ _ (take-right w k table start R L bytes lent X cap scratch h)
+              ap (λ (x : Taken). pending_count x.bytes) t
+              ∙ many (ledger_after w bytes L D) _ _ (take_right w k table start R L bytes lent X cap scratch h)
 
           -- event j is no longer there
-          without : (j : ℕ) → j < length L.pending → (ledgerAfter w bytes L D).pending ≡ removeAt (0 + j) L.pending
-              → pendingCount took.bytes + 1 ≡ pendingCount bytes
+          without : (j : ℕ) → j < length L.pending → (ledger_after w bytes L D).pending ≡ remove_at (0 + j) L.pending
+              → pending_count took.bytes + 1 ≡ pending_count bytes
           without j l q =
-              let u : length (ledgerAfter w bytes L D).pending ≡ length (removeAt (0 + j) L.pending) =
+              let u : length (ledger_after w bytes L D).pending ≡ length (remove_at (0 + j) L.pending) =
               ap length q in
-              let v = length-removeAt (0 + j) L.pending (omega arith) in
+              let v = length-remove_at (0 + j) L.pending (omega arith) in
               omega (arith, after, u, v, many L bytes lent X)
 
-          go : Outcome w bytes (validAmong X.kept) (allowedOf w cap lent) X.kept 0 false L.pending noEvent
-              → pendingCount took.bytes + 1 ≡ pendingCount bytes
-          go (none-decides false q u o) = absurd (n0 (answered (undecided false) q))
-          go (none-decides true q u o) = absurd (n36 (answered (undecided true) q))
-          go (falsifies j l q r n u) = without j l (ap (λ (d : Decision). (ledgerAfter w bytes L d).pending) q)
-          go (chooses j l q r v f u) = without j l (ap (λ (d : Decision). (ledgerAfter w bytes L d).pending) q)
+          go : Outcome w bytes (valid_among X.kept) (allowed_of w cap lent) X.kept 0 false L.pending no_event
+              → pending_count took.bytes + 1 ≡ pending_count bytes
+          go (none_decides false q u o) = absurd (n0 (answered (undecided false) q))
+          go (none_decides true q u o) = absurd (n36 (answered (undecided true) q))
+          go (falsifies j l q r n u) = without j l (ap (λ (d : Decision). (ledger_after w bytes L d).pending) q)
+          go (chooses j l q r v f u) = without j l (ap (λ (d : Decision). (ledger_after w bytes L d).pending) q)

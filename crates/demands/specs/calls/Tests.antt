@@ -3,7 +3,7 @@ use Rattle.std.specs.Prelude.{ℕ, zero, suc, ◌≡◌, refl, Bool, true, false
 use Rattle.std.proofs.Common.{sym, ap, ◌∙◌, true≢false}
 use Rattle.std.proofs.lemmas.Bool.{eqb-false}
 use Rattle.clocks.specs.stored.BoundedLaws.{and-true}
-use Rattle.answers.specs.Answer.{Answer, turnedBack, state, nothingReady, held, again, found, absent, processClosed}
+use Rattle.answers.specs.Answer.{Answer, turned_back, state, nothing_ready, held, again, found, absent, process_closed}
 
 -- The last answer comes where no test holds.
 pub data Tests : Type 0 where
@@ -16,10 +16,10 @@ result (else a) = a
 result (test b a others) = cond b a (result others)
 
 -- Test n and its answer; the last answer has a test that always holds.
-unfoldable pub answeredFor : Tests → ℕ → Answer
-answeredFor (else a) n = a
-answeredFor (test b a others) zero = a
-answeredFor (test b a others) (suc n) = answeredFor others n
+unfoldable pub answered_for : Tests → ℕ → Answer
+answered_for (else a) n = a
+answered_for (test b a others) zero = a
+answered_for (test b a others) (suc n) = answered_for others n
 
 unfoldable pub test_of : Tests → ℕ → Bool
 test_of (else a) n = true
@@ -42,14 +42,14 @@ within (test b a others) (suc n) = within others n
 
 -- By their numbers, or by a number that is none.
 unfoldable pub mark : Answer → ℕ
-mark (turnedBack n i) = n
+mark (turned_back n i) = n
 mark (state c t k) = 1000
-mark nothingReady = 1001
+mark nothing_ready = 1001
 mark (held n) = 1002
 mark again = 1003
 mark (found i) = 1004
 mark absent = 1005
-mark (processClosed n) = 1006
+mark (process_closed n) = 1006
 
 unfoldable pub lacks : ℕ → Tests → Bool
 lacks n (else a) = cond (eqb n (mark a)) false true
@@ -72,54 +72,54 @@ lacks-result n (else a) h q = eqb-false n (mark a) (cond-false (eqb n (mark a)) 
 lacks-result n (test true a others) h q = eqb-false n (mark a) (cond-false (eqb n (mark a)) _ h).0 q
 lacks-result n (test false a others) h q = lacks-result n others (cond-false (eqb n (mark a)) _ h).1 q
 
-lacks-answer : (n : ℕ) (ts : Tests) → lacks n ts ≡ true → (i : ℕ) → n ≡ mark (answeredFor ts i) → ⊥
-unfolding lacks answeredFor
-lacks-answer n (else a) h i q = eqb-false n (mark a) (cond-false (eqb n (mark a)) true h).0 q
-lacks-answer n (test b a others) h zero q = eqb-false n (mark a) (cond-false (eqb n (mark a)) _ h).0 q
-lacks-answer n (test b a others) h (suc i) q = lacks-answer n others (cond-false (eqb n (mark a)) _ h).1 i q
+lacks_answer : (n : ℕ) (ts : Tests) → lacks n ts ≡ true → (i : ℕ) → n ≡ mark (answered_for ts i) → ⊥
+unfolding lacks answered_for
+lacks_answer n (else a) h i q = eqb-false n (mark a) (cond-false (eqb n (mark a)) true h).0 q
+lacks_answer n (test b a others) h zero q = eqb-false n (mark a) (cond-false (eqb n (mark a)) _ h).0 q
+lacks_answer n (test b a others) h (suc i) q = lacks_answer n others (cond-false (eqb n (mark a)) _ h).1 i q
 
-decided-by : (ts : Tests) → distinct ts ≡ true → (n : ℕ) → within ts n ≡ true
-    → mark (result ts) ≡ mark (answeredFor ts n)
+decided_by : (ts : Tests) → distinct ts ≡ true → (n : ℕ) → within ts n ≡ true
+    → mark (result ts) ≡ mark (answered_for ts n)
     → Failed ts n × (test_of ts n ≡ true)
-unfolding result answeredFor test_of Failed within distinct
-decided-by (else a) d zero i q = (tt, refl)
-decided-by (else a) d (suc n) i q = absurd (true≢false (sym i))
-decided-by (test true a others) d zero i q = (tt, refl)
-decided-by (test true a others) d (suc n) i q =
-    absurd (lacks-answer (mark a) others (and-true (lacks (mark a) others) (distinct others) d).0 n q)
-decided-by (test false a others) d zero i q =
+unfolding result answered_for test_of Failed within distinct
+decided_by (else a) d zero i q = (tt, refl)
+decided_by (else a) d (suc n) i q = absurd (true≢false (sym i))
+decided_by (test true a others) d zero i q = (tt, refl)
+decided_by (test true a others) d (suc n) i q =
+    absurd (lacks_answer (mark a) others (and-true (lacks (mark a) others) (distinct others) d).0 n q)
+decided_by (test false a others) d zero i q =
     absurd (lacks-result (mark a) others (and-true (lacks (mark a) others) (distinct others) d).0 (sym q))
-decided-by (test false a others) d (suc n) i q =
-    let x = decided-by others (and-true (lacks (mark a) others) (distinct others) d).1 n i q in
+decided_by (test false a others) d (suc n) i q =
+    let x = decided_by others (and-true (lacks (mark a) others) (distinct others) d).1 n i q in
     ((refl, x.0), x.1)
 
-gives-answer : (ts : Tests) (n : ℕ) → Failed ts n → test_of ts n ≡ true → result ts ≡ answeredFor ts n
-unfolding result answeredFor test_of Failed
-gives-answer (else a) zero h t = refl
-gives-answer (else a) (suc n) h t = absurd h
-gives-answer (test b a others) zero h t = rw t
-gives-answer (test b a others) (suc n) h t = rw h.0 (gives-answer others n h.1 t)
+gives_answer : (ts : Tests) (n : ℕ) → Failed ts n → test_of ts n ≡ true → result ts ≡ answered_for ts n
+unfolding result answered_for test_of Failed
+gives_answer (else a) zero h t = refl
+gives_answer (else a) (suc n) h t = absurd h
+gives_answer (test b a others) zero h t = rw t
+gives_answer (test b a others) (suc n) h t = rw h.0 (gives_answer others n h.1 t)
 
 -- ---- Theorems
 
-pub first-decides : (ts : Tests) → distinct ts ≡ true → (n : ℕ) → within ts n ≡ true
-    → (result ts ≡ answeredFor ts n) ↔ (Failed ts n × (test_of ts n ≡ true))
-first-decides ts d n i = ((λ q. decided-by ts d n i (ap mark q)), λ h. gives-answer ts n h.0 h.1)
+pub first_decides : (ts : Tests) → distinct ts ≡ true → (n : ℕ) → within ts n ≡ true
+    → (result ts ≡ answered_for ts n) ↔ (Failed ts n × (test_of ts n ≡ true))
+first_decides ts d n i = ((λ q. decided_by ts d n i (ap mark q)), λ h. gives_answer ts n h.0 h.1)
 
 -- By its mark alone.
 pub marked : (ts : Tests) → distinct ts ≡ true → (n : ℕ) → within ts n ≡ true → (a : Answer)
-    → mark a ≡ mark (answeredFor ts n) → result ts ≡ a → Failed ts n × (a ≡ answeredFor ts n)
+    → mark a ≡ mark (answered_for ts n) → result ts ≡ a → Failed ts n × (a ≡ answered_for ts n)
 marked ts d n i a e q =
-    let h = decided-by ts d n i (ap mark q ∙ e) in
-    (h.0, sym q ∙ gives-answer ts n h.0 h.1)
+    let h = decided_by ts d n i (ap mark q ∙ e) in
+    (h.0, sym q ∙ gives_answer ts n h.0 h.1)
 
-pub failed-next : (ts : Tests) (n : ℕ) → Failed ts (suc n) ↔ (Failed ts n × (test_of ts n ≡ false))
+pub failed_next : (ts : Tests) (n : ℕ) → Failed ts (suc n) ↔ (Failed ts n × (test_of ts n ≡ false))
 unfolding Failed test_of
-failed-next (else a) zero = ((λ h. absurd h), λ h. absurd (true≢false h.1))
-failed-next (else a) (suc n) = ((λ h. absurd h), λ h. absurd h.0)
-failed-next (test b a others) zero = ((λ h. (tt, h.0)), λ h. (h.1, tt))
-failed-next (test b a others) (suc n) =
-    let x = failed-next others n in
+failed_next (else a) zero = ((λ h. absurd h), λ h. absurd (true≢false h.1))
+failed_next (else a) (suc n) = ((λ h. absurd h), λ h. absurd h.0)
+failed_next (test b a others) zero = ((λ h. (tt, h.0)), λ h. (h.1, tt))
+failed_next (test b a others) (suc n) =
+    let x = failed_next others n in
     ((λ h. let y = x.0 h.1 in ((h.0, y.0), y.1)), λ h. (h.0.0, x.1 (h.0.1, h.1)))
 
 -- None of them is an answer that has another mark.

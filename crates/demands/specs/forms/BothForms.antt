@@ -6,24 +6,24 @@ use mathlib.Core.List.Memᴰ
 use Rattle.clocks.specs.Event.{Cut}
 use Rattle.clocks.specs.Counts.{at}
 use Rattle.rules.specs.Formula.{Formula}
-use Rattle.rules.specs.Line.{linesAt}
-use Rattle.rules.specs.Reader.{readRule, formed}
-use Rattle.window.specs.Start.{startFrontier}
-use Rattle.refusals.specs.Refusals.{roomOf}
-use Rattle.answers.specs.Answer.{Answer, turnedBack, state, state_of}
-use Rattle.call_open.specs.Open.{Opened, openTable, openCall}
+use Rattle.rules.specs.Line.{lines_at}
+use Rattle.rules.specs.Reader.{read_rule, formed}
+use Rattle.window.specs.Start.{start_frontier}
+use Rattle.refusals.specs.Refusals.{room_of}
+use Rattle.answers.specs.Answer.{Answer, turned_back, state, state_of}
+use Rattle.call_open.specs.Open.{Opened, open_table, open_call}
 use Rattle.call_move.specs.Move.{Moved}
-use Rattle.call_move.specs.LengthLaws.{right-lengths}
-use Rattle.call_move.specs.MoveCases.{passes, window-written}
+use Rattle.call_move.specs.LengthLaws.{right_lengths}
+use Rattle.call_move.specs.MoveCases.{passes, window_written}
 use Rattle.demands.specs.Run.{Call, Watch, after, run, opened}
 use Rattle.demands.specs.EveryList.{Accepts, EightBytes, AllPassed}
-use Rattle.demands.specs.calls.OpenLaws.{OpenCase, open-case, turned-back, opens, opened-long}
+use Rattle.demands.specs.calls.OpenLaws.{OpenCase, open_case, turned_back_lem, opens, opened_long}
 use Rattle.demands.specs.Written.{moved_to}
-use Rattle.demands.specs.statements.Moves.{nextMove}
+use Rattle.demands.specs.statements.Moves.{next_move}
 use Rattle.demands.specs.statements.BothForms.{SameCalls, BothFormsAlike, MovedGoesOn}
-use Rattle.demands.specs.lists.SoundRun.{Sound, sound-run}
-use Rattle.demands.specs.forms.Moves.{move-sound, written-sound}
-use Rattle.demands.specs.forms.Twins.{Twins, twins-moved}
+use Rattle.demands.specs.lists.SoundRun.{Sound, sound_run}
+use Rattle.demands.specs.forms.Moves.{move_sound, written_sound}
+use Rattle.demands.specs.forms.Twins.{Twins, twins_moved}
 use Rattle.demands.specs.forms.TwinCalls.{after_same}
 
 -- ---- Lists of calls
@@ -43,77 +43,77 @@ run-same v w k f start (c ∷ cs) ds p q (d, rest, e, one, others) Y Z t =
 
 -- What an accepted open leaves, by the formula that the reader reads.
 record OpenedAs (w : ℕ) (text : List ℕ) (k : ℕ) (labels s window : List ℕ) (f : Formula) : Type 0 where
-  sound : Sound w k f (at labels) (opened (openCall w text k labels s window))
-  answers : (openCall w text k labels s window).answer
-      ≡ state_of (length (linesAt 0 f)) (replicate 8 0) (startFrontier 8 labels (linesAt 0 f) ∷ [])
-  long : length (openCall w text k labels s window).window ≡ length window
+  sound : Sound w k f (at labels) (opened (open_call w text k labels s window))
+  answers : (open_call w text k labels s window).answer
+      ≡ state_of (length (lines_at 0 f)) (replicate 8 0) (start_frontier 8 labels (lines_at 0 f) ∷ [])
+  long : length (open_call w text k labels s window).window ≡ length window
 
-opened-as : (w : ℕ) → 0 < w → (text : List ℕ) (k : ℕ) (labels : List ℕ) → EightBytes labels → (s window : List ℕ)
-    → Accepts w text k labels s window → (f : Formula) (i : ℕ) → readRule text k ≡ formed i f
+opened_as : (w : ℕ) → 0 < w → (text : List ℕ) (k : ℕ) (labels : List ℕ) → EightBytes labels → (s window : List ℕ)
+    → Accepts w text k labels s window → (f : Formula) (i : ℕ) → read_rule text k ≡ formed i f
     → OpenedAs w text k labels s window f
-unfolding run openTable
-opened-as w pos text k labels eight s window a f i r = go (open-case w text k labels s window)
+unfolding run open_table
+opened_as w pos text k labels eight s window a f i r = go (open_case w text k labels s window)
   where
     go : OpenCase w text k labels s window → OpenedAs w text k labels s window f
-    go (turned-back n j q) =
-        let x : turnedBack n j ≡ state a.0 a.1 a.2 = sym (ap (λ (o : Opened). o.answer) q) ∙ a.3 in
+    go (turned_back_lem n j q) =
+        let x : turned_back n j ≡ state a.0 a.1 a.2 = sym (ap (λ (o : Opened). o.answer) q) ∙ a.3 in
         let z : ◌≡◌ {A = ℕ} 0 1 = cc in absurd (omega arith)
     go (opens g j h6 h5 h9 h q) =
-        let x = sound-run w pos text k labels eight s window a [] (λ c m. absurd (Memᴰ.not-nil m)) in
+        let x = sound_run w pos text k labels eight s window a [] (λ c m. absurd (Memᴰ.not_nil m)) in
         let b : formed x.1 x.0 ≡ formed i f = sym x.2 ∙ r in
         let c : formed j g ≡ formed i f = sym h ∙ r in
         let e : x.0 ≡ f = cc in
         let d : g ≡ f = cc in
         record {
           sound =
-              subst (λ (p : Formula). Sound w k p (at labels) (opened (openCall w text k labels s window))) e x.3;
+              subst (λ (p : Formula). Sound w k p (at labels) (opened (open_call w text k labels s window))) e x.3;
           answers =
               ap (λ (o : Opened). o.answer) q
               ∙ ap (λ (p : Formula).
-              state_of (length (linesAt 0 p)) (replicate 8 0) (startFrontier 8 labels (linesAt 0 p) ∷ [])) d;
+              state_of (length (lines_at 0 p)) (replicate 8 0) (start_frontier 8 labels (lines_at 0 p) ∷ [])) d;
           long =
               ap (λ (o : Opened). length o.window) q
-              ∙ opened-long w text k labels window pos eight.0 eight.1 g j h6 h5 h;
+              ∙ opened_long w text k labels window pos eight.0 eight.1 g j h6 h5 h;
         }
 
 -- ---- Theorems
 
-pub both-forms-alike : BothFormsAlike
-both-forms-alike v w pos pos' text k labels eight s window s' window' room l l' a a' cs ds p q same =
-    let x = sound-run v pos text k labels eight s window a [] (λ c m. absurd (Memᴰ.not-nil m)) in
-    let y = opened-as v pos text k labels eight s window a x.0 x.1 x.2 in
-    let z = opened-as w pos' text k labels eight s' window' a' x.0 x.1 x.2 in
-    let Y : Watch = opened (openCall v text k labels s window) in
-    let Z : Watch = opened (openCall w text k labels s' window') in
+pub both_forms_alike : BothFormsAlike
+both_forms_alike v w pos pos' text k labels eight s window s' window' room l l' a a' cs ds p q same =
+    let x = sound_run v pos text k labels eight s window a [] (λ c m. absurd (Memᴰ.not_nil m)) in
+    let y = opened_as v pos text k labels eight s window a x.0 x.1 x.2 in
+    let z = opened_as w pos' text k labels eight s' window' a' x.0 x.1 x.2 in
+    let Y : Watch = opened (open_call v text k labels s window) in
+    let Z : Watch = opened (open_call w text k labels s' window') in
     let t : Twins v w k x.0 (at labels) Y Z = record {
       first = y.sound;
       second = z.sound;
-      same-answers = ap (λ (b : Answer). b ∷ []) (y.answers ∙ sym z.answers);
-      same-ledger = refl;
-      same-accepted = refl;
+      same_answers = ap (λ (b : Answer). b ∷ []) (y.answers ∙ sym z.answers);
+      same_ledger = refl;
+      same_accepted = refl;
       room = room;
       long = y.long ∙ l;
-      other-long = z.long ∙ l';
+      other_long = z.long ∙ l';
     } in
-    twins-moved v w k x.0 (at labels) (run v cs Y) (run w ds Z)
+    twins_moved v w k x.0 (at labels) (run v cs Y) (run w ds Z)
     (run-same v w k x.0 (at labels) cs ds p q same Y Z t)
 
-pub moved-goes-on : MovedGoesOn
-moved-goes-on v w pos text k labels eight Y y t target q cs ds p r same =
-    let x = written-sound text k labels eight v Y y in
+pub moved_goes_on : MovedGoesOn
+moved_goes_on v w pos text k labels eight Y y t target q cs ds p r same =
+    let x = written_sound text k labels eight v Y y in
     let moves = passes v w Y.bytes Y.window t target q in
-    let Z : Watch = moved_to (nextMove v w Y t target) Y in
+    let Z : Watch = moved_to (next_move v w Y t target) Y in
     let twins : Twins v w k x.0 (at labels) Y Z = record {
       first = x.3;
-      second = move-sound v w k x.0 (at labels) pos Y x.3 t target q;
-      same-answers = refl;
-      same-ledger = refl;
-      same-accepted = refl;
-      room = roomOf v (length Y.window);
-      long = (right-lengths v w (length Y.bytes) (length Y.window) (length t) (length target) moves.lengths).whole;
-      other-long =
+      second = move_sound v w k x.0 (at labels) pos Y x.3 t target q;
+      same_answers = refl;
+      same_ledger = refl;
+      same_accepted = refl;
+      room = room_of v (length Y.window);
+      long = (right_lengths v w (length Y.bytes) (length Y.window) (length t) (length target) moves.lengths).whole;
+      other_long =
           ap (λ (m : Moved). length m.window) moves.moves
-          ∙ window-written v w Y.bytes Y.window t target moves;
+          ∙ window_written v w Y.bytes Y.window t target moves;
     } in
-    twins-moved v w k x.0 (at labels) (run v cs Y) (run w ds Z)
+    twins_moved v w k x.0 (at labels) (run v cs Y) (run w ds Z)
     (run-same v w k x.0 (at labels) cs ds p r same Y Z twins)

@@ -2,29 +2,29 @@
 use Rattle.std.proofs.Common.{arith}
 use Rattle.std.specs.Prelude.{ℕ, ◌≡◌, length}
 use Rattle.rules.specs.Formula.{Formula}
-use Rattle.rules.specs.Line.{linesAt}
+use Rattle.rules.specs.Line.{lines_at}
 use Rattle.clocks.specs.Event.{Cut}
-use Rattle.records.specs.Record.{pendingCount}
+use Rattle.records.specs.Record.{pending_count}
 use Rattle.demands.specs.Run.{Watch}
 use Rattle.demands.specs.statements.Balance.{AnswersBalanced, AnswersBalance}
-use Rattle.demands.specs.calls.WatchingLaws.{says-many}
+use Rattle.demands.specs.calls.WatchingLaws.{says_many}
 use Rattle.demands.specs.lists.SoundRun.{Sound, every-list}
 
-pub balanced-of : (w k : ℕ) (f : Formula) (start : Cut) (Z : Watch) → Sound w k f start Z → AnswersBalanced Z
-balanced-of w k f start Z S =
-    let many : pendingCount Z.bytes ≡ length Z.ledger.pending =
-    says-many w k (linesAt 0 f) start S.rule Z.ledger Z.bytes Z.window S.right in
+pub balanced_of : (w k : ℕ) (f : Formula) (start : Cut) (Z : Watch) → Sound w k f start Z → AnswersBalanced Z
+balanced_of w k f start Z S =
+    let many : pending_count Z.bytes ≡ length Z.ledger.pending =
+    says_many w k (lines_at 0 f) start S.rule Z.ledger Z.bytes Z.window S.right in
     record {
-      some-state = omega (arith, S.said.taken-said);
+      some_state = omega (arith, S.said.taken_said);
       balance =
-          omega (arith, S.said.accepted-said, S.said.taken-said, S.said.falsified-said, many, S.balanced.total);
-      accepted-said = S.said.accepted-said;
-      taken-said = S.said.taken-said;
-      falsified-said = S.said.falsified-said;
-      pending-said = many;
+          omega (arith, S.said.accepted_said, S.said.taken_said, S.said.falsified_said, many, S.balanced.total);
+      accepted_said = S.said.accepted_said;
+      taken_said = S.said.taken_said;
+      falsified_said = S.said.falsified_said;
+      pending_said = many;
       balanced = S.balanced;
     }
 
 -- ---- Theorem
-pub answers-balanced : AnswersBalance
-answers-balanced = every-list _ balanced-of
+pub answers_balanced : AnswersBalance
+answers_balanced = every-list _ balanced_of

@@ -11,116 +11,116 @@ use Rattle.clocks.specs.Event.{Cut, Ready}
 use Rattle.clocks.specs.History.{taken}
 use Rattle.frontiers.specs.declared.Frontier.{Frontier}
 use Rattle.frontiers.specs.Bytes.{frontiers}
-use Rattle.frontiers.specs.ListLaws.{place-member}
-use Rattle.window.specs.Step.{Setting, stepped, keptAfter}
-use Rattle.window.specs.SteppedCount.{stepped-many}
+use Rattle.frontiers.specs.ListLaws.{place_member}
+use Rattle.window.specs.Step.{Setting, stepped, kept_after}
+use Rattle.window.specs.SteppedCount.{stepped_many}
 use Rattle.window_laws.specs.Represents.{setting_of}
 use Rattle.rules.specs.Formula.{Formula}
-use Rattle.rules.specs.Line.{linesAt}
-use Rattle.records.specs.Record.{readyIn, keptCount}
-use Rattle.trial.specs.Trial.{validAmong, settingIn, Decision}
+use Rattle.rules.specs.Line.{lines_at}
+use Rattle.records.specs.Record.{ready_in, kept_count}
+use Rattle.trial.specs.Trial.{valid_among, setting_in, Decision}
 use Rattle.call_take.specs.Take.{Taken}
 use Rattle.call_take.specs.TakeCaps.{NoneAbove}
-use Rattle.call_take.specs.TakeCapsLaws.{same-trial-capped, caps-make-no-difference}
+use Rattle.call_take.specs.TakeCapsLaws.{same-trial_capped, caps_make_no_difference}
 use Rattle.demands.specs.Ledger.{Ledger}
-use Rattle.demands.specs.Run.{Watch, after, takes, trialOf, stoppedAt, takenLedger}
-use Rattle.demands.specs.World.{worldOf, Valid}
-use Rattle.demands.specs.EveryList.{lentWindow, RightLengths, nextTake}
+use Rattle.demands.specs.Run.{Watch, after, takes, trial_of, stopped_at, taken_ledger}
+use Rattle.demands.specs.World.{world_of, Valid}
+use Rattle.demands.specs.EveryList.{lent_window, RightLengths, next_take}
 use Rattle.demands.specs.Watching.{Rule, Watching}
-use Rattle.demands.specs.calls.WatchingLaws.{says-many, says-event, says-frontiers, setting-in}
-use Rattle.demands.specs.calls.KeptCutsLaws.{represented-number}
-use Rattle.demands.specs.calls.TakeLaws.{stepped-right}
-use Rattle.demands.specs.calls.AfterCall.{noEvent, lengthened, badLengths, ledgerThen, take-6, is-ready, is-valid}
+use Rattle.demands.specs.calls.WatchingLaws.{says_many, says_event, says_frontiers, setting_in_lem}
+use Rattle.demands.specs.calls.KeptCutsLaws.{represented_number}
+use Rattle.demands.specs.calls.TakeLaws.{stepped_right}
+use Rattle.demands.specs.calls.AfterCall.{no_event, lengthened, bad_lengths, ledger_then, take_6, is_ready, is_valid}
 use Rattle.demands.specs.statements.Caps.{WouldPass, CapsAlike}
 use Rattle.demands.specs.lists.SoundRun.{Sound}
-use Rattle.demands.specs.lists.TakeAnswers.{lengths-known}
+use Rattle.demands.specs.lists.TakeAnswers.{lengths_known}
 
 -- The trial that the ledger goes by is the same, on all bytes.
-pub same-trial-of : (w n cap cap' : ℕ) (s window : List ℕ) → NoneAbove w n s window → n ≤ cap → n ≤ cap'
-    → trialOf w cap s window ≡ trialOf w cap' s window
-unfolding trialOf
-same-trial-of = same-trial-capped
+pub same-trial_of : (w n cap cap' : ℕ) (s window : List ℕ) → NoneAbove w n s window → n ≤ cap → n ≤ cap'
+    → trial_of w cap s window ≡ trial_of w cap' s window
+unfolding trial_of
+same-trial_of = same-trial_capped
 
 -- ---- Where no pending event would pass, none does by the bytes
 module _ (w k : ℕ) (table : List Line) (start : Cut) (R : Rule w k table start) (L : Ledger) (bytes lent : List ℕ)
     (X : Watching w k table start L bytes lent) (cap : ℕ) (scratch : List ℕ) (n : ℕ) (none : WouldPass k n L → ⊥) where
   module _ (i : ℕ) (l : i < length L.pending) where
     abbrev e : Event
-    e = get_or L.pending i noEvent
+    e = get_or L.pending i no_event
 
     abbrev setting : Setting
-    setting = setting_of (worldOf k L.closed table start) L.history e
+    setting = setting_of (world_of k L.closed table start) L.history e
 
     -- the frontiers with it
     abbrev gs : List Frontier
     gs = stepped setting X.kept
 
-    few-frontiers : Ready e (taken L.history) → Valid L.history e → length gs ≤ n
-    few-frontiers r v = go (dec_lt n (length gs))
+    few_frontiers : Ready e (taken L.history) → Valid L.history e → length gs ≤ n
+    few_frontiers r v = go (dec_lt n (length gs))
       where
         go : Dec (n < length gs) → length gs ≤ n
         go (yes more) =
-            let right = stepped-right w k table start R L bytes lent X i noEvent l r v in
-            let many = represented-number k L.closed (e ∷ L.history) table start gs right in
-            absurd (none (e, place-member L.pending i noEvent l, r, v, (length gs, many, more)))
+            let right = stepped_right w k table start R L bytes lent X i no_event l r v in
+            let many = represented_number k L.closed (e ∷ L.history) table start gs right in
+            absurd (none (e, place_member L.pending i no_event l, r, v, (length gs, many, more)))
         go (no few) = omega arith
 
-    few-kept : T (readyIn w bytes e) → T (validAmong X.kept e) → keptAfter (settingIn w bytes e) X.kept ≤ n
-    few-kept r v =
-        rw (setting-in w k table start R L bytes lent X e, ← stepped-many setting X.kept)
-        (few-frontiers (is-ready w k table start R L bytes lent X cap scratch i l r)
-        (is-valid w k table start R L bytes lent X cap scratch i l r v))
+    few_kept : T (ready_in w bytes e) → T (valid_among X.kept e) → kept_after (setting_in w bytes e) X.kept ≤ n
+    few_kept r v =
+        rw (setting_in_lem w k table start R L bytes lent X e, ← stepped_many setting X.kept)
+        (few_frontiers (is_ready w k table start R L bytes lent X cap scratch i l r)
+        (is_valid w k table start R L bytes lent X cap scratch i l r v))
 
   none_above : NoneAbove w n bytes lent
   none_above i b =
-      let l : i < length L.pending = omega (arith, says-many w k table start R L bytes lent X) in
-      rw (read, says-event w k table start R L bytes lent X i noEvent l) (few-kept i l)
+      let l : i < length L.pending = omega (arith, says_many w k table start R L bytes lent X) in
+      rw (read, says_event w k table start R L bytes lent X i no_event l) (few_kept i l)
     where
-      read : frontiers w lent (keptCount bytes) ≡ X.kept
+      read : frontiers w lent (kept_count bytes) ≡ X.kept
       read =
-          ap (λ (s : List ℕ). frontiers w s (keptCount bytes)) X.window-is
-          ∙ says-frontiers w k table start R L bytes lent X (length lent)
+          ap (λ (s : List ℕ). frontiers w s (kept_count bytes)) X.window_is
+          ∙ says_frontiers w k table start R L bytes lent X (length lent)
 
 -- ---- After a list of calls
 module _ (w k : ℕ) (f : Formula) (start : Cut) (Z : Watch) (S : Sound w k f start Z) (n cap cap' more : ℕ)
     (scratch : List ℕ) (large : n ≤ cap) (large' : n ≤ cap')
     (none : RightLengths w Z more scratch → WouldPass k n Z.ledger → ⊥) where
   abbrev lent : List ℕ
-  lent = lentWindow Z more
+  lent = lent_window Z more
 
   -- the watch with a window lent longer
-  abbrev longer : Watching w k (linesAt 0 f) start Z.ledger Z.bytes lent
-  longer = lengthened w k (linesAt 0 f) start S.rule Z.ledger Z.bytes Z.window S.right more
+  abbrev longer : Watching w k (lines_at 0 f) start Z.ledger Z.bytes lent
+  longer = lengthened w k (lines_at 0 f) start S.rule Z.ledger Z.bytes Z.window S.right more
 
   abbrev wrong : Bool
-  wrong = badLengths w k (linesAt 0 f) start S.rule Z.ledger Z.bytes lent longer cap scratch
+  wrong = bad_lengths w k (lines_at 0 f) start S.rule Z.ledger Z.bytes lent longer cap scratch
 
-  none-where-right : wrong ≡ false → NoneAbove w n Z.bytes lent
-  none-where-right h =
-      none_above w k (linesAt 0 f) start S.rule Z.ledger Z.bytes lent longer cap scratch n
-      (none (lengths-known w k f start Z S cap more scratch h))
+  none_where_right : wrong ≡ false → NoneAbove w n Z.bytes lent
+  none_where_right h =
+      none_above w k (lines_at 0 f) start S.rule Z.ledger Z.bytes lent longer cap scratch n
+      (none (lengths_known w k f start Z S cap more scratch h))
 
-  same-take : nextTake w Z cap more scratch ≡ nextTake w Z cap' more scratch
-  unfolding badLengths
+  same-take : next_take w Z cap more scratch ≡ next_take w Z cap' more scratch
+  unfolding bad_lengths
   same-take =
-      caps-make-no-difference w n cap cap' Z.bytes lent scratch (λ right. none-where-right right.0) large large'
+      caps_make_no_difference w n cap cap' Z.bytes lent scratch (λ right. none_where_right right.0) large large'
 
   -- the ledger after a take under a cap
-  abbrev ledgerUnder : ℕ → Ledger
-  ledgerUnder c = ledgerThen w k (linesAt 0 f) start S.rule Z.ledger Z.bytes lent longer c scratch
+  abbrev ledger_under : ℕ → Ledger
+  ledger_under c = ledger_then w k (lines_at 0 f) start S.rule Z.ledger Z.bytes lent longer c scratch
 
-  same-ledger : ledgerUnder cap ≡ ledgerUnder cap'
-  unfolding badLengths
-  same-ledger = go wrong refl
+  same_ledger : ledger_under cap ≡ ledger_under cap'
+  unfolding bad_lengths
+  same_ledger = go wrong refl
     where
-      six : (c : ℕ) → wrong ≡ true → ledgerUnder c ≡ Z.ledger
-      six c h = (take-6 w k (linesAt 0 f) start S.rule Z.ledger Z.bytes lent longer c scratch h).1
+      six : (c : ℕ) → wrong ≡ true → ledger_under c ≡ Z.ledger
+      six c h = (take_6 w k (lines_at 0 f) start S.rule Z.ledger Z.bytes lent longer c scratch h).1
 
-      go : (b : Bool) → wrong ≡ b → ledgerUnder cap ≡ ledgerUnder cap'
+      go : (b : Bool) → wrong ≡ b → ledger_under cap ≡ ledger_under cap'
       go true h = six cap h ∙ sym (six cap' h)
       go false h =
-          ap₂ (λ (d : Decision) (t : Taken). takenLedger w Z.bytes (stoppedAt d) Z.ledger t.answer)
-          (same-trial-of w n cap cap' Z.bytes lent (none-where-right h) large large') same-take
+          ap₂ (λ (d : Decision) (t : Taken). taken_ledger w Z.bytes (stopped_at d) Z.ledger t.answer)
+          (same-trial_of w n cap cap' Z.bytes lent (none_where_right h) large large') same-take
 
   -- the watch that a take with this ledger leaves
   abbrev left : Taken → Ledger → Watch
@@ -134,11 +134,11 @@ module _ (w k : ℕ) (f : Formula) (start : Cut) (Z : Watch) (S : Sound w k f st
 
   same_after : after w (takes cap more scratch) Z ≡ after w (takes cap' more scratch) Z
   unfolding after
-  same_after = ap₂ left same-take same-ledger
+  same_after = ap₂ left same-take same_ledger
 
-pub caps-alike-of : (w k : ℕ) (f : Formula) (start : Cut) (Z : Watch) → Sound w k f start Z
+pub caps_alike_of : (w k : ℕ) (f : Formula) (start : Cut) (Z : Watch) → Sound w k f start Z
     → CapsAlike w k f start Z
-caps-alike-of w k f start Z S n cap cap' more scratch large large' none = (
+caps_alike_of w k f start Z S n cap cap' more scratch large large' none = (
   same-take w k f start Z S n cap cap' more scratch large large' none,
   same_after w k f start Z S n cap cap' more scratch large large' none,
 )

@@ -20,49 +20,49 @@ use Rattle.clocks.specs.Valid.{Takeable, History}
 use Rattle.clocks.specs.Counts.{list_of}
 use Rattle.clocks.specs.Bounded.{any_of}
 use Rattle.clocks.specs.Refusal.{Faultless}
-use Rattle.clocks.specs.cuts.EventLaws.{ready-next}
-use Rattle.clocks.specs.stored.BoundedTurns.{any-false-i}
-use Rattle.clocks.specs.stored.RefusalLaws.{fault-0, no-fault}
+use Rattle.clocks.specs.cuts.EventLaws.{ready_next}
+use Rattle.clocks.specs.stored.BoundedTurns.{any-false_i}
+use Rattle.clocks.specs.stored.RefusalLaws.{fault_0, no_fault}
 use Rattle.pactl.specs.Truth.{holds}
-use Rattle.rules.specs.Line.{linesAt}
+use Rattle.rules.specs.Line.{lines_at}
 use Rattle.rules.specs.Formula.{Formula, meaning}
-use Rattle.frontiers.specs.Bytes.{frontierLength}
-use Rattle.refusals.specs.Refusals.{namesClosed, alreadyTaken, conflicting}
+use Rattle.frontiers.specs.Bytes.{frontier_length}
+use Rattle.refusals.specs.Refusals.{names_closed, already_taken, conflicting}
 use Rattle.repeats.specs.Repeats.{repeated}
 use Rattle.answers.specs.Answer.{Answer, held}
-use Rattle.call_offer.specs.Offer.{placeAmong, offeredEvent, offerCall}
-use Rattle.call_busiest.specs.Sharing.{shares, sharingKeeps}
+use Rattle.call_offer.specs.Offer.{place_among, offered_event, offer_call}
+use Rattle.call_busiest.specs.Sharing.{shares, sharing_keeps}
 use Rattle.sharing_laws.specs.Alone.{AllAlone}
 use Rattle.demands.specs.Ledger.{Ledger}
-use Rattle.demands.specs.Status.{insertAt}
-use Rattle.demands.specs.Run.{Call, offers, takes, Passed, Watch, offeredLedger, after, run}
-use Rattle.demands.specs.World.{Valid, modelAfter}
-use Rattle.demands.specs.EveryList.{AllPassed, lentWindow, RightLengths}
+use Rattle.demands.specs.Status.{insert_at}
+use Rattle.demands.specs.Run.{Call, offers, takes, Passed, Watch, offered_ledger, after, run}
+use Rattle.demands.specs.World.{Valid, model_after}
+use Rattle.demands.specs.EveryList.{AllPassed, lent_window, RightLengths}
 use Rattle.demands.specs.bytes.Sized.{Storable}
-use Rattle.demands.specs.calls.OfferByLedger.{offerAnswer, offer-by-ledger}
-use Rattle.demands.specs.calls.WatchingLaws.{says-pending}
-use Rattle.demands.specs.calls.WindowRooms.{room_of, bad-length, length_taken}
-use Rattle.demands.specs.lists.SoundRun.{Sound, after-sound}
-use Rattle.demands.specs.lists.TakeAnswers.{take-exact-of}
-use Rattle.demands.specs.lists.Busiest.{alone-number, alone-most}
-use Rattle.demands.specs.statements.TakeAnswers.{Takes, AnswersExact, allowedNext}
-use Rattle.demands.specs.statements.BusiestTaken.{dayCalls, dayAnswers}
+use Rattle.demands.specs.calls.OfferByLedger.{offer_answer, offer_by_ledger}
+use Rattle.demands.specs.calls.WatchingLaws.{says_pending}
+use Rattle.demands.specs.calls.WindowRooms.{room_of_lem, bad_length, length_taken}
+use Rattle.demands.specs.lists.SoundRun.{Sound, after_sound}
+use Rattle.demands.specs.lists.TakeAnswers.{take_exact_of}
+use Rattle.demands.specs.lists.Busiest.{alone_number, alone_most}
+use Rattle.demands.specs.statements.TakeAnswers.{Takes, AnswersExact, allowed_next}
+use Rattle.demands.specs.statements.BusiestTaken.{day_calls, day_answers}
 
 -- The ledger where these events were taken, and no other came; and with one more that is pending.
 abbrev pub took_all : List Event → Ledger
 took_all ts = record { history = ts; pending = []; falsified = []; closed = 0 }
 
-abbrev heldOne : List Event → Event → Ledger
-heldOne ts e = record { history = ts; pending = e ∷ []; falsified = []; closed = 0 }
+abbrev held_one : List Event → Event → Ledger
+held_one ts e = record { history = ts; pending = e ∷ []; falsified = []; closed = 0 }
 
 -- A watch that took these events and got no other, over the answers of before; with so many zeros its window is one of
 -- so many frontiers.
 pub record Took (w k : ℕ) (f : Formula) (start : Cut) (room : ℕ) (rest : List Answer) (ts : List Event) (more : ℕ)
     (Z : Watch) : Type 0 where
   pub sound : Sound w k f start Z
-  pub ledger-is : Z.ledger ≡ took_all ts
-  pub answers-are : Z.answers ≡ dayAnswers k f start ts ++ rest
-  pub lent : length Z.window + more ≡ room * frontierLength w
+  pub ledger_is : Z.ledger ≡ took_all ts
+  pub answers_are : Z.answers ≡ day_answers k f start ts ++ rest
+  pub lent : length Z.window + more ≡ room * frontier_length w
 
 -- An event that an offer may bring: without fault, and such as the machine passes.
 pub record Sendable (w k : ℕ) (e : Event) : Type 0 where
@@ -73,46 +73,46 @@ pub record Sendable (w k : ℕ) (e : Event) : Type 0 where
 
 module _ (w k : ℕ) (eight : k ≤ 8) (ts : List Event) (e : Event) (o : Sendable w k e)
     (next : Takeable k Valid ts e) where
-  no-closed : namesClosed 0 e ≡ false
-  unfolding namesClosed
-  no-closed = any-false-i 8 (λ p. involved e p && bit 0 p) (λ p l. rw (bit-zero p) (neither (involved e p)))
+  no_closed : names_closed 0 e ≡ false
+  unfolding names_closed
+  no_closed = any-false_i 8 (λ p. involved e p && bit 0 p) (λ p l. rw (bit-zero p) (neither (involved e p)))
     where
       neither : (b : Bool) → (b && false) ≡ false
       neither true = refl
       neither false = refl
 
-  not_taken : alreadyTaken e (taken ts) ≡ false
-  unfolding alreadyTaken
-  not_taken = any-false-i 8 (λ p. involved e p && leb (count e p) (taken ts p))
-      (λ p l. at-process p (involved e p) refl)
+  not_taken : already_taken e (taken ts) ≡ false
+  unfolding already_taken
+  not_taken = any-false_i 8 (λ p. involved e p && leb (count e p) (taken ts p))
+      (λ p l. at_process p (involved e p) refl)
     where
-      at-process : (p : ℕ) (b : Bool) → involved e p ≡ b → (involved e p && leb (count e p) (taken ts p)) ≡ false
-      at-process p true h =
-          rw (h, lt-leb (count e p) (taken ts p) (omega (arith, ready-next e (taken ts) next.ready p h)))
-      at-process p false h = rw h
+      at_process : (p : ℕ) (b : Bool) → involved e p ≡ b → (involved e p && leb (count e p) (taken ts p)) ≡ false
+      at_process p true h =
+          rw (h, lt-leb (count e p) (taken ts p) (omega (arith, ready_next e (taken ts) next.ready p h)))
+      at_process p false h = rw h
 
-  whole : offeredEvent e.mask e.clock e.labels ≡ e
+  whole : offered_event e.mask e.clock e.labels ≡ e
   whole = let q : e.mask % 256 ≡ e.mask = omega (arith, o.fits.mask_fits) in rw q
 
-  held_one : offerAnswer k (took_all ts) e.mask e.clock e.labels ≡ held 1
+  held_one_lem : offer_answer k (took_all ts) e.mask e.clock e.labels ≡ held 1
   unfolding repeated conflicting any_of
-  held_one =
+  held_one_lem =
       let fits = o.fits in
-      let none = (fault-0 k e.mask e.clock e.labels).0
-      ((no-fault k e eight (omega (arith, fits.mask_fits)) fits.eight-counts fits.eight-labels).1 o.fine) in
-      rw (none.0, none.1, none.2, whole, no-closed, not_taken)
+      let none = (fault_0 k e.mask e.clock e.labels).0
+      ((no_fault k e eight (omega (arith, fits.mask_fits)) fits.eight_counts fits.eight_labels).1 o.fine) in
+      rw (none.0, none.1, none.2, whole, no_closed, not_taken)
 
 -- ---- One event, offered and taken
 
-offer-passes : (w k : ℕ) (e : Event) → Sendable w k e → Passed w (offers e.mask e.clock e.labels)
-offer-passes w k e o =
+offer_passes : (w k : ℕ) (e : Event) → Sendable w k e → Passed w (offers e.mask e.clock e.labels)
+offer_passes w k e o =
     let fits = o.fits in
-    (omega (arith, fits.mask_fits), fits.eight-counts, fits.counts-fit, fits.eight-labels, fits.labels-fit)
+    (omega (arith, fits.mask_fits), fits.eight_counts, fits.counts_fit, fits.eight_labels, fits.labels_fit)
 
 module _ (w k : ℕ) (f : Formula) (start : Cut) (room : ℕ) (some : 1 ≤ room) (few : room ≤ 1024) (rest : List Answer)
-    (scratch : List ℕ) (even : length scratch ≡ room * frontierLength w) (ts : List Event) (e : Event)
+    (scratch : List ℕ) (even : length scratch ≡ room * frontier_length w) (ts : List Event) (e : Event)
     (o : Sendable w k e) (past : History k Valid (e ∷ ts)) (alone : AllAlone (e ∷ ts))
-    (enough : sharingKeeps (list_of k (taken (e ∷ ts))) ≤ room) (more : ℕ) (Z : Watch)
+    (enough : sharing_keeps (list_of k (taken (e ∷ ts))) ≤ room) (more : ℕ) (Z : Watch)
     (T : Took w k f start room rest ts more Z) where
   S : Sound w k f start Z
   S = T.sound
@@ -124,65 +124,65 @@ module _ (w k : ℕ) (f : Formula) (start : Cut) (room : ℕ) (some : 1 ≤ room
   abbrev Y : Watch
   Y = after w offering Z
 
-  sound-then : Sound w k f start Y
-  sound-then = after-sound w k f start Z offering (offer-passes w k e o) S
+  sound_then : Sound w k f start Y
+  sound_then = after_sound w k f start Z offering (offer_passes w k e o) S
 
-  is_held : (offerCall w e.mask e.clock e.labels Z.bytes).answer ≡ held 1
+  is_held : (offer_call w e.mask e.clock e.labels Z.bytes).answer ≡ held 1
   is_held =
-      offer-by-ledger w k (linesAt 0 f) start S.rule Z.ledger Z.bytes Z.window S.right e.mask
+      offer_by_ledger w k (lines_at 0 f) start S.rule Z.ledger Z.bytes Z.window S.right e.mask
       e.clock e.labels
-      ∙ rw T.ledger-is (held_one w k S.rule.eight-processes ts e o past.0)
+      ∙ rw T.ledger_is (held_one_lem w k S.rule.eight_processes ts e o past.0)
 
-  offered : Y.ledger ≡ heldOne ts e
-  unfolding after offeredLedger insertAt placeAmong
+  offered : Y.ledger ≡ held_one ts e
+  unfolding after offered_ledger insert_at place_among
   offered =
-      let says = says-pending w k (linesAt 0 f) start S.rule Z.ledger Z.bytes Z.window S.right in
-      rw (is_held, says, T.ledger-is, whole w k S.rule.eight-processes ts e o past.0)
+      let says = says_pending w k (lines_at 0 f) start S.rule Z.ledger Z.bytes Z.window S.right in
+      rw (is_held, says, T.ledger_is, whole w k S.rule.eight_processes ts e o past.0)
 
   -- The take after it.
-  lent-long : length (lentWindow Y more) ≡ room * frontierLength w
+  lent_long : length (lent_window Y more) ≡ room * frontier_length w
   unfolding after
-  lent-long =
+  lent_long =
       length-append Z.window (replicate more 0)
       ∙ ap (λ (n : ℕ). length Z.window + n) (length-replicate more 0) ∙ T.lent
 
   right : RightLengths w Y more scratch
   right = (
-    rw lent-long (bad-length w room ∙ rw (le-ltb room 1 some, le-ltb 1024 room few)),
-    even ∙ sym lent-long,
+    rw lent_long (bad_length w room ∙ rw (le-ltb room 1 some, le-ltb 1024 room few)),
+    even ∙ sym lent_long,
   )
 
-  allowed : allowedNext w Y 1024 more ≡ room
-  allowed = rw lent-long (rw (room_of w room) (omega arith))
+  allowed : allowed_next w Y 1024 more ≡ room
+  allowed = rw lent_long (rw (room_of_lem w room) (omega arith))
 
   exact : AnswersExact w k f start Y 1024 more scratch
-  exact = (take-exact-of w k f start Y sound-then).right-lengths 1024 more scratch right
+  exact = (take_exact_of w k f start Y sound_then).right_lengths 1024 more scratch right
 
-  abbrev takes-it : Takes k (allowedNext w Y 1024 more) f start Y.ledger (list_of 8 (taken (e ∷ ts)))
-      (holds (modelAfter k f start (e ∷ ts)) (meaning f) (taken (e ∷ ts))) (sharingKeeps (list_of k (taken (e ∷ ts))))
-  takes-it = record {
+  abbrev takes_it : Takes k (allowed_next w Y 1024 more) f start Y.ledger (list_of 8 (taken (e ∷ ts)))
+      (holds (model_after k f start (e ∷ ts)) (meaning f) (taken (e ∷ ts))) (sharing_keeps (list_of k (taken (e ∷ ts))))
+  takes_it = record {
     event = e;
     stops = record {
       earlier = [];
       later = [];
-      pending-are = ap (λ (L : Ledger). L.pending) offered;
+      pending_are = ap (λ (L : Ledger). L.pending) offered;
       ready = rw offered past.0.ready;
-      passed = λ x m. absurd (Memᴰ.not-nil m);
+      passed = λ x m. absurd (Memᴰ.not_nil m);
     };
-    true-clock = rw offered past.0.true-clock;
-    kept-are = rw offered (alone-number k S.rule.some-process S.rule.eight-processes (e ∷ ts) past alone);
+    true_clock = rw offered past.0.true_clock;
+    kept_are = rw offered (alone_number k S.rule.some_process S.rule.eight_processes (e ∷ ts) past alone);
     fits = rw allowed enough;
-    counts-are = rw offered;
-    truth-is = rw offered;
+    counts_are = rw offered;
+    truth_is = rw offered;
   }
 
-  one-took : Took w k f start room rest (e ∷ ts) 0 (after w (takes 1024 more scratch) Y)
+  one_took : Took w k f start room rest (e ∷ ts) 0 (after w (takes 1024 more scratch) Y)
   unfolding after
-  one-took = record {
-    sound = after-sound w k f start Y (takes 1024 more scratch) tt sound-then;
-    ledger-is = exact.ledger-state _ _ _ takes-it ∙ rw offered;
-    answers-are = rw ((exact.state-exactly _ _ _).1 takes-it, is_held, T.answers-are);
-    lent = omega (arith, length_taken w 1024 Y.bytes (lentWindow Y more) scratch, lent-long);
+  one_took = record {
+    sound = after_sound w k f start Y (takes 1024 more scratch) tt sound_then;
+    ledger_is = exact.ledger_state _ _ _ takes_it ∙ rw offered;
+    answers_are = rw ((exact.state_exactly _ _ _).1 takes_it, is_held, T.answers_are);
+    lent = omega (arith, length_taken w 1024 Y.bytes (lent_window Y more) scratch, lent_long);
   }
 
 -- ---- Events of a history, in their order, one after the other
@@ -196,35 +196,35 @@ among : (es ts : List Event) (x : Event) → Memᴰ x ts → Memᴰ x (reverse_a
 among [] ts x m = m
 among (e ∷ es) ts x m = among es (e ∷ ts) x (Memᴰ.tail m)
 
-module _ (w k : ℕ) (f : Formula) (start : Cut) (some-process : 0 < k) (eight-processes : k ≤ 8) (room : ℕ)
-    (some : 1 ≤ room) (few : room ≤ 1024) (n : ℕ) (enough : sharingKeeps (shares k n) ≤ room) (scratch : List ℕ)
-    (even : length scratch ≡ room * frontierLength w) (rest : List Answer) where
-  pub all-took : (es ts : List Event) → History k Valid (reverse_aux es ts) → AllAlone (reverse_aux es ts)
+module _ (w k : ℕ) (f : Formula) (start : Cut) (some_process : 0 < k) (eight_processes : k ≤ 8) (room : ℕ)
+    (some : 1 ≤ room) (few : room ≤ 1024) (n : ℕ) (enough : sharing_keeps (shares k n) ≤ room) (scratch : List ℕ)
+    (even : length scratch ≡ room * frontier_length w) (rest : List Answer) where
+  pub all_took : (es ts : List Event) → History k Valid (reverse_aux es ts) → AllAlone (reverse_aux es ts)
       → length (reverse_aux es ts) ≤ n → ((x : Event) → Memᴰ x es → Sendable w k x)
       → (more : ℕ) (Z : Watch) → Took w k f start room rest ts more Z
-      → (left : ℕ) × Took w k f start room rest (reverse_aux es ts) left (run w (dayCalls more scratch es) Z)
+      → (left : ℕ) × Took w k f start room rest (reverse_aux es ts) left (run w (day_calls more scratch es) Z)
   unfolding run
-  all-took [] ts h alone l fine more Z T = (more, T)
-  all-took (e ∷ es) ts h alone l fine more Z T =
+  all_took [] ts h alone l fine more Z T = (more, T)
+  all_took (e ∷ es) ts h alone l fine more Z T =
       let past : History k Valid (e ∷ ts) = earlier k es (e ∷ ts) h in
       let only : AllAlone (e ∷ ts) = λ x m. alone x (among es (e ∷ ts) x m) in
-      let most : sharingKeeps (list_of k (taken (e ∷ ts))) ≤ room =
+      let most : sharing_keeps (list_of k (taken (e ∷ ts))) ≤ room =
       omega (
         arith,
         enough,
-        alone-most k some-process eight-processes (e ∷ ts) past only n
+        alone_most k some_process eight_processes (e ∷ ts) past only n
             (omega (arith, l, length-reverse_aux es (e ∷ ts))),
       ) in
-      all-took es (e ∷ ts) h alone l (λ x m. fine x (Memᴰ.tail m)) 0 _
-      (one-took w k f start room some few rest scratch even ts e (fine e (Memᴰ.head refl)) past only most more Z T)
+      all_took es (e ∷ ts) h alone l (λ x m. fine x (Memᴰ.tail m)) 0 _
+      (one_took w k f start room some few rest scratch even ts e (fine e (Memᴰ.head refl)) past only most more Z T)
 
 -- All of these calls are such as the machine passes.
-pub all-passed : (w k : ℕ) (scratch : List ℕ) (es : List Event) → ((x : Event) → Memᴰ x es → Sendable w k x)
-    → (more : ℕ) → AllPassed w (dayCalls more scratch es)
-all-passed w k scratch [] fine more c m = absurd (Memᴰ.not-nil m)
-all-passed w k scratch (e ∷ es) fine more c m =
-    ⊎_elim (λ q. rw q (offer-passes w k e (fine e (Memᴰ.head refl))))
+pub all_passed : (w k : ℕ) (scratch : List ℕ) (es : List Event) → ((x : Event) → Memᴰ x es → Sendable w k x)
+    → (more : ℕ) → AllPassed w (day_calls more scratch es)
+all_passed w k scratch [] fine more c m = absurd (Memᴰ.not_nil m)
+all_passed w k scratch (e ∷ es) fine more c m =
+    ⊎_elim (λ q. rw q (offer_passes w k e (fine e (Memᴰ.head refl))))
     (λ i.
-    ⊎_elim (λ q. rw q tt) (all-passed w k scratch es (λ x j. fine x (Memᴰ.tail j)) 0 c)
+    ⊎_elim (λ q. rw q tt) (all_passed w k scratch es (λ x j. fine x (Memᴰ.tail j)) 0 c)
     (Memᴰ.cases_cons i))
     (Memᴰ.cases_cons m)

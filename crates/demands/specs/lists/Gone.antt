@@ -5,45 +5,45 @@ use mathlib.Core.List.{List, [], ◌∷◌, ◌++◌, map, reverse, reverse-cons
 use Rattle.clocks.specs.declared.Event.{Event}
 use Rattle.clocks.specs.Event.{Cut}
 use Rattle.rules.specs.Formula.{Formula}
-use Rattle.answers.specs.Answer.{Answer, nothingReady}
+use Rattle.answers.specs.Answer.{Answer, nothing_ready}
 use Rattle.demands.specs.Ledger.{occurrences, Ledger, Settled}
-use Rattle.demands.specs.statements.Empties.{Leaving, was-taken, was-false, answeredFor, taken_of, falseOf, InTurn}
+use Rattle.demands.specs.statements.Empties.{Leaving, was_taken, was_false, answered_for, taken_of, false_of, InTurn}
 use Rattle.demands.specs.lists.Leaves.{SameEvents, Left}
 
 pub record Gone (k : ℕ) (f : Formula) (start : Cut) (L M : Ledger) (answers : List Answer) : Type 0 where
   pub left : List Leaving
   pub quiet : ℕ
-  pub answers-are : answers ≡ map answeredFor left ++ replicate quiet nothingReady
-  pub in-turn : InTurn k f start L.history left
+  pub answers_are : answers ≡ map answered_for left ++ replicate quiet nothing_ready
+  pub in_turn : InTurn k f start L.history left
   pub fewer : length left + length M.pending ≡ length L.pending
-  pub taken-since : M.history ≡ reverse (taken_of left) ++ L.history
-  pub false-since : M.falsified ≡ reverse (falseOf left) ++ L.falsified
+  pub taken_since : M.history ≡ reverse (taken_of left) ++ L.history
+  pub false_since : M.falsified ≡ reverse (false_of left) ++ L.falsified
   pub each : (e : Event)
       → occurrences e L.pending
-      ≡ occurrences e (taken_of left) + occurrences e (falseOf left) + occurrences e M.pending
-  pub none-ready : 0 < quiet → Settled M
+      ≡ occurrences e (taken_of left) + occurrences e (false_of left) + occurrences e M.pending
+  pub none_ready : 0 < quiet → Settled M
 
 pub both : (L M N : Ledger) → SameEvents L M → SameEvents M N → SameEvents L N
 both L M N s t = record {
-  history-same = t.history-same ∙ s.history-same;
-  pending-same = t.pending-same ∙ s.pending-same;
-  falsified-same = t.falsified-same ∙ s.falsified-same;
+  history_same = t.history_same ∙ s.history_same;
+  pending_same = t.pending_same ∙ s.pending_same;
+  falsified_same = t.falsified_same ∙ s.falsified_same;
 }
 
 -- with nothing ready
-pub gone-none : (k : ℕ) (f : Formula) (start : Cut) (L M : Ledger) (answers : List Answer) (quiet : ℕ) → answers ≡ replicate quiet nothingReady
+pub gone_none : (k : ℕ) (f : Formula) (start : Cut) (L M : Ledger) (answers : List Answer) (quiet : ℕ) → answers ≡ replicate quiet nothing_ready
     → SameEvents L M → (0 < quiet → Settled M) → Gone k f start L M answers
-unfolding taken_of falseOf occurrences
-gone-none k f start L M answers quiet q s settled = record {
+unfolding taken_of false_of occurrences
+gone_none k f start L M answers quiet q s settled = record {
   left = [];
   quiet = quiet;
-  answers-are = q;
-  in-turn = tt;
-  fewer = omega (arith, ap length s.pending-same);
-  taken-since = s.history-same;
-  false-since = s.falsified-same;
-  each = λ e. omega (arith, ap (occurrences e) s.pending-same);
-  none-ready = settled;
+  answers_are = q;
+  in_turn = tt;
+  fewer = omega (arith, ap length s.pending_same);
+  taken_since = s.history_same;
+  false_since = s.falsified_same;
+  each = λ e. omega (arith, ap (occurrences e) s.pending_same);
+  none_ready = settled;
 }
 
 -- with a call in front that leaves the events
@@ -51,56 +51,56 @@ pub gone_same : (k : ℕ) (f : Formula) (start : Cut) (L M N : Ledger) (answers 
 gone_same k f start L M N answers s g = record {
   left = g.left;
   quiet = g.quiet;
-  answers-are = g.answers-are;
-  in-turn = rw (← s.history-same) g.in-turn;
-  fewer = g.fewer ∙ ap length s.pending-same;
-  taken-since = g.taken-since ∙ ap (λ (ts : List Event). reverse (taken_of g.left) ++ ts) s.history-same;
-  false-since = g.false-since ∙ ap (λ (ts : List Event). reverse (falseOf g.left) ++ ts) s.falsified-same;
-  each = λ e. omega (arith, ap (occurrences e) s.pending-same, g.each e);
-  none-ready = g.none-ready;
+  answers_are = g.answers_are;
+  in_turn = rw (← s.history_same) g.in_turn;
+  fewer = g.fewer ∙ ap length s.pending_same;
+  taken_since = g.taken_since ∙ ap (λ (ts : List Event). reverse (taken_of g.left) ++ ts) s.history_same;
+  false_since = g.false_since ∙ ap (λ (ts : List Event). reverse (false_of g.left) ++ ts) s.falsified_same;
+  each = λ e. omega (arith, ap (occurrences e) s.pending_same, g.each e);
+  none_ready = g.none_ready;
 }
 
 -- with a take in front by which one leaves
 taken_more : (x : Leaving) (xs : List Leaving) (ts : List Event)
     → reverse (taken_of xs) ++ (taken_of (x ∷ []) ++ ts) ≡ reverse (taken_of (x ∷ xs)) ++ ts
 unfolding taken_of
-taken_more (was-taken e c t n) xs ts =
+taken_more (was_taken e c t n) xs ts =
     rw (reverse-cons e (taken_of xs)) (sym (append_assoc (reverse (taken_of xs)) (e ∷ []) ts))
-taken_more (was-false e) xs ts = refl
+taken_more (was_false e) xs ts = refl
 
-false-more : (x : Leaving) (xs : List Leaving) (ts : List Event)
-    → reverse (falseOf xs) ++ (falseOf (x ∷ []) ++ ts) ≡ reverse (falseOf (x ∷ xs)) ++ ts
-unfolding falseOf
-false-more (was-taken e c t n) xs ts = refl
-false-more (was-false e) xs ts =
-    rw (reverse-cons e (falseOf xs)) (sym (append_assoc (reverse (falseOf xs)) (e ∷ []) ts))
+false_more : (x : Leaving) (xs : List Leaving) (ts : List Event)
+    → reverse (false_of xs) ++ (false_of (x ∷ []) ++ ts) ≡ reverse (false_of (x ∷ xs)) ++ ts
+unfolding false_of
+false_more (was_taken e c t n) xs ts = refl
+false_more (was_false e) xs ts =
+    rw (reverse-cons e (false_of xs)) (sym (append_assoc (reverse (false_of xs)) (e ∷ []) ts))
 
-occurs-more : (e : Event) (x : Leaving) (xs : List Leaving)
-    → occurrences e (taken_of (x ∷ xs)) + occurrences e (falseOf (x ∷ xs))
-    ≡ (occurrences e (taken_of (x ∷ [])) + occurrences e (falseOf (x ∷ [])))
-    + (occurrences e (taken_of xs) + occurrences e (falseOf xs))
-unfolding taken_of falseOf occurrences
-occurs-more e (was-taken g c t n) xs = omega arith
-occurs-more e (was-false g) xs = omega arith
+occurs_more : (e : Event) (x : Leaving) (xs : List Leaving)
+    → occurrences e (taken_of (x ∷ xs)) + occurrences e (false_of (x ∷ xs))
+    ≡ (occurrences e (taken_of (x ∷ [])) + occurrences e (false_of (x ∷ [])))
+    + (occurrences e (taken_of xs) + occurrences e (false_of xs))
+unfolding taken_of false_of occurrences
+occurs_more e (was_taken g c t n) xs = omega arith
+occurs_more e (was_false g) xs = omega arith
 
 turn_more : (k : ℕ) (f : Formula) (start : Cut) (x : Leaving) (xs : List Leaving) (ts : List Event)
     → InTurn k f start ts (x ∷ []) → InTurn k f start (taken_of (x ∷ []) ++ ts) xs → InTurn k f start ts (x ∷ xs)
 unfolding taken_of
-turn_more k f start (was-taken e c t n) xs ts a b = (a.0, a.1, a.2, a.3, b)
-turn_more k f start (was-false e) xs ts a b = (a.0, a.1, b)
+turn_more k f start (was_taken e c t n) xs ts a b = (a.0, a.1, a.2, a.3, b)
+turn_more k f start (was_false e) xs ts a b = (a.0, a.1, b)
 
-pub gone-left : (k : ℕ) (f : Formula) (start : Cut) (x : Leaving) (L M N : Ledger) (answers : List Answer) → Left k f start x L M → Gone k f start M N answers
-    → Gone k f start L N (answeredFor x ∷ answers)
-gone-left k f start x L M N answers l g = record {
+pub gone_left : (k : ℕ) (f : Formula) (start : Cut) (x : Leaving) (L M N : Ledger) (answers : List Answer) → Left k f start x L M → Gone k f start M N answers
+    → Gone k f start L N (answered_for x ∷ answers)
+gone_left k f start x L M N answers l g = record {
   left = x ∷ g.left;
   quiet = g.quiet;
-  answers-are = ap (λ (bs : List Answer). answeredFor x ∷ bs) g.answers-are;
-  in-turn = turn_more k f start x g.left L.history l.in-turn-now (rw (← l.history-now) g.in-turn);
+  answers_are = ap (λ (bs : List Answer). answered_for x ∷ bs) g.answers_are;
+  in_turn = turn_more k f start x g.left L.history l.in_turn_now (rw (← l.history_now) g.in_turn);
   fewer = omega (arith, g.fewer, l.one_less);
-  taken-since = g.taken-since ∙ ap (λ (ts : List Event). reverse (taken_of g.left) ++ ts) l.history-now
+  taken_since = g.taken_since ∙ ap (λ (ts : List Event). reverse (taken_of g.left) ++ ts) l.history_now
       ∙ taken_more x g.left L.history;
-  false-since = g.false-since ∙ ap (λ (ts : List Event). reverse (falseOf g.left) ++ ts) l.falsified-now
-      ∙ false-more x g.left L.falsified;
-  each = λ e. omega (arith, l.each-now e, g.each e, occurs-more e x g.left);
-  none-ready = g.none-ready;
+  false_since = g.false_since ∙ ap (λ (ts : List Event). reverse (false_of g.left) ++ ts) l.falsified_now
+      ∙ false_more x g.left L.falsified;
+  each = λ e. omega (arith, l.each_now e, g.each e, occurs_more e x g.left);
+  none_ready = g.none_ready;
 }

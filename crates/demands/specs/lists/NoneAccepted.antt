@@ -6,7 +6,7 @@ use mathlib.Core.List.Memᴰ
 use Rattle.clocks.specs.declared.Event.{Event}
 use Rattle.answers.specs.Answer.{Answer}
 use Rattle.answers.specs.Kinds.{is_held}
-use Rattle.demands.specs.Run.{Call, offers, takes, finds, closes, mislends, Watch, acceptedBy, after, run}
+use Rattle.demands.specs.Run.{Call, offers, takes, finds, closes, mislends, Watch, accepted_by, after, run}
 use Rattle.demands.specs.statements.Empties.{NoOffers}
 
 -- No call of the list accepts one.
@@ -14,19 +14,19 @@ abbrev pub AcceptsNone : (w : ℕ) (cs : List Call) (Z : Watch) → Type 0
 AcceptsNone w [] Z = Unit {0}
 AcceptsNone w (c ∷ cs) Z = ((after w c Z).accepted ≡ Z.accepted) × AcceptsNone w cs (after w c Z)
 
-by-held : (e : Event) (es : List Event) (a : Answer)
-    → (acceptedBy e es a ≡ es) ⊎ (length (acceptedBy e es a) ≡ length es + 1)
-unfolding acceptedBy
-by-held e es a = go (is_held a) refl
+by_held : (e : Event) (es : List Event) (a : Answer)
+    → (accepted_by e es a ≡ es) ⊎ (length (accepted_by e es a) ≡ length es + 1)
+unfolding accepted_by
+by_held e es a = go (is_held a) refl
   where
-    go : (b : Bool) → is_held a ≡ b → (acceptedBy e es a ≡ es) ⊎ (length (acceptedBy e es a) ≡ length es + 1)
+    go : (b : Bool) → is_held a ≡ b → (accepted_by e es a ≡ es) ⊎ (length (accepted_by e es a) ≡ length es + 1)
     go true h = inr (rw h (omega arith))
     go false h = inl (rw h)
 
 accepted-after : (w : ℕ) (c : Call) (Z : Watch)
     → ((after w c Z).accepted ≡ Z.accepted) ⊎ (length (after w c Z).accepted ≡ length Z.accepted + 1)
 unfolding after
-accepted-after w (offers mask clock labels) Z = by-held _ Z.accepted _
+accepted-after w (offers mask clock labels) Z = by_held _ Z.accepted _
 accepted-after w (takes cap more scratch) Z = inl refl
 accepted-after w (finds line) Z = inl refl
 accepted-after w (closes p) Z = inl refl
@@ -56,9 +56,9 @@ accepted-else w (finds line) Z none = refl
 accepted-else w (closes p) Z none = refl
 accepted-else w (mislends m) Z none = refl
 
-pub no-offers-none : (w : ℕ) (cs : List Call) (Z : Watch) → NoOffers cs → (run w cs Z).accepted ≡ Z.accepted
+pub no_offers-none : (w : ℕ) (cs : List Call) (Z : Watch) → NoOffers cs → (run w cs Z).accepted ≡ Z.accepted
 unfolding run
-no-offers-none w [] Z none = refl
-no-offers-none w (c ∷ cs) Z none =
-    no-offers-none w cs (after w c Z) (λ mask clock labels m. none mask clock labels (Memᴰ.tail m))
+no_offers-none w [] Z none = refl
+no_offers-none w (c ∷ cs) Z none =
+    no_offers-none w cs (after w c Z) (λ mask clock labels m. none mask clock labels (Memᴰ.tail m))
     ∙ accepted-else w c Z (λ mask clock labels q. none mask clock labels (Memᴰ.head q))

@@ -2,5 +2,5 @@
 use Rattle.demands.specs.lists.SoundRun.{every-list}
 use Rattle.demands.specs.statements.Verdicts.{VerdictsAreTrue}
 
-pub verdicts-true : VerdictsAreTrue
-verdicts-true = every-list _ (λ w k f start Z S. S.reporting.truthful)
+pub verdicts_true : VerdictsAreTrue
+verdicts_true = every-list _ (λ w k f start Z S. S.reporting.truthful)

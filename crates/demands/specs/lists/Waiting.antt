@@ -5,7 +5,7 @@ use Rattle.std.proofs.Math.Decide.{dec_lt}
 use Rattle.clocks.specs.declared.Event.{Event}
 use Rattle.clocks.specs.Event.{Cut, one, count, involved, Ready}
 use Rattle.clocks.specs.Valid.{WellFormed}
-use Rattle.clocks.specs.cuts.EventLaws.{ready-i, ready-next, ready-known}
+use Rattle.clocks.specs.cuts.EventLaws.{ready_i, ready_next, ready_known}
 use Rattle.demands.specs.statements.Empties.{WaitsFor}
 
 -- A well-formed event whose own counts are not taken, and that waits for no process, is ready.
@@ -37,17 +37,17 @@ module _ (k : ℕ) (e : Event) (S : Cut) (formed : WellFormed k e)
       go (yes l) (yes x) = absurd (none p l x)
       go (no l) (yes x) = omega (arith, formed.silent p (omega arith))
 
-  none-waits : ((p : ℕ) → p < k → Waits p → ⊥) → Ready e S
-  none-waits none = ready-i e S
+  none_waits : ((p : ℕ) → p < k → Waits p → ⊥) → Ready e S
+  none_waits none = ready_i e S
       (λ p b. let o : one (involved e p) ≡ 1 = rw b in omega (arith, low none p, untaken p b))
       (λ p b. let o : one (involved e p) ≡ 0 = rw b in omega (arith, low none p))
 
-  pub waits-for : (Ready e S → ⊥) → (p : ℕ) × (p < k) × Waits p
-  waits-for not-ready = ⊎_elim (λ x. x) (λ none. absurd (not-ready (none-waits none))) (search k)
+  pub waits_for : (Ready e S → ⊥) → (p : ℕ) × (p < k) × Waits p
+  waits_for not-ready = ⊎_elim (λ x. x) (λ none. absurd (not-ready (none_waits none))) (search k)
 
-  pub ready-exactly : Ready e S ↔ ((p : ℕ) → p < k → Waits p → ⊥)
-  ready-exactly = (λ r p l x. not-ready-waits r p x (involved e p) refl, none-waits)
+  pub ready_exactly : Ready e S ↔ ((p : ℕ) → p < k → Waits p → ⊥)
+  ready_exactly = (λ r p l x. not-ready_waits r p x (involved e p) refl, none_waits)
     where
-      not-ready-waits : Ready e S → (p : ℕ) → Waits p → (b : Bool) → involved e p ≡ b → ⊥
-      not-ready-waits r p x true b = let o : one (involved e p) ≡ 1 = rw b in omega (arith, x, ready-next e S r p b)
-      not-ready-waits r p x false b = omega (arith, x, ready-known e S r p b)
+      not-ready_waits : Ready e S → (p : ℕ) → Waits p → (b : Bool) → involved e p ≡ b → ⊥
+      not-ready_waits r p x true b = let o : one (involved e p) ≡ 1 = rw b in omega (arith, x, ready_next e S r p b)
+      not-ready_waits r p x false b = omega (arith, x, ready_known e S r p b)

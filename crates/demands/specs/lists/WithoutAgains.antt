@@ -4,76 +4,76 @@ use Rattle.std.proofs.Common.{arith, sym, ap, ◌∙◌}
 use Rattle.codec.specs.Bit.{bit}
 use Rattle.frontiers.specs.declared.Frontier.{Frontier}
 use Rattle.frontiers.specs.Bytes.{frontiers}
-use Rattle.records.specs.Record.{lineTotal, keptCount}
-use Rattle.refusals.specs.Refusals.{roomOf, badRecordLength, badWindowLength, badState}
-use Rattle.answers.specs.Answer.{Answer, turnedBack, state, nothingReady, held, again, found, absent, processClosed, state_of}
-use Rattle.answers.specs.Turns.{by-test}
-use Rattle.call_open.specs.Open.{openCall, openTable}
-use Rattle.call_offer.specs.Offer.{offerCall}
-use Rattle.call_offer.specs.OfferCases.{OfferCase, offer-case, turned, repeats, accepted}
-use Rattle.trial.specs.Trial.{Decision, undecided, false-clock, chosen, trial}
-use Rattle.call_take.specs.Take.{decided, Taken, takeWithin, allowedOf, takeCapped}
-use Rattle.call_find.specs.Find.{findFrom, findCall}
-use Rattle.call_close.specs.Close.{closeProcess, closeCall}
+use Rattle.records.specs.Record.{line_total, kept_count}
+use Rattle.refusals.specs.Refusals.{room_of, bad_record_length, bad_window_length, bad_state}
+use Rattle.answers.specs.Answer.{Answer, turned_back, state, nothing_ready, held, again, found, absent, process_closed, state_of}
+use Rattle.answers.specs.Turns.{by_test}
+use Rattle.call_open.specs.Open.{open_call, open_table}
+use Rattle.call_offer.specs.Offer.{offer_call}
+use Rattle.call_offer.specs.OfferCases.{OfferCase, offer_case, turned, repeats, accepted}
+use Rattle.trial.specs.Trial.{Decision, undecided, false_clock, chosen, trial}
+use Rattle.call_take.specs.Take.{decided, Taken, take_within, allowed_of, take_capped}
+use Rattle.call_find.specs.Find.{find_from, find_call}
+use Rattle.call_close.specs.Close.{close_process, close_call}
 use Rattle.call_close.specs.CloseCases as closing
-use Rattle.call_close.specs.CloseCases.{CloseCase, close-case}
-use Rattle.demands.specs.Mislent.{answerTo}
-use Rattle.demands.specs.Run.{Call, offers, takes, finds, closes, mislends, Watch, answeredBy, offeredLedger, acceptedBy, after, run, opened}
-use Rattle.demands.specs.calls.OpenLaws.{OpenCase, open-case, turned-back, opens}
-use Rattle.demands.specs.statements.Again.{isAgain, last_of, withoutAgains, otherAnswers, SameButAgains, AgainsMakeNoDifference}
+use Rattle.call_close.specs.CloseCases.{CloseCase, close_case}
+use Rattle.demands.specs.Mislent.{answer_to}
+use Rattle.demands.specs.Run.{Call, offers, takes, finds, closes, mislends, Watch, answered_by, offered_ledger, accepted_by, after, run, opened}
+use Rattle.demands.specs.calls.OpenLaws.{OpenCase, open_case, turned_back_lem, opens}
+use Rattle.demands.specs.statements.Again.{is_again, last_of, without_agains, other_answers, SameButAgains, AgainsMakeNoDifference}
 
 -- ---- Only offers are answered "again"
 
-decided-other : (w : ℕ) (s window : List ℕ) (fs : List Frontier) (d : Decision)
-    → isAgain (decided w s window fs d).answer ≡ false
+decided_other : (w : ℕ) (s window : List ℕ) (fs : List Frontier) (d : Decision)
+    → is_again (decided w s window fs d).answer ≡ false
 unfolding decided state_of
-decided-other w s window fs (undecided true) = refl
-decided-other w s window fs (undecided false) = refl
-decided-other w s window fs (false-clock i) = refl
-decided-other w s window fs (chosen i) = refl
+decided_other w s window fs (undecided true) = refl
+decided_other w s window fs (undecided false) = refl
+decided_other w s window fs (false_clock i) = refl
+decided_other w s window fs (chosen i) = refl
 
-take-other : (w cap : ℕ) (s window scratch : List ℕ) → isAgain (takeCapped w cap s window scratch).answer ≡ false
-unfolding takeCapped takeWithin
-take-other w cap s window scratch =
-    let by = by-test (λ (t : Taken). isAgain t.answer ≡ false) in
-    let back : ℕ → Taken = λ n. record { answer = turnedBack n 0; bytes = s; window = window; scratch = scratch } in
-    let fs = frontiers w window (keptCount s) in
-    let wrong = badWindowLength w (length window) || not (eqb (length scratch) (length window)) in
-    by (badRecordLength w (length s) || wrong) (back 6) _ (λ _. refl) λ _.
-    by (badState w (roomOf w (length window)) s) (back 34) _ (λ _. refl) λ _.
-    decided-other w s window fs (trial w s (allowedOf w cap window) fs)
+take_other : (w cap : ℕ) (s window scratch : List ℕ) → is_again (take_capped w cap s window scratch).answer ≡ false
+unfolding take_capped take_within
+take_other w cap s window scratch =
+    let by = by_test (λ (t : Taken). is_again t.answer ≡ false) in
+    let back : ℕ → Taken = λ n. record { answer = turned_back n 0; bytes = s; window = window; scratch = scratch } in
+    let fs = frontiers w window (kept_count s) in
+    let wrong = bad_window_length w (length window) || not (eqb (length scratch) (length window)) in
+    by (bad_record_length w (length s) || wrong) (back 6) _ (λ _. refl) λ _.
+    by (bad_state w (room_of w (length window)) s) (back 34) _ (λ _. refl) λ _.
+    decided_other w s window fs (trial w s (allowed_of w cap window) fs)
 
-found-other : (line i : ℕ) (fs : List Frontier) → isAgain (findFrom line i fs) ≡ false
-unfolding findFrom
-found-other line i [] = refl
-found-other line i (f ∷ fs) =
-    by-test (λ (a : Answer). isAgain a ≡ false) (bit f.values line) (found i) (findFrom line (i + 1) fs) (λ _. refl)
-    (λ _. found-other line (i + 1) fs)
+found_other : (line i : ℕ) (fs : List Frontier) → is_again (find_from line i fs) ≡ false
+unfolding find_from
+found_other line i [] = refl
+found_other line i (f ∷ fs) =
+    by_test (λ (a : Answer). is_again a ≡ false) (bit f.values line) (found i) (find_from line (i + 1) fs) (λ _. refl)
+    (λ _. found_other line (i + 1) fs)
 
-find-other : (w line : ℕ) (s window : List ℕ) → isAgain (findCall w line s window) ≡ false
-unfolding findCall
-find-other w line s window =
-    let by = by-test (λ (a : Answer). isAgain a ≡ false) in
-    by (badRecordLength w (length s) || badWindowLength w (length window)) (turnedBack 6 0) _ (λ _. refl) λ _.
-    by (badState w (roomOf w (length window)) s) (turnedBack 34 0) _ (λ _. refl) λ _.
-    by (leb (lineTotal s) line) (turnedBack 11 0) _ (λ _. refl) λ _.
-    found-other line 0 (frontiers w window (keptCount s))
+find_other : (w line : ℕ) (s window : List ℕ) → is_again (find_call w line s window) ≡ false
+unfolding find_call
+find_other w line s window =
+    let by = by_test (λ (a : Answer). is_again a ≡ false) in
+    by (bad_record_length w (length s) || bad_window_length w (length window)) (turned_back 6 0) _ (λ _. refl) λ _.
+    by (bad_state w (room_of w (length window)) s) (turned_back 34 0) _ (λ _. refl) λ _.
+    by (leb (line_total s) line) (turned_back 11 0) _ (λ _. refl) λ _.
+    found_other line 0 (frontiers w window (kept_count s))
 
-close_other : (w p : ℕ) (s window : List ℕ) → isAgain (closeCall w p s window).answer ≡ false
-unfolding closeProcess
-close_other w p s window = go (close-case w p s window)
+close_other : (w p : ℕ) (s window : List ℕ) → is_again (close_call w p s window).answer ≡ false
+unfolding close_process
+close_other w p s window = go (close_case w p s window)
   where
-    go : CloseCase w p s window → isAgain (closeCall w p s window).answer ≡ false
+    go : CloseCase w p s window → is_again (close_call w p s window).answer ≡ false
     go (closing.turned n some small other q) = rw q
     go (closing.accepted h41 h42 q) = rw q
 
-open-other : (w : ℕ) (text : List ℕ) (k : ℕ) (labels s window : List ℕ)
-    → isAgain (openCall w text k labels s window).answer ≡ false
-unfolding openTable state_of
-open-other w text k labels s window = go (open-case w text k labels s window)
+open_other : (w : ℕ) (text : List ℕ) (k : ℕ) (labels s window : List ℕ)
+    → is_again (open_call w text k labels s window).answer ≡ false
+unfolding open_table state_of
+open_other w text k labels s window = go (open_case w text k labels s window)
   where
-    go : OpenCase w text k labels s window → isAgain (openCall w text k labels s window).answer ≡ false
-    go (turned-back n i q) = rw q
+    go : OpenCase w text k labels s window → is_again (open_call w text k labels s window).answer ≡ false
+    go (turned_back_lem n i q) = rw q
     go (opens f i h6 h5 h9 h q) = rw q
 
 -- ---- Which leaves the watch
@@ -81,38 +81,38 @@ open-other w text k labels s window = go (open-case w text k labels s window)
 never : false ≡ true → ⊥
 never x = let z : ◌≡◌ {A = ℕ} 0 1 = cc in omega arith
 
-pub offer-idle : (w mask : ℕ) (clock labels : List ℕ) (W : Watch)
-    → isAgain (offerCall w mask clock labels W.bytes).answer ≡ true
-    → after w (offers mask clock labels) W ≡ answeredBy again W
-unfolding after offeredLedger acceptedBy
-offer-idle w mask clock labels W h = go (offer-case w mask clock labels W.bytes)
+pub offer_idle : (w mask : ℕ) (clock labels : List ℕ) (W : Watch)
+    → is_again (offer_call w mask clock labels W.bytes).answer ≡ true
+    → after w (offers mask clock labels) W ≡ answered_by again W
+unfolding after offered_ledger accepted_by
+offer_idle w mask clock labels W h = go (offer_case w mask clock labels W.bytes)
   where
-    go : OfferCase w mask clock labels W.bytes → after w (offers mask clock labels) W ≡ answeredBy again W
+    go : OfferCase w mask clock labels W.bytes → after w (offers mask clock labels) W ≡ answered_by again W
     go (turned n some small other q) = absurd (never (rw q at h))
     go (repeats h7 r q) = rw q
     go (accepted h7 h8 h9 h42 h31 h32 h33 q) = absurd (never (rw q at h))
 
-only-again : (a : Answer) → isAgain a ≡ true → a ≡ again
-only-again again h = refl
-only-again (turnedBack n i) h = absurd (never h)
-only-again (state c t k) h = absurd (never h)
-only-again nothingReady h = absurd (never h)
-only-again (held n) h = absurd (never h)
-only-again (found i) h = absurd (never h)
-only-again absent h = absurd (never h)
-only-again (processClosed n) h = absurd (never h)
+only_again : (a : Answer) → is_again a ≡ true → a ≡ again
+only_again again h = refl
+only_again (turned_back n i) h = absurd (never h)
+only_again (state c t k) h = absurd (never h)
+only_again nothing_ready h = absurd (never h)
+only_again (held n) h = absurd (never h)
+only_again (found i) h = absurd (never h)
+only_again absent h = absurd (never h)
+only_again (process_closed n) h = absurd (never h)
 
-idle : (w : ℕ) (c : Call) (W : Watch) → isAgain (last_of (after w c W).answers) ≡ true
-    → after w c W ≡ answeredBy again W
+idle : (w : ℕ) (c : Call) (W : Watch) → is_again (last_of (after w c W).answers) ≡ true
+    → after w c W ≡ answered_by again W
 unfolding after last_of
-idle w (offers mask clock labels) W h = offer-idle w mask clock labels W h
+idle w (offers mask clock labels) W h = offer_idle w mask clock labels W h
 idle w (takes cap more scratch) W h =
-    let z : ◌≡◌ {A = Bool} true false = sym h ∙ take-other w cap W.bytes (W.window ++ replicate more 0) scratch in
+    let z : ◌≡◌ {A = Bool} true false = sym h ∙ take_other w cap W.bytes (W.window ++ replicate more 0) scratch in
     let y : ◌≡◌ {A = ℕ} 0 1 = cc in absurd (omega arith)
 idle w (finds line) W h =
-    let z : ◌≡◌ {A = Bool} true false = sym h ∙ find-other w line W.bytes W.window in
+    let z : ◌≡◌ {A = Bool} true false = sym h ∙ find_other w line W.bytes W.window in
     let y : ◌≡◌ {A = ℕ} 0 1 = cc in absurd (omega arith)
-idle w (mislends m) W h = ap (λ (a : Answer). answeredBy a W) (only-again (answerTo w m) h)
+idle w (mislends m) W h = ap (λ (a : Answer). answered_by a W) (only_again (answer_to w m) h)
 idle w (closes p) W h =
     let z : ◌≡◌ {A = Bool} true false = sym h ∙ close_other w p W.bytes W.window in
     let y : ◌≡◌ {A = ℕ} 0 1 = cc in absurd (omega arith)
@@ -120,76 +120,76 @@ idle w (closes p) W h =
 -- ---- Call by call
 
 -- Another call does the same to both.
-step : (w : ℕ) (c : Call) (Y Z : Watch) → SameButAgains Y Z → isAgain (last_of (after w c Z).answers) ≡ false
+step : (w : ℕ) (c : Call) (Y Z : Watch) → SameButAgains Y Z → is_again (last_of (after w c Z).answers) ≡ false
     → SameButAgains (after w c Y) (after w c Z)
-unfolding after last_of otherAnswers
+unfolding after last_of other_answers
 step w (offers mask clock labels) Y Z S h = record {
-  same-record = rw S.same-record;
-  same-window = S.same-window;
-  same-ledger = rw (S.same-record, S.same-ledger);
-  same-accepted = rw (S.same-record, S.same-accepted);
-  other-answers = rw (S.same-record, S.other-answers, h);
+  same_record = rw S.same_record;
+  same_window = S.same_window;
+  same_ledger = rw (S.same_record, S.same_ledger);
+  same_accepted = rw (S.same_record, S.same_accepted);
+  other_answers = rw (S.same_record, S.other_answers, h);
 }
 step w (takes cap more scratch) Y Z S h = record {
-  same-record = rw (S.same-record, S.same-window);
-  same-window = rw (S.same-record, S.same-window);
-  same-ledger = rw (S.same-record, S.same-window, S.same-ledger);
-  same-accepted = S.same-accepted;
-  other-answers = rw (S.same-record, S.same-window, S.other-answers, h);
+  same_record = rw (S.same_record, S.same_window);
+  same_window = rw (S.same_record, S.same_window);
+  same_ledger = rw (S.same_record, S.same_window, S.same_ledger);
+  same_accepted = S.same_accepted;
+  other_answers = rw (S.same_record, S.same_window, S.other_answers, h);
 }
 step w (finds line) Y Z S h = record {
-  same-record = S.same-record;
-  same-window = S.same-window;
-  same-ledger = S.same-ledger;
-  same-accepted = S.same-accepted;
-  other-answers = rw (S.same-record, S.same-window, S.other-answers, h);
+  same_record = S.same_record;
+  same_window = S.same_window;
+  same_ledger = S.same_ledger;
+  same_accepted = S.same_accepted;
+  other_answers = rw (S.same_record, S.same_window, S.other_answers, h);
 }
 step w (mislends m) Y Z S h = record {
-  same-record = S.same-record;
-  same-window = S.same-window;
-  same-ledger = S.same-ledger;
-  same-accepted = S.same-accepted;
-  other-answers = rw (S.other-answers, h);
+  same_record = S.same_record;
+  same_window = S.same_window;
+  same_ledger = S.same_ledger;
+  same_accepted = S.same_accepted;
+  other_answers = rw (S.other_answers, h);
 }
 step w (closes p) Y Z S h = record {
-  same-record = rw (S.same-record, S.same-window);
-  same-window = rw (S.same-record, S.same-window);
-  same-ledger = rw (S.same-record, S.same-window, S.same-ledger);
-  same-accepted = S.same-accepted;
-  other-answers = rw (S.same-record, S.same-window, S.other-answers, h);
+  same_record = rw (S.same_record, S.same_window);
+  same_window = rw (S.same_record, S.same_window);
+  same_ledger = rw (S.same_record, S.same_window, S.same_ledger);
+  same_accepted = S.same_accepted;
+  other_answers = rw (S.same_record, S.same_window, S.other_answers, h);
 }
 
 along : (w : ℕ) (cs : List Call) (Y Z : Watch) → SameButAgains Y Z
-    → SameButAgains (run w (withoutAgains w cs Z) Y) (run w cs Z)
-unfolding run withoutAgains otherAnswers
+    → SameButAgains (run w (without_agains w cs Z) Y) (run w cs Z)
+unfolding run without_agains other_answers
 along w [] Y Z S = S
-along w (c ∷ cs) Y Z S = go (isAgain (last_of (after w c Z).answers)) refl (λ U. along w cs U (after w c Z))
+along w (c ∷ cs) Y Z S = go (is_again (last_of (after w c Z).answers)) refl (λ U. along w cs U (after w c Z))
   where
     rest : List Call
-    rest = withoutAgains w cs (after w c Z)
+    rest = without_agains w cs (after w c Z)
 
-    go : (b : Bool) → isAgain (last_of (after w c Z).answers) ≡ b
+    go : (b : Bool) → is_again (last_of (after w c Z).answers) ≡ b
         → ((U : Watch) → SameButAgains U (after w c Z) → SameButAgains (run w rest U) (run w cs (after w c Z)))
-        → SameButAgains (run w (cond (isAgain (last_of (after w c Z).answers)) rest (c ∷ rest)) Y)
+        → SameButAgains (run w (cond (is_again (last_of (after w c Z).answers)) rest (c ∷ rest)) Y)
         (run w cs (after w c Z))
     go true h further = rw h (further Y (rw (idle w c Z h) (record {
-      same-record = S.same-record;
-      same-window = S.same-window;
-      same-ledger = S.same-ledger;
-      same-accepted = S.same-accepted;
-      other-answers = S.other-answers;
+      same_record = S.same_record;
+      same_window = S.same_window;
+      same_ledger = S.same_ledger;
+      same_accepted = S.same_accepted;
+      other_answers = S.other_answers;
     })))
     go false h further = rw h (further (after w c Y) (step w c Y Z S h))
 
 -- ---- Theorem
-pub agains-make-no-difference : AgainsMakeNoDifference
-unfolding otherAnswers
-agains-make-no-difference w text k labels s window cs =
-    let o = openCall w text k labels s window in
+pub agains_make_no_difference : AgainsMakeNoDifference
+unfolding other_answers
+agains_make_no_difference w text k labels s window cs =
+    let o = open_call w text k labels s window in
     along w cs (opened o) (opened o) (record {
-      same-record = refl;
-      same-window = refl;
-      same-ledger = refl;
-      same-accepted = refl;
-      other-answers = rw (open-other w text k labels s window);
+      same_record = refl;
+      same_window = refl;
+      same_ledger = refl;
+      same_accepted = refl;
+      other_answers = rw (open_other w text k labels s window);
     })

@@ -3,19 +3,19 @@
 use Rattle.std.specs.Prelude.{ℕ, ◌+◌, ◌-◌, ◌≤◌, ◌≡◌, Bool, List, [], ◌∷◌, length}
 use Rattle.clocks.specs.declared.Event.{Event}
 use Rattle.clocks.specs.Event.{one}
-use Rattle.records.specs.Record.{pendingCount}
+use Rattle.records.specs.Record.{pending_count}
 use Rattle.answers.specs.Answer.{Answer}
 use Rattle.demands.specs.Ledger.{occurrences, Ledger, accounted}
-use Rattle.answers.specs.Kinds.{is_held, isState, isFalseClock}
+use Rattle.answers.specs.Kinds.{is_held, is_state, is_false_clock}
 use Rattle.demands.specs.Run.{Watch}
 use Rattle.demands.specs.EveryList.{AfterEveryList}
 
 -- ---- Counting answers
 
 -- How many answers pass a test.
-unfoldable pub howMany : (test : Answer → Bool) (answers : List Answer) → ℕ
-howMany test [] = 0
-howMany test (a ∷ answers) = one (test a) + howMany test answers
+unfoldable pub how_many : (test : Answer → Bool) (answers : List Answer) → ℕ
+how_many test [] = 0
+how_many test (a ∷ answers) = one (test a) + how_many test answers
 
 -- ---- The balance
 
@@ -27,14 +27,14 @@ pub record Balanced (L : Ledger) (accepted : List Event) : Type 0 where
 
 pub record AnswersBalanced (Z : Watch) : Type 0 where
   -- accepted offers = states after the first, which is open's own, + answers 35 + the record's number of pending events
-  pub some-state : 1 ≤ howMany isState Z.answers
-  pub balance : howMany is_held Z.answers
-      ≡ (howMany isState Z.answers - 1) + howMany isFalseClock Z.answers + pendingCount Z.bytes
+  pub some_state : 1 ≤ how_many is_state Z.answers
+  pub balance : how_many is_held Z.answers
+      ≡ (how_many is_state Z.answers - 1) + how_many is_false_clock Z.answers + pending_count Z.bytes
   -- the ledger lists as many events as the answers say
-  pub accepted-said : howMany is_held Z.answers ≡ length Z.accepted
-  pub taken-said : howMany isState Z.answers ≡ length Z.ledger.history + 1
-  pub falsified-said : howMany isFalseClock Z.answers ≡ length Z.ledger.falsified
-  pub pending-said : pendingCount Z.bytes ≡ length Z.ledger.pending
+  pub accepted_said : how_many is_held Z.answers ≡ length Z.accepted
+  pub taken_said : how_many is_state Z.answers ≡ length Z.ledger.history + 1
+  pub falsified_said : how_many is_false_clock Z.answers ≡ length Z.ledger.falsified
+  pub pending_said : pending_count Z.bytes ≡ length Z.ledger.pending
   -- and each event balances there
   pub balanced : Balanced Z.ledger Z.accepted
 

@@ -9,7 +9,7 @@ use Rattle.rules.specs.Formula.{Formula}
 use Rattle.demands.specs.Ledger.{Ledger}
 use Rattle.demands.specs.Run.{Watch, after, takes}
 use Rattle.demands.specs.World.{Valid, KeptNumber}
-use Rattle.demands.specs.EveryList.{RightLengths, nextTake}
+use Rattle.demands.specs.EveryList.{RightLengths, next_take}
 use Rattle.demands.specs.Written.{OfEveryWatch}
 
 -- Some pending event is ready and has a true clock, and with it more than n cuts are kept.
@@ -24,7 +24,7 @@ abbrev pub CapsAlike : (w k : ℕ) (f : Formula) (start : Cut) (Z : Watch) → T
 CapsAlike w k f start Z =
     (n cap cap' more : ℕ) (scratch : List ℕ) → n ≤ cap → n ≤ cap'
     → (RightLengths w Z more scratch → WouldPass k n Z.ledger → ⊥)
-    → (nextTake w Z cap more scratch ≡ nextTake w Z cap' more scratch)
+    → (next_take w Z cap more scratch ≡ next_take w Z cap' more scratch)
     × (after w (takes cap more scratch) Z ≡ after w (takes cap' more scratch) Z)
 
 abbrev pub CapsAreAlike : Type 0

@@ -6,9 +6,9 @@ use Rattle.clocks.specs.Event.{Cut}
 use Rattle.clocks.specs.Counts.{at}
 use Rattle.rules.specs.Formula.{Formula}
 use Rattle.rules.specs.Text.{text_of}
-use Rattle.rules.specs.Reader.{readRule, formed}
+use Rattle.rules.specs.Reader.{read_rule, formed}
 use Rattle.demands.specs.Run.{Call, Watch, run}
-use Rattle.demands.specs.EveryList.{Accepts, EightBytes, AllPassed, atEnd, EndsQuiet, SameAccepted, SameClosed}
+use Rattle.demands.specs.EveryList.{Accepts, EightBytes, AllPassed, at_end, EndsQuiet, SameAccepted, SameClosed}
 use Rattle.demands.specs.Verdict.{Truthful}
 use Rattle.demands.specs.Written.{Written, moved_to, OfEveryWatch}
 use Rattle.demands.specs.statements.WindowExact.{WindowExact}
@@ -24,7 +24,7 @@ use Rattle.demands.specs.statements.Messages.{MessagesExact}
 use Rattle.demands.specs.statements.Balance.{AnswersBalanced}
 use Rattle.demands.specs.statements.Empties.{Empties}
 use Rattle.demands.specs.statements.OrderIndependent.{Alike}
-use Rattle.demands.specs.statements.Moves.{nextMove, MoveAnswers}
+use Rattle.demands.specs.statements.Moves.{next_move, MoveAnswers}
 
 pub record WatchExact (w k : ℕ) (f : Formula) (start : Cut) (Z : Watch) : Type 0 where
   -- demand 2, and the answers of every call
@@ -54,12 +54,12 @@ abbrev pub ExactAfterAMove : Type 0
 ExactAfterAMove =
     (v w : ℕ) → 0 < v → 0 < w → (text : List ℕ) (k : ℕ) (labels : List ℕ) → EightBytes labels
     → (s window : List ℕ) → Accepts v text k labels s window → (cs : List Call) → AllPassed v cs
-    → (t target : List ℕ) → (nextMove v w (atEnd v text k labels s window cs) t target).number ≡ 0
+    → (t target : List ℕ) → (next_move v w (at_end v text k labels s window cs) t target).number ≡ 0
     → (ds : List Call) → AllPassed w ds
-    → (f : Formula) × (i : ℕ) × (readRule text k ≡ formed i f) × (text_of f ≡ text)
+    → (f : Formula) × (i : ℕ) × (read_rule text k ≡ formed i f) × (text_of f ≡ text)
     × WatchExact w k f (at labels)
     (run w ds
-    (moved_to (nextMove v w (atEnd v text k labels s window cs) t target) (atEnd v text k labels s window cs)))
+    (moved_to (next_move v w (at_end v text k labels s window cs) t target) (at_end v text k labels s window cs)))
 
 -- Of two watches that come to one form: whatever moves stand among the calls of either, the same accepted
 -- events, the same closed processes and "nothing ready" at both ends make them alike.
@@ -68,4 +68,4 @@ OrderIndependentWithMoves =
     (text : List ℕ) (k : ℕ) (labels : List ℕ) → EightBytes labels
     → (w : ℕ) (Y Z : Watch) → Written text k labels w Y → Written text k labels w Z
     → EndsQuiet Y → EndsQuiet Z → SameAccepted Y Z → SameClosed Y Z
-    → (f : Formula) × (i : ℕ) × (readRule text k ≡ formed i f) × (text_of f ≡ text) × Alike w k f (at labels) Y Z
+    → (f : Formula) × (i : ℕ) × (read_rule text k ≡ formed i f) × (text_of f ≡ text) × Alike w k f (at labels) Y Z

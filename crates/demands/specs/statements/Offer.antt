@@ -8,9 +8,9 @@ use Rattle.clocks.specs.Event.{Cut, count, involved}
 use Rattle.clocks.specs.History.{taken}
 use Rattle.clocks.specs.Counts.{at}
 use Rattle.rules.specs.Formula.{Formula}
-use Rattle.numbers.specs.Refusal.{clockNumber, conflictNumber, fullNumber, labelsNumber, lengthNumber, maskNumber, namedNumber, stateNumber, takenNumber}
-use Rattle.answers.specs.Answer.{Answer, turnedBack, held, again}
-use Rattle.call_offer.specs.Offer.{offeredEvent, offerCall}
+use Rattle.numbers.specs.Refusal.{clock_number, conflict_number, full_number, labels_number, length_number, mask_number, named_number, state_number, taken_number}
+use Rattle.answers.specs.Answer.{Answer, turned_back, held, again}
+use Rattle.call_offer.specs.Offer.{offered_event, offer_call}
 use Rattle.demands.specs.Run.{offers, Passed, Watch}
 use Rattle.demands.specs.EveryList.{AfterEveryList, NamesClosed}
 
@@ -53,49 +53,49 @@ Formed k mask clock labels =
 -- ... and 42: it names no closed process.
 abbrev pub Admissible : (k : ℕ) (Z : Watch) (mask : ℕ) (clock labels : List ℕ) → Type 0
 Admissible k Z mask clock labels =
-    Formed k mask clock labels × (NamesClosed Z (offeredEvent mask clock labels) → ⊥)
+    Formed k mask clock labels × (NamesClosed Z (offered_event mask clock labels) → ⊥)
 
 -- ... and 31: none of its counts is taken.
 abbrev pub New : (k : ℕ) (Z : Watch) (mask : ℕ) (clock labels : List ℕ) → Type 0
-New k Z mask clock labels = Admissible k Z mask clock labels × (IsTaken Z (offeredEvent mask clock labels) → ⊥)
+New k Z mask clock labels = Admissible k Z mask clock labels × (IsTaken Z (offered_event mask clock labels) → ⊥)
 
 -- ... and "again": it is not pending.
 abbrev pub Unknown : (k : ℕ) (Z : Watch) (mask : ℕ) (clock labels : List ℕ) → Type 0
-Unknown k Z mask clock labels = New k Z mask clock labels × (IsPending Z (offeredEvent mask clock labels) → ⊥)
+Unknown k Z mask clock labels = New k Z mask clock labels × (IsPending Z (offered_event mask clock labels) → ⊥)
 
 -- ... and 32: it contradicts no pending event.
 abbrev pub Uncontradicted : (k : ℕ) (Z : Watch) (mask : ℕ) (clock labels : List ℕ) → Type 0
 Uncontradicted k Z mask clock labels =
-    Unknown k Z mask clock labels × (IsContradicted Z (offeredEvent mask clock labels) → ⊥)
+    Unknown k Z mask clock labels × (IsContradicted Z (offered_event mask clock labels) → ⊥)
 
 -- ---- The answers
 
-abbrev pub nextOffer : (w : ℕ) (Z : Watch) (mask : ℕ) (clock labels : List ℕ) → Answer
-nextOffer w Z mask clock labels = (offerCall w mask clock labels Z.bytes).answer
+abbrev pub next_offer : (w : ℕ) (Z : Watch) (mask : ℕ) (clock labels : List ℕ) → Answer
+next_offer w Z mask clock labels = (offer_call w mask clock labels Z.bytes).answer
 
 pub record OfferAnswers (w k : ℕ) (Z : Watch) (mask : ℕ) (clock labels : List ℕ) : Type 0 where
-  pub bad-mask : (nextOffer w Z mask clock labels ≡ turnedBack maskNumber 0) ↔ BadMask k mask
-  pub bad-clock : (nextOffer w Z mask clock labels ≡ turnedBack clockNumber 0)
+  pub bad_mask : (next_offer w Z mask clock labels ≡ turned_back mask_number 0) ↔ BadMask k mask
+  pub bad_clock : (next_offer w Z mask clock labels ≡ turned_back clock_number 0)
       ↔ ((BadMask k mask → ⊥) × BadClock k mask clock)
-  pub bad-labels : (nextOffer w Z mask clock labels ≡ turnedBack labelsNumber 0)
+  pub bad_labels : (next_offer w Z mask clock labels ≡ turned_back labels_number 0)
       ↔ (((BadMask k mask → ⊥) × (BadClock k mask clock → ⊥)) × BadLabels mask labels)
-  pub names-closed : (nextOffer w Z mask clock labels ≡ turnedBack namedNumber 0)
-      ↔ (Formed k mask clock labels × NamesClosed Z (offeredEvent mask clock labels))
-  pub is-taken : (nextOffer w Z mask clock labels ≡ turnedBack takenNumber 0)
-      ↔ (Admissible k Z mask clock labels × IsTaken Z (offeredEvent mask clock labels))
-  pub is-again : (nextOffer w Z mask clock labels ≡ again)
-      ↔ (New k Z mask clock labels × IsPending Z (offeredEvent mask clock labels))
-  pub contradicted : (nextOffer w Z mask clock labels ≡ turnedBack conflictNumber 0)
-      ↔ (Unknown k Z mask clock labels × IsContradicted Z (offeredEvent mask clock labels))
-  pub full : (nextOffer w Z mask clock labels ≡ turnedBack fullNumber 0)
+  pub names_closed : (next_offer w Z mask clock labels ≡ turned_back named_number 0)
+      ↔ (Formed k mask clock labels × NamesClosed Z (offered_event mask clock labels))
+  pub is_taken : (next_offer w Z mask clock labels ≡ turned_back taken_number 0)
+      ↔ (Admissible k Z mask clock labels × IsTaken Z (offered_event mask clock labels))
+  pub is_again : (next_offer w Z mask clock labels ≡ again)
+      ↔ (New k Z mask clock labels × IsPending Z (offered_event mask clock labels))
+  pub contradicted : (next_offer w Z mask clock labels ≡ turned_back conflict_number 0)
+      ↔ (Unknown k Z mask clock labels × IsContradicted Z (offered_event mask clock labels))
+  pub full : (next_offer w Z mask clock labels ≡ turned_back full_number 0)
       ↔ (Uncontradicted k Z mask clock labels × (32 ≤ length Z.ledger.pending))
   -- accepted: n is the number of pending events with it
   pub is_held : (n : ℕ)
-      → (nextOffer w Z mask clock labels ≡ held n)
+      → (next_offer w Z mask clock labels ≡ held n)
       ↔ (Uncontradicted k Z mask clock labels × (length Z.ledger.pending < 32)
       × (n ≡ length Z.ledger.pending + 1))
-  pub never-6 : nextOffer w Z mask clock labels ≢ turnedBack lengthNumber 0
-  pub never-34 : nextOffer w Z mask clock labels ≢ turnedBack stateNumber 0
+  pub never_6 : next_offer w Z mask clock labels ≢ turned_back length_number 0
+  pub never_34 : next_offer w Z mask clock labels ≢ turned_back state_number 0
 
 -- With arguments such as the machine passes.
 abbrev pub OfferExact : (w k : ℕ) (f : Formula) (start : Cut) (Z : Watch) → Type 0

@@ -2,24 +2,24 @@
 use Rattle.std.specs.Prelude.{ℕ, zero, suc, ◌+◌, ◌<◌, ◌≡◌, refl, Bool, true, false, cond, ◌&&◌, ◌⊎◌, List, [], ◌∷◌, ◌++◌, leb, ltb, eqb, length, drop}
 use Rattle.std.proofs.Common.{arith, sym, ◌∙◌, inl, inr, append_assoc, append-nil, length-append, eqb-true, eq-eqb, ltb-false, leb-false}
 use Rattle.rules.specs.Text.{byte_at}
-use Rattle.rules.specs.reading.WordLaws.{span-nil, span-byte, span-append}
+use Rattle.rules.specs.reading.WordLaws.{span_nil, span_byte, span_append}
 use Rattle.line_pieces.specs.declared.Read.{Read}
 use Rattle.line_pieces.specs.declared.Read.TheVariants.{At, Refused}
-use Rattle.codec.specs.Decimal.{isDigit, digits, value}
+use Rattle.codec.specs.Decimal.{is_digit, digits, value}
 use Rattle.line_pieces.specs.Number.{number_of, number_at}
-use Rattle.line_pieces.specs.NumberLaws.{digits-next, digits-end, digits-first}
-use Rattle.line_laws.specs.Grammar.{Numeral, Numerals, spaced, between, Piece, aByte, a_number, list, spacedList}
-use Rattle.line_laws.specs.pieces.ReadPieces.{if-test, readPiece}
-use Rattle.line_laws.specs.Fault.{NumberOut, trailed, leastBehind, Miscounted, TenIn}
-use Rattle.line_laws.specs.pieces.NumberTextRead.{if-known}
-use Rattle.line_pieces.specs.Reading.{thenByte, thenNumber}
-use Rattle.line_pieces.specs.NumberList.{ListRead, afterNumber, numbersAt, thenList, thenSpacedList, thenClose}
+use Rattle.line_pieces.specs.NumberLaws.{digits_next, digits-end, digits-first}
+use Rattle.line_laws.specs.Grammar.{Numeral, Numerals, spaced, between, Piece, aByte, a_number, list, spaced_list}
+use Rattle.line_laws.specs.pieces.ReadPieces.{if_test, read_piece}
+use Rattle.line_laws.specs.Fault.{NumberOut, trailed, least_behind, Miscounted, TenIn}
+use Rattle.line_laws.specs.pieces.NumberTextRead.{if_known}
+use Rattle.line_pieces.specs.Reading.{then_byte, then_number}
+use Rattle.line_pieces.specs.NumberList.{ListRead, after_number, numbers_at, then_list, then_spaced_list, then_close}
 use Rattle.line_laws.specs.pieces.PieceBegun.{digits-all}
 use Rattle.rules.specs.Fault.{Span}
 
 -- Two faults, or a fault and a place, are not the same.
-not-ten : (i j : ℕ) → Refused 1 i ≡ Refused 10 j → ⊥
-not-ten i j e = let z : ◌≡◌ {A = ℕ} 1 10 = cc in omega arith
+not_ten : (i j : ℕ) → Refused 1 i ≡ Refused 10 j → ⊥
+not_ten i j e = let z : ◌≡◌ {A = ℕ} 1 10 = cc in omega arith
 
 pub not_at : (i v n j : ℕ) → At i v ≡ Refused n j → ⊥
 not_at i v n j e = let z : ◌≡◌ {A = ℕ} 0 1 = cc in omega arith
@@ -27,21 +27,21 @@ not_at i v n j e = let z : ◌≡◌ {A = ℕ} 0 1 = cc in omega arith
 -- ---- Numbers
 
 -- The digits at a place stand there.
-digits-stand : (s : List ℕ) (ds : List ℕ) (i : ℕ) → digits (drop i s) ≡ ds → Span s i ds (i + length ds)
-digits-stand s [] i e = let z : i ≡ i + 0 = omega arith in rw (← z) (span-nil s i)
-digits-stand s (d ∷ ds) i e =
-    let rest : digits (drop (i + 1) s) ≡ ds = tail (isDigit (byte_at s i)) refl in
+digits_stand : (s : List ℕ) (ds : List ℕ) (i : ℕ) → digits (drop i s) ≡ ds → Span s i ds (i + length ds)
+digits_stand s [] i e = let z : i ≡ i + 0 = omega arith in rw (← z) (span_nil s i)
+digits_stand s (d ∷ ds) i e =
+    let rest : digits (drop (i + 1) s) ≡ ds = tail (is_digit (byte_at s i)) refl in
     let z : i + 1 + length ds ≡ i + suc (length ds) = omega arith in
-    rw (← z) (span-append (span-byte s i d (sym (digits-first s i d ds e))) (digits-stand s ds (i + 1) rest))
+    rw (← z) (span_append (span_byte s i d (sym (digits-first s i d ds e))) (digits_stand s ds (i + 1) rest))
   where
-    tail : (t : Bool) → isDigit (byte_at s i) ≡ t → digits (drop (i + 1) s) ≡ ds
-    tail true q = cc (digits-next s i q)
+    tail : (t : Bool) → is_digit (byte_at s i) ≡ t → digits (drop (i + 1) s) ≡ ds
+    tail true q = cc (digits_next s i q)
     tail false q = let z : ◌≡◌ {A = ℕ} 0 1 = cc (digits-end s i q) in absurd (omega arith)
 
 -- Digits without a needless 0 are the text of a number.
-numeral-of : (s : List ℕ) (i d : ℕ) (ds : List ℕ) → digits (drop i s) ≡ d ∷ ds
+numeral_of_lem : (s : List ℕ) (i d : ℕ) (ds : List ℕ) → digits (drop i s) ≡ d ∷ ds
     → (eqb d 48 && ltb 0 (length ds)) ≡ false → Numeral (d ∷ ds)
-numeral-of s i d ds e h = record { some = omega arith; all = rw e at (digits-all (drop i s)); plain = λ z. plain z }
+numeral_of_lem s i d ds e h = record { some = omega arith; all = rw e at (digits-all (drop i s)); plain = λ z. plain z }
   where
     plain : d ≡ 48 → suc (length ds) ≡ 1
     plain z =
@@ -64,17 +64,17 @@ Judged s i least most (At j v) =
     Numeral (digits (drop i s)) × (Span s i (digits (drop i s)) j × (v ≡ value (digits (drop i s))))
 Judged s i least most (Refused n j) = n ≡ 10 → (j ≡ i) × NumberOut s i least most
 
-pub number-judged : (s : List ℕ) (i least most : ℕ) → Judged s i least most (number_at s i least most)
+pub number_judged : (s : List ℕ) (i least most : ℕ) → Judged s i least most (number_at s i least most)
 unfolding number_at number_of Judged NumberOut
-number-judged s i least most = go (digits (drop i s)) refl
+number_judged s i least most = go (digits (drop i s)) refl
   where
     go : (ds : List ℕ) → digits (drop i s) ≡ ds → Judged s i least most (number_of ds i least most)
     go [] e = λ q. absurd (omega (arith, q))
     go (d ∷ ds) e =
-        if-known (Judged s i least most) (eqb d 48 && ltb 0 (length ds)) _ _ (λ _ q. absurd (omega (arith, q)))
-        (λ t. if-known (Judged s i least most) (leb least (value (d ∷ ds)) && leb (value (d ∷ ds)) most) _ _
-        (λ _. rw e (numeral-of s i d ds e t, (digits-stand s (d ∷ ds) i e, refl)))
-        (λ o _. (refl, rw e (numeral-of s i d ds e t, out_of (value (d ∷ ds)) least most o))))
+        if_known (Judged s i least most) (eqb d 48 && ltb 0 (length ds)) _ _ (λ _ q. absurd (omega (arith, q)))
+        (λ t. if_known (Judged s i least most) (leb least (value (d ∷ ds)) && leb (value (d ∷ ds)) most) _ _
+        (λ _. rw e (numeral_of_lem s i d ds e t, (digits_stand s (d ∷ ds) i e, refl)))
+        (λ o _. (refl, rw e (numeral_of_lem s i d ds e t, out_of (value (d ∷ ds)) least most o))))
 
 -- ---- Lists of numbers
 
@@ -86,45 +86,45 @@ ListJudged s ascending most least before j (At i n) =
     × (Numeral d × (Numerals ds × (Span s j (d ++ spaced ds) i × (n ≡ before + suc (length ds)))))
 ListJudged s ascending most least before j (Refused n i) =
     n ≡ 10 → (ns : List (List ℕ))
-    × (Numerals ns × (Span s j (trailed ns) i × NumberOut s i (leastBehind ascending least ns) most))
+    × (Numerals ns × (Span s j (trailed ns) i × NumberOut s i (least_behind ascending least ns) most))
 
 -- Behind a number and a space.
-list-more : (s : List ℕ) (ascending : Bool) (most least before : ℕ) (j e : ℕ) (d : List ℕ) (r : Read) → Numeral d
+list_more : (s : List ℕ) (ascending : Bool) (most least before : ℕ) (j e : ℕ) (d : List ℕ) (r : Read) → Numeral d
     → Span s j (d ++ 32 ∷ []) e
     → ListJudged s ascending most (cond ascending (value d + 1) 0) (before + 1) e r
     → ListJudged s ascending most least before j r
-unfolding ListJudged Numerals spaced trailed leastBehind
-list-more s ascending most least before j e d (At i n) m q (f, fs, (a, (b, (p, c)))) =
-    (d, f ∷ fs, (m, ((a, b), (rw (append_assoc d (32 ∷ []) (f ++ spaced fs)) at (span-append q p), omega arith))))
-list-more s ascending most least before j e d (Refused n i) m q g = λ h. let w = g h in (
+unfolding ListJudged Numerals spaced trailed least_behind
+list_more s ascending most least before j e d (At i n) m q (f, fs, (a, (b, (p, c)))) =
+    (d, f ∷ fs, (m, ((a, b), (rw (append_assoc d (32 ∷ []) (f ++ spaced fs)) at (span_append q p), omega arith))))
+list_more s ascending most least before j e d (Refused n i) m q g = λ h. let w = g h in (
   d ∷ w.0,
   (
     (m, w.1.0),
-    (rw (append_assoc d (32 ∷ []) (trailed w.0)) at (span-append q w.1.1.0), w.1.1.1),
+    (rw (append_assoc d (32 ∷ []) (trailed w.0)) at (span_append q w.1.1.0), w.1.1.1),
   ),
 )
 
-pub numbers-judged : (left : ℕ) (s : List ℕ) (ascending : Bool) (most least : ℕ) (ns : List ℕ) (j : ℕ)
-    → ListJudged s ascending most least (length ns) j (numbersAt left s ascending most least ns j).read
-unfolding numbersAt afterNumber ListJudged Numerals spaced trailed leastBehind Judged
-numbers-judged zero s ascending most least ns j = λ q. absurd (omega (arith, q))
-numbers-judged (suc left) s ascending most least ns j =
-    go (number_at s j least most) (number-judged s j least most)
-    (λ (x : ℕ) (l : List ℕ) (e : ℕ). numbers-judged left s ascending most x l e)
+pub numbers_judged : (left : ℕ) (s : List ℕ) (ascending : Bool) (most least : ℕ) (ns : List ℕ) (j : ℕ)
+    → ListJudged s ascending most least (length ns) j (numbers_at left s ascending most least ns j).read
+unfolding numbers_at after_number ListJudged Numerals spaced trailed least_behind Judged
+numbers_judged zero s ascending most least ns j = λ q. absurd (omega (arith, q))
+numbers_judged (suc left) s ascending most least ns j =
+    go (number_at s j least most) (number_judged s j least most)
+    (λ (x : ℕ) (l : List ℕ) (e : ℕ). numbers_judged left s ascending most x l e)
   where
     go : (r : Read) → Judged s j least most r
         → ((x : ℕ) (l : List ℕ) (e : ℕ)
-        → ListJudged s ascending most x (length l) e (numbersAt left s ascending most x l e).read)
+        → ListJudged s ascending most x (length l) e (numbers_at left s ascending most x l e).read)
         → ListJudged s ascending most least (length ns) j
-        (afterNumber s ascending (numbersAt left s ascending most) ns r).read
-    go (Refused n i) q further = λ h. let w = q h in ([], (tt, (rw w.0 (span-nil s j), rw w.0 w.1)))
+        (after_number s ascending (numbers_at left s ascending most) ns r).read
+    go (Refused n i) q further = λ h. let w = q h in ([], (tt, (rw w.0 (span_nil s j), rw w.0 w.1)))
     go (At e v) (m, (p, w)) further =
-        if-known (λ (x : ListRead). ListJudged s ascending most least (length ns) j x.read) (eqb (byte_at s e) 32) _ _
+        if_known (λ (x : ListRead). ListJudged s ascending most least (length ns) j x.read) (eqb (byte_at s e) 32) _ _
         (λ t. let more = further (cond ascending (v + 1) 0) (ns ++ v ∷ []) (e + 1) in
         let count : length (ns ++ v ∷ []) ≡ length ns + 1 = length-append ns (v ∷ []) in
-        list-more s ascending most least (length ns) j (e + 1) (digits (drop j s))
-        (numbersAt left s ascending most (cond ascending (v + 1) 0) (ns ++ v ∷ []) (e + 1)).read m
-        (span-append p (span-byte s e 32 (eqb-true (byte_at s e) 32 t)))
+        list_more s ascending most least (length ns) j (e + 1) (digits (drop j s))
+        (numbers_at left s ascending most (cond ascending (v + 1) 0) (ns ++ v ∷ []) (e + 1)).read m
+        (span_append p (span_byte s e 32 (eqb-true (byte_at s e) 32 t)))
         (rw (← w, ← count) more))
         (λ _. (digits (drop j s), [], (m, (tt, (rw (append-nil (digits (drop j s))) p, refl)))))
 
@@ -140,20 +140,20 @@ abbrev pub WrongLength : (List (List ℕ) → List ℕ) → List ℕ → ℕ →
 WrongLength text s j fewest fullest i =
     (ns : List (List ℕ)) × (Numerals ns × (Span s j (text ns) i × ((byte_at s i ≡ 41) × Miscounted ns fewest fullest)))
 
-close-ten : (text : List (List ℕ) → List ℕ) (Out : ℕ → Type 0) (s : List ℕ) (j fewest fullest i : ℕ) (r : Read)
+close_ten : (text : List (List ℕ) → List ℕ) (Out : ℕ → Type 0) (s : List ℕ) (j fewest fullest i : ℕ) (r : Read)
     → InnerJudged text Out s j r
-    → thenClose s fewest fullest r ≡ Refused 10 i → Out i ⊎ WrongLength text s j fewest fullest i
-unfolding InnerJudged thenClose
-close-ten text Out s j fewest fullest i (At k n) (ns, (a, (p, c))) q =
-    if-known Goal (eqb (byte_at s k) 41) _ _
-    (λ t. if-known Goal (leb fewest n && leb n fullest) _ _ (λ _ e. absurd (not_at _ _ _ _ e))
+    → then_close s fewest fullest r ≡ Refused 10 i → Out i ⊎ WrongLength text s j fewest fullest i
+unfolding InnerJudged then_close
+close_ten text Out s j fewest fullest i (At k n) (ns, (a, (p, c))) q =
+    if_known Goal (eqb (byte_at s k) 41) _ _
+    (λ t. if_known Goal (leb fewest n && leb n fullest) _ _ (λ _ e. absurd (not_at _ _ _ _ e))
     (λ o e. let z : k ≡ i = cc in
     inr (ns, (a, (rw z at p, (rw z at (eqb-true (byte_at s k) 41 t), rw c at (out_of n fewest fullest o)))))))
-    (λ _ e. absurd (not-ten k i e)) q
+    (λ _ e. absurd (not_ten k i e)) q
   where
     Goal : Read → Type 0
     Goal x = x ≡ Refused 10 i → Out i ⊎ WrongLength text s j fewest fullest i
-close-ten text Out s j fewest fullest i (Refused n k) f q =
+close_ten text Out s j fewest fullest i (Refused n k) f q =
     let z : n ≡ 10 = cc in
     let w : k ≡ i = cc in
     inl (rw w at (f z))
@@ -161,21 +161,21 @@ close-ten text Out s j fewest fullest i (Refused n k) f q =
 -- A number out of its limits in a list.
 abbrev pub ListOut : List ℕ → Bool → ℕ → ℕ → ℕ → Type 0
 ListOut s ascending most j i =
-    (ns : List (List ℕ)) × (Numerals ns × (Span s j (trailed ns) i × NumberOut s i (leastBehind ascending 0 ns) most))
+    (ns : List (List ℕ)) × (Numerals ns × (Span s j (trailed ns) i × NumberOut s i (least_behind ascending 0 ns) most))
 
-inner-judged : (s : List ℕ) (ascending : Bool) (most j : ℕ) (r : Read) → ListJudged s ascending most 0 0 j r
+inner_judged : (s : List ℕ) (ascending : Bool) (most j : ℕ) (r : Read) → ListJudged s ascending most 0 0 j r
     → InnerJudged between (ListOut s ascending most j) s j r
 unfolding ListJudged InnerJudged Numerals between
-inner-judged s ascending most j (At i n) (d, ds, (m, (a, (p, c)))) = (d ∷ ds, ((m, a), (p, omega arith)))
-inner-judged s ascending most j (Refused n i) f = f
+inner_judged s ascending most j (At i n) (d, ds, (m, (a, (p, c)))) = (d ∷ ds, ((m, a), (p, omega arith)))
+inner_judged s ascending most j (Refused n i) f = f
 
-pub list-judged : (s : List ℕ) (ascending : Bool) (most j v : ℕ)
-    → InnerJudged between (ListOut s ascending most j) s j (thenList s ascending most (At j v)).read
-unfolding InnerJudged thenList Numerals between
-list-judged s ascending most j v =
-    if-test (λ (x : ListRead). InnerJudged between (ListOut s ascending most j) s j x.read) (eqb (byte_at s j) 41) _ _
-    ([], (tt, (span-nil s j, refl)))
-    (inner-judged s ascending most j _ (numbers-judged (length s + 1) s ascending most 0 [] j))
+pub list_judged : (s : List ℕ) (ascending : Bool) (most j v : ℕ)
+    → InnerJudged between (ListOut s ascending most j) s j (then_list s ascending most (At j v)).read
+unfolding InnerJudged then_list Numerals between
+list_judged s ascending most j v =
+    if_test (λ (x : ListRead). InnerJudged between (ListOut s ascending most j) s j x.read) (eqb (byte_at s j) 41) _ _
+    ([], (tt, (span_nil s j, refl)))
+    (inner_judged s ascending most j _ (numbers_judged (length s + 1) s ascending most 0 [] j))
 
 abbrev SpacedOut : List ℕ → ℕ → ℕ → ℕ → Type 0
 SpacedOut s most j i = (ns : List (List ℕ)) × (Numerals ns × (Span s j (spaced ns ++ 32 ∷ []) i × NumberOut s i 0 most))
@@ -186,60 +186,60 @@ unfolding trailed spaced
 spaced-trailed [] = refl
 spaced-trailed (d ∷ ds) = rw (append_assoc d (spaced ds) (32 ∷ []), ← spaced-trailed ds)
 
-pub least_zero : (ns : List (List ℕ)) → leastBehind false 0 ns ≡ 0
-unfolding leastBehind
+pub least_zero : (ns : List (List ℕ)) → least_behind false 0 ns ≡ 0
+unfolding least_behind
 least_zero [] = refl
 least_zero (d ∷ ds) = least_zero ds
 
-spaced-inner : (s : List ℕ) (most j : ℕ) (r : Read) → byte_at s j ≡ 32 → ListJudged s false most 0 0 (j + 1) r
+spaced_inner : (s : List ℕ) (most j : ℕ) (r : Read) → byte_at s j ≡ 32 → ListJudged s false most 0 0 (j + 1) r
     → InnerJudged spaced (SpacedOut s most j) s j r
 unfolding ListJudged InnerJudged Numerals spaced
-spaced-inner s most j (At i n) e (d, ds, (m, (a, (p, c)))) =
-    (d ∷ ds, ((m, a), (span-append (span-byte s j 32 e) p, omega arith)))
-spaced-inner s most j (Refused n i) e f = λ h. let w = f h in (
+spaced_inner s most j (At i n) e (d, ds, (m, (a, (p, c)))) =
+    (d ∷ ds, ((m, a), (span_append (span_byte s j 32 e) p, omega arith)))
+spaced_inner s most j (Refused n i) e f = λ h. let w = f h in (
   w.0,
   (
     w.1.0,
     (
-      rw (spaced-trailed w.0) at (span-append (span-byte s j 32 e) w.1.1.0),
+      rw (spaced-trailed w.0) at (span_append (span_byte s j 32 e) w.1.1.0),
       rw
           (least_zero w.0) at w.1.1.1,
     ),
   ),
 )
 
-spaced-judged : (s : List ℕ) (most j v : ℕ)
-    → InnerJudged spaced (SpacedOut s most j) s j (thenSpacedList s most (At j v)).read
-unfolding InnerJudged thenSpacedList Numerals spaced
-spaced-judged s most j v =
-    if-known (λ (x : ListRead). InnerJudged spaced (SpacedOut s most j) s j x.read) (eqb (byte_at s j) 32) _ _
-    (λ t. spaced-inner s most j _ (eqb-true (byte_at s j) 32 t)
-    (numbers-judged (length s + 1) s false most 0 [] (j + 1)))
-    (λ _. ([], (tt, (span-nil s j, refl))))
+spaced_judged : (s : List ℕ) (most j v : ℕ)
+    → InnerJudged spaced (SpacedOut s most j) s j (then_spaced_list s most (At j v)).read
+unfolding InnerJudged then_spaced_list Numerals spaced
+spaced_judged s most j v =
+    if_known (λ (x : ListRead). InnerJudged spaced (SpacedOut s most j) s j x.read) (eqb (byte_at s j) 32) _ _
+    (λ t. spaced_inner s most j _ (eqb-true (byte_at s j) 32 t)
+    (numbers_judged (length s + 1) s false most 0 [] (j + 1)))
+    (λ _. ([], (tt, (span_nil s j, refl))))
 
 -- ---- Pieces
 
-byte-not-ten : (s : List ℕ) (b k v i : ℕ) → thenByte s b (At k v) ≡ Refused 10 i → ⊥
-unfolding thenByte
-byte-not-ten s b k v i q =
-    if-test (λ (r : Read). r ≡ Refused 10 i → ⊥) (eqb (byte_at s k) b) _ _ (λ e. not_at _ _ _ _ e) (λ e. not-ten k i e) q
+byte_not_ten : (s : List ℕ) (b k v i : ℕ) → then_byte s b (At k v) ≡ Refused 10 i → ⊥
+unfolding then_byte
+byte_not_ten s b k v i q =
+    if_test (λ (r : Read). r ≡ Refused 10 i → ⊥) (eqb (byte_at s k) b) _ _ (λ e. not_at _ _ _ _ e) (λ e. not_ten k i e) q
 
-pub piece-ten : (s : List ℕ) (p : Piece) (j v i : ℕ) → readPiece s p (At j v) ≡ Refused 10 i → TenIn p s j i
-unfolding readPiece TenIn thenNumber thenByte Judged
-piece-ten s (aByte b) j v i q = byte-not-ten s b j v i q
-piece-ten s (a_number least most b) j v i q = go (number_at s j least most) (number-judged s j least most) q
+pub piece_ten : (s : List ℕ) (p : Piece) (j v i : ℕ) → read_piece s p (At j v) ≡ Refused 10 i → TenIn p s j i
+unfolding read_piece TenIn then_number then_byte Judged
+piece_ten s (aByte b) j v i q = byte_not_ten s b j v i q
+piece_ten s (a_number least most b) j v i q = go (number_at s j least most) (number_judged s j least most) q
   where
-    go : (r : Read) → Judged s j least most r → thenByte s b r ≡ Refused 10 i → (i ≡ j) × NumberOut s i least most
-    go (At k w) g e = absurd (byte-not-ten s b k w i e)
+    go : (r : Read) → Judged s j least most r → then_byte s b r ≡ Refused 10 i → (i ≡ j) × NumberOut s i least most
+    go (At k w) g e = absurd (byte_not_ten s b k w i e)
     go (Refused n k) g e =
         let z : n ≡ 10 = cc in
         let w : k ≡ i = cc in
         let h = g z in
         let y : i ≡ j = sym w ∙ h.0 in
         (y, rw y h.1)
-piece-ten s (list ascending most fewest fullest) j v i q =
-    close-ten between (ListOut s ascending most j) s j fewest fullest i (thenList s ascending most (At j v)).read
-    (list-judged s ascending most j v) q
-piece-ten s (spacedList most fewest fullest) j v i q =
-    close-ten spaced (SpacedOut s most j) s j fewest fullest i (thenSpacedList s most (At j v)).read
-    (spaced-judged s most j v) q
+piece_ten s (list ascending most fewest fullest) j v i q =
+    close_ten between (ListOut s ascending most j) s j fewest fullest i (then_list s ascending most (At j v)).read
+    (list_judged s ascending most j v) q
+piece_ten s (spaced_list most fewest fullest) j v i q =
+    close_ten spaced (SpacedOut s most j) s j fewest fullest i (then_spaced_list s most (At j v)).read
+    (spaced_judged s most j v) q

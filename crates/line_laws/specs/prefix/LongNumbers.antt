@@ -5,18 +5,18 @@ use Rattle.std.proofs.Common.{mul_assoc, mul_comm, mul-le-mul_right, arith, lt-l
 use Rattle.std.proofs.lemmas.Bool.{lt-leb, eqb-false}
 use Rattle.rules.specs.Text.{byte_at}
 use Rattle.line_pieces.specs.declared.Read.TheVariants.{At, Refused}
-use Rattle.codec.specs.Decimal.{isDigit, digits, valueFrom, value}
+use Rattle.codec.specs.Decimal.{is_digit, digits, value_from, value}
 use Rattle.line_pieces.specs.Number.{number_of, number_at}
-use Rattle.line_pieces.specs.NumberLaws.{digit-bounds, digits-end, digits-first, valueFrom-grows}
+use Rattle.line_pieces.specs.NumberLaws.{digit_bounds, digits-end, digits-first, value_from_grows}
 
 -- A number within any limit has at most so many digits: a count of 32 bits has ten.
-abbrev pub mostDigits : ℕ
-mostDigits = 10
+abbrev pub most_digits : ℕ
+most_digits = 10
 
 -- With n digits more a number is ten times larger for each.
-digits_more : (n v : ℕ) (ds : List ℕ) → n ≤ length ds → v * 10 ^ n ≤ valueFrom v ds
-unfolding valueFrom
-digits_more zero v ds l = rw (pow-zero 10) (omega (arith, valueFrom-grows v ds))
+digits_more : (n v : ℕ) (ds : List ℕ) → n ≤ length ds → v * 10 ^ n ≤ value_from v ds
+unfolding value_from
+digits_more zero v ds l = rw (pow-zero 10) (omega (arith, value_from_grows v ds))
 digits_more (suc n) v [] l = absurd (omega arith)
 digits_more (suc n) v (d ∷ ds) l =
     let next = digits_more n (10 * v + (d - 48)) ds (omega arith) in
@@ -25,19 +25,19 @@ digits_more (suc n) v (d ∷ ds) l =
     omega (arith, next, more, same)
 
 -- A number of n + 1 digits or more, without a leading 0, is 10 ^ n at least.
-digits-large : (n v : ℕ) (ds : List ℕ) → 1 ≤ v → n ≤ length ds → 10 ^ n ≤ valueFrom v ds
-digits-large n v ds h l =
+digits_large : (n v : ℕ) (ds : List ℕ) → 1 ≤ v → n ≤ length ds → 10 ^ n ≤ value_from v ds
+digits_large n v ds h l =
     let once : 1 * 10 ^ n ≤ v * 10 ^ n = mul-le-mul_right (10 ^ n) h in omega (arith, once, digits_more n v ds l)
 
 -- A limit that every number of more digits is above.
 abbrev pub Short : ℕ → Type 0
-Short most = most < 10 ^ mostDigits
+Short most = most < 10 ^ most_digits
 
 -- More digits are turned back at their first, or at the second behind a needless 0.
-long-number : (d : ℕ) (ds : List ℕ) (i least most : ℕ) → 48 ≤ d → mostDigits ≤ length ds → Short most
+long_number : (d : ℕ) (ds : List ℕ) (i least most : ℕ) → 48 ≤ d → most_digits ≤ length ds → Short most
     → number_of (d ∷ ds) i least most ≡ cond (eqb d 48) (Refused 1 (i + 1)) (Refused 10 i)
-unfolding number_of valueFrom
-long-number d ds i least most h l m = go (eqb d 48) refl
+unfolding number_of value_from
+long_number d ds i least most h l m = go (eqb d 48) refl
   where
     more : ltb 0 (length ds) ≡ true
     more = lt-ltb 0 (length ds) (omega arith)
@@ -49,7 +49,7 @@ long-number d ds i least most h l m = go (eqb d 48) refl
         ≡ cond t (Refused 1 (i + 1)) (Refused 10 i)
     go true e = rw (e, more)
     go false e =
-        let big = digits-large mostDigits (10 * 0 + (d - 48)) ds (omega (arith, eqb-false d 48 e)) l in
+        let big = digits_large most_digits (10 * 0 + (d - 48)) ds (omega (arith, eqb-false d 48 e)) l in
         let high : leb (value (d ∷ ds)) most ≡ false = lt-leb (value (d ∷ ds)) most (omega (arith, big)) in
         rw (e, high) (last (leb least (value (d ∷ ds))))
       where
@@ -58,21 +58,21 @@ long-number d ds i least most h l m = go (eqb d 48) refl
         last false = refl
 
 -- The same of the digits at a place.
-pub long-at : (l : List ℕ) (i least most : ℕ) → Short most → mostDigits < length (digits (drop i l))
+pub long_at : (l : List ℕ) (i least most : ℕ) → Short most → most_digits < length (digits (drop i l))
     → number_at l i least most ≡ cond (eqb (byte_at l i) 48) (Refused 1 (i + 1)) (Refused 10 i)
 unfolding number_at
-long-at l i least most m h = go (digits (drop i l)) refl h
+long_at l i least most m h = go (digits (drop i l)) refl h
   where
-    go : (ds : List ℕ) → digits (drop i l) ≡ ds → mostDigits < length ds
+    go : (ds : List ℕ) → digits (drop i l) ≡ ds → most_digits < length ds
         → number_of ds i least most ≡ cond (eqb (byte_at l i) 48) (Refused 1 (i + 1)) (Refused 10 i)
     go [] e k = absurd (omega arith)
     go (d ∷ ds) e k =
         let first = digits-first l i d ds e in
-        rw (← first) (long-number d ds i least most (digit d ds e) (omega arith) m)
+        rw (← first) (long_number d ds i least most (digit d ds e) (omega arith) m)
       where
         digit : (x : ℕ) (xs : List ℕ) → digits (drop i l) ≡ x ∷ xs → 48 ≤ x
-        digit x xs q = pick (isDigit (byte_at l i)) refl
+        digit x xs q = pick (is_digit (byte_at l i)) refl
           where
-            pick : (t : Bool) → isDigit (byte_at l i) ≡ t → 48 ≤ x
-            pick true y = let b = digit-bounds (byte_at l i) y in omega (arith, b.0, digits-first l i x xs q)
+            pick : (t : Bool) → is_digit (byte_at l i) ≡ t → 48 ≤ x
+            pick true y = let b = digit_bounds (byte_at l i) y in omega (arith, b.0, digits-first l i x xs q)
             pick false y = let w : ◌≡◌ {A = ℕ} 0 1 = cc (digits-end l i y) in absurd (omega arith)

@@ -3,17 +3,17 @@ use Rattle.std.specs.Prelude.{ℕ, zero, suc, ◌+◌, ◌≤◌, ◌≡◌, ref
 use Rattle.std.proofs.Common.{sym, ◌∙◌, append_assoc, append-nil, length-append, eqb-true, leb-true}
 use Rattle.clocks.specs.stored.BoundedLaws.{and-true}
 use Rattle.rules.specs.Text.{byte_at}
-use Rattle.rules.specs.reading.WordLaws.{span-nil, span-byte, span-append}
+use Rattle.rules.specs.reading.WordLaws.{span_nil, span_byte, span_append}
 use Rattle.line_pieces.specs.declared.Read.{Read}
 use Rattle.line_pieces.specs.declared.Read.TheVariants.{At, Refused}
 use Rattle.codec.specs.Decimal.{digits, value}
 use Rattle.line_pieces.specs.Number.{number_at}
 use Rattle.line_pieces.specs.NumberLaws.{number-after}
-use Rattle.line_pieces.specs.NumberList.{ListRead, afterNumber, numbersAt, thenList, thenSpacedList, thenClose}
+use Rattle.line_pieces.specs.NumberList.{ListRead, after_number, numbers_at, then_list, then_spaced_list, then_close}
 use Rattle.line_laws.specs.Grammar.{Numeral, Numerals, spaced, between}
 use Rattle.line_laws.specs.LineSays.{InLimits}
-use Rattle.line_laws.specs.pieces.NumberTextRead.{if-known}
-use Rattle.line_laws.specs.faults.TenIsFault.{not_at, Judged, number-judged}
+use Rattle.line_laws.specs.pieces.NumberTextRead.{if_known}
+use Rattle.line_laws.specs.faults.TenIsFault.{not_at, Judged, number_judged}
 use Rattle.rules.specs.Fault.{Span}
 
 -- ---- Numbers from a place on
@@ -38,40 +38,40 @@ said_more s ascending most least before j e d ns (At i n) m q low high (f, fs, (
   (
     (m, a),
     (
-      rw (append_assoc d (32 ∷ []) (f ++ spaced fs)) at (span-append q p),
+      rw (append_assoc d (32 ∷ []) (f ++ spaced fs)) at (span_append q p),
       (v ∙ append_assoc before (value d ∷ []) (map value (f ∷ fs)), (c, (low, (high, l)))),
     ),
   ),
 )
 said_more s ascending most least before j e d ns (Refused n i) m q low high x = tt
 
-numbers-said : (left : ℕ) (s : List ℕ) (ascending : Bool) (most least : ℕ) (before : List ℕ) (j : ℕ)
-    → Said s ascending most least before j (numbersAt left s ascending most least before j).numbers
-    (numbersAt left s ascending most least before j).read
-unfolding numbersAt afterNumber Said Numerals spaced InLimits Judged
-numbers-said zero s ascending most least before j = tt
-numbers-said (suc left) s ascending most least before j =
-    go (number_at s j least most) refl (number-judged s j least most)
-    (λ (x : ℕ) (l : List ℕ) (e : ℕ). numbers-said left s ascending most x l e)
+numbers_said : (left : ℕ) (s : List ℕ) (ascending : Bool) (most least : ℕ) (before : List ℕ) (j : ℕ)
+    → Said s ascending most least before j (numbers_at left s ascending most least before j).numbers
+    (numbers_at left s ascending most least before j).read
+unfolding numbers_at after_number Said Numerals spaced InLimits Judged
+numbers_said zero s ascending most least before j = tt
+numbers_said (suc left) s ascending most least before j =
+    go (number_at s j least most) refl (number_judged s j least most)
+    (λ (x : ℕ) (l : List ℕ) (e : ℕ). numbers_said left s ascending most x l e)
   where
     go : (r : Read) → number_at s j least most ≡ r → Judged s j least most r
         → ((x : ℕ) (l : List ℕ) (e : ℕ)
-        → Said s ascending most x l e (numbersAt left s ascending most x l e).numbers
-        (numbersAt left s ascending most x l e).read)
+        → Said s ascending most x l e (numbers_at left s ascending most x l e).numbers
+        (numbers_at left s ascending most x l e).read)
         → Said s ascending most least before j
-        (afterNumber s ascending (numbersAt left s ascending most) before r).numbers
-        (afterNumber s ascending (numbersAt left s ascending most) before r).read
+        (after_number s ascending (numbers_at left s ascending most) before r).numbers
+        (after_number s ascending (numbers_at left s ascending most) before r).read
     go (Refused n i) q g further = tt
     go (At e v) q (m, (p, w)) further =
         let a = number-after s j least most e v q in
         let low : least ≤ value (digits (drop j s)) = rw w at a.low in
         let high : value (digits (drop j s)) ≤ most = rw w at a.high in
-        if-known (λ (x : ListRead). Said s ascending most least before j x.numbers x.read) (eqb (byte_at s e) 32) _
+        if_known (λ (x : ListRead). Said s ascending most least before j x.numbers x.read) (eqb (byte_at s e) 32) _
         _
-        (λ t. let x = numbersAt left s ascending most (cond ascending (v + 1) 0) (before ++ v ∷ []) (e + 1) in
+        (λ t. let x = numbers_at left s ascending most (cond ascending (v + 1) 0) (before ++ v ∷ []) (e + 1) in
         let more = further (cond ascending (v + 1) 0) (before ++ v ∷ []) (e + 1) in
         said_more s ascending most least before j (e + 1) (digits (drop j s)) x.numbers x.read m
-        (span-append p (span-byte s e 32 (eqb-true (byte_at s e) 32 t))) low high (rw (← w) more))
+        (span_append p (span_byte s e 32 (eqb-true (byte_at s e) 32 t))) low high (rw (← w) more))
         (λ _. (
           digits (drop j s),
           [],
@@ -89,10 +89,10 @@ numbers-said (suc left) s ascending most least before j =
 -- A list that was read: its numbers stand there, with `text` between and around them, and are within the limits.
 pub record ListSaid (text : List (List ℕ) → List ℕ) (s : List ℕ) (ascending : Bool) (most j : ℕ) (ns : List ℕ)
     (i n : ℕ) : Type 0 where
-  pub list-digits : List (List ℕ)
-  pub numerals : Numerals list-digits
-  pub stands : Span s j (text list-digits) i
-  pub values : map value list-digits ≡ ns
+  pub list_digits : List (List ℕ)
+  pub numerals : Numerals list_digits
+  pub stands : Span s j (text list_digits) i
+  pub values : map value list_digits ≡ ns
   pub many : length ns ≡ n
   pub limits : InLimits ascending 0 most ns
 
@@ -102,28 +102,28 @@ Behind text s ascending most r l =
     (i n : ℕ) → l.read ≡ At i n
     → (j : ℕ) × (v : ℕ) × ((r ≡ At j v) × ListSaid text s ascending most j l.numbers i n)
 
-said-between : (s : List ℕ) (ascending : Bool) (most j i n : ℕ) (ns : List ℕ) (r : Read) → r ≡ At i n
+said_between : (s : List ℕ) (ascending : Bool) (most j i n : ℕ) (ns : List ℕ) (r : Read) → r ≡ At i n
     → Said s ascending most 0 [] j ns r
     → ListSaid between s ascending most j ns i n
 unfolding Said between
-said-between s ascending most j i n ns (Refused m k) e x = absurd (not_at i n m k (sym e))
-said-between s ascending most j i n ns (At k m) e (d, ds, (a, (p, (v, (c, l))))) =
+said_between s ascending most j i n ns (Refused m k) e x = absurd (not_at i n m k (sym e))
+said_between s ascending most j i n ns (At k m) e (d, ds, (a, (p, (v, (c, l))))) =
     let y : k ≡ i = cc in
     let z : m ≡ n = cc in
-    record { list-digits = d ∷ ds; numerals = a; stands = rw y at p; values = sym v; many = sym c ∙ z; limits = rw v l }
+    record { list_digits = d ∷ ds; numerals = a; stands = rw y at p; values = sym v; many = sym c ∙ z; limits = rw v l }
 
-said-spaced : (s : List ℕ) (most j i n : ℕ) (ns : List ℕ) (r : Read) → byte_at s j ≡ 32 → r ≡ At i n
+said_spaced : (s : List ℕ) (most j i n : ℕ) (ns : List ℕ) (r : Read) → byte_at s j ≡ 32 → r ≡ At i n
     → Said s false most 0 [] (j + 1) ns r
     → ListSaid spaced s false most j ns i n
 unfolding Said spaced
-said-spaced s most j i n ns (Refused m k) b e x = absurd (not_at i n m k (sym e))
-said-spaced s most j i n ns (At k m) b e (d, ds, (a, (p, (v, (c, l))))) =
+said_spaced s most j i n ns (Refused m k) b e x = absurd (not_at i n m k (sym e))
+said_spaced s most j i n ns (At k m) b e (d, ds, (a, (p, (v, (c, l))))) =
     let y : k ≡ i = cc in
     let z : m ≡ n = cc in
     record {
-      list-digits = d ∷ ds;
+      list_digits = d ∷ ds;
       numerals = a;
-      stands = span-append (span-byte s j 32 b) (rw y at p);
+      stands = span_append (span_byte s j 32 b) (rw y at p);
       values = sym v;
       many = sym c ∙ z;
       limits = rw v l;
@@ -137,48 +137,48 @@ unfolding Numerals InLimits
 none_said text s ascending most j i n t e =
     let y : j ≡ i = cc in
     let z : ◌≡◌ {A = ℕ} 0 n = cc in
-    record { list-digits = []; numerals = tt; stands = rw (t, y) (span-nil s i); values = refl; many = z; limits = tt }
+    record { list_digits = []; numerals = tt; stands = rw (t, y) (span_nil s i); values = refl; many = z; limits = tt }
 
-list-said : (s : List ℕ) (ascending : Bool) (most : ℕ) (r : Read)
-    → Behind between s ascending most r (thenList s ascending most r)
-unfolding thenList between
-list-said s ascending most (Refused m k) i n e = absurd (not_at i n m k (sym e))
-list-said s ascending most (At j v) i n e = (
+list_said : (s : List ℕ) (ascending : Bool) (most : ℕ) (r : Read)
+    → Behind between s ascending most r (then_list s ascending most r)
+unfolding then_list between
+list_said s ascending most (Refused m k) i n e = absurd (not_at i n m k (sym e))
+list_said s ascending most (At j v) i n e = (
   j,
   v,
   (
     refl,
-    if-known (λ (l : ListRead). l.read ≡ At i n → ListSaid between s ascending most j l.numbers i n)
+    if_known (λ (l : ListRead). l.read ≡ At i n → ListSaid between s ascending most j l.numbers i n)
         (eqb (byte_at s j) 41) _ _
         (λ _ q. none_said between s ascending most j i n refl q)
-        (λ _ q. said-between s ascending most j i n _ _ q (numbers-said (length s + 1) s ascending most 0 [] j)) e,
+        (λ _ q. said_between s ascending most j i n _ _ q (numbers_said (length s + 1) s ascending most 0 [] j)) e,
   ),
 )
 
-spaced-said : (s : List ℕ) (most : ℕ) (r : Read) → Behind spaced s false most r (thenSpacedList s most r)
-unfolding thenSpacedList spaced
-spaced-said s most (Refused m k) i n e = absurd (not_at i n m k (sym e))
-spaced-said s most (At j v) i n e = (
+spaced_said : (s : List ℕ) (most : ℕ) (r : Read) → Behind spaced s false most r (then_spaced_list s most r)
+unfolding then_spaced_list spaced
+spaced_said s most (Refused m k) i n e = absurd (not_at i n m k (sym e))
+spaced_said s most (At j v) i n e = (
   j,
   v,
   (
     refl,
-    if-known (λ (l : ListRead). l.read ≡ At i n → ListSaid spaced s false most j l.numbers i n)
+    if_known (λ (l : ListRead). l.read ≡ At i n → ListSaid spaced s false most j l.numbers i n)
         (eqb (byte_at s j) 32) _ _
-        (λ b q. said-spaced s most j i n _ _ (eqb-true (byte_at s j) 32 b) q
-        (numbers-said (length s + 1) s false most 0 [] (j + 1)))
+        (λ b q. said_spaced s most j i n _ _ (eqb-true (byte_at s j) 32 b) q
+        (numbers_said (length s + 1) s false most 0 [] (j + 1)))
         (λ _ q. none_said spaced s false most j i n refl q) e,
   ),
 )
 
 -- The closing bracket of a list that was read.
-close-said : (s : List ℕ) (fewest fullest : ℕ) (r : Read) (e n : ℕ) → thenClose s fewest fullest r ≡ At e n
+close_said : (s : List ℕ) (fewest fullest : ℕ) (r : Read) (e n : ℕ) → then_close s fewest fullest r ≡ At e n
     → (i : ℕ) × ((r ≡ At i n) × (Span s i (41 ∷ []) e × ((fewest ≤ n) × (n ≤ fullest))))
-unfolding thenClose
-close-said s fewest fullest (Refused m k) e n h = absurd (not_at e n m k (sym h))
-close-said s fewest fullest (At k m) e n h =
-    if-known Goal (eqb (byte_at s k) 41) _ (Refused 1 k)
-    (λ t. if-known Goal (leb fewest m && leb m fullest) (At (k + 1) m) (Refused 10 k)
+unfolding then_close
+close_said s fewest fullest (Refused m k) e n h = absurd (not_at e n m k (sym h))
+close_said s fewest fullest (At k m) e n h =
+    if_known Goal (eqb (byte_at s k) 41) _ (Refused 1 k)
+    (λ t. if_known Goal (leb fewest m && leb m fullest) (At (k + 1) m) (Refused 10 k)
     (λ u f. let z : k + 1 ≡ e = cc in
     let w : m ≡ n = cc in
     let b = and-true (leb fewest m) (leb m fullest) u in (
@@ -186,7 +186,7 @@ close-said s fewest fullest (At k m) e n h =
       (
         rw w,
         (
-          rw z at (span-byte s k 41 (eqb-true (byte_at s k) 41 t)),
+          rw z at (span_byte s k 41 (eqb-true (byte_at s k) 41 t)),
           (rw w at (leb-true fewest m b.0), rw w at (leb-true m fullest b.1)),
         ),
       ),
@@ -208,22 +208,22 @@ pub record ListClosed (text : List (List ℕ) → List ℕ) (s : List ℕ) (asce
 
 -- What follows from that, with the reading before the list.
 module _ {G : Type 0} where
-  pub list-closed : (s : List ℕ) (ascending : Bool) (most fewest fullest : ℕ) (r : Read) (e n : ℕ)
-      → thenClose s fewest fullest (thenList s ascending most r).read ≡ At e n
+  pub list_closed : (s : List ℕ) (ascending : Bool) (most fewest fullest : ℕ) (r : Read) (e n : ℕ)
+      → then_close s fewest fullest (then_list s ascending most r).read ≡ At e n
       → ((j v : ℕ) → r ≡ At j v
-      → ListClosed between s ascending most fewest fullest j (thenList s ascending most r).numbers e n → G) → G
-  list-closed s ascending most fewest fullest r e n h then =
-      let c = close-said s fewest fullest (thenList s ascending most r).read e n h in
-      let l = list-said s ascending most r c.0 n c.1.0 in
+      → ListClosed between s ascending most fewest fullest j (then_list s ascending most r).numbers e n → G) → G
+  list_closed s ascending most fewest fullest r e n h then =
+      let c = close_said s fewest fullest (then_list s ascending most r).read e n h in
+      let l = list_said s ascending most r c.0 n c.1.0 in
       then l.0 l.1 l.2.0
       (record { last = c.0; said = l.2.1; bracket = c.1.1.0; enough = c.1.1.1.0; no_more = c.1.1.1.1 })
 
-  pub spaced-closed : (s : List ℕ) (most fewest fullest : ℕ) (r : Read) (e n : ℕ)
-      → thenClose s fewest fullest (thenSpacedList s most r).read ≡ At e n
+  pub spaced_closed : (s : List ℕ) (most fewest fullest : ℕ) (r : Read) (e n : ℕ)
+      → then_close s fewest fullest (then_spaced_list s most r).read ≡ At e n
       → ((j v : ℕ) → r ≡ At j v
-      → ListClosed spaced s false most fewest fullest j (thenSpacedList s most r).numbers e n → G) → G
-  spaced-closed s most fewest fullest r e n h then =
-      let c = close-said s fewest fullest (thenSpacedList s most r).read e n h in
-      let l = spaced-said s most r c.0 n c.1.0 in
+      → ListClosed spaced s false most fewest fullest j (then_spaced_list s most r).numbers e n → G) → G
+  spaced_closed s most fewest fullest r e n h then =
+      let c = close_said s fewest fullest (then_spaced_list s most r).read e n h in
+      let l = spaced_said s most r c.0 n c.1.0 in
       then l.0 l.1 l.2.0
       (record { last = c.0; said = l.2.1; bracket = c.1.1.0; enough = c.1.1.1.0; no_more = c.1.1.1.1 })

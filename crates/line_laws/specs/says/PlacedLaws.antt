@@ -13,26 +13,26 @@ length-placed (suc n) places values =
     length-set (placed n places values) (places n) (values n) ∙ length-placed n places values
 
 -- At no place: 0.
-pub placed-other : (n : ℕ) (places values : ℕ → ℕ) (p : ℕ) → ((j : ℕ) → j < n → places j ≡ p → ⊥)
+pub placed_other : (n : ℕ) (places values : ℕ → ℕ) (p : ℕ) → ((j : ℕ) → j < n → places j ≡ p → ⊥)
     → at (placed n places values) p ≡ 0
 unfolding placed
-placed-other zero places values p h = zeros 8 p
+placed_other zero places values p h = zeros 8 p
   where
     zeros : (n q : ℕ) → at (replicate n 0) q ≡ 0
     zeros zero q = refl
     zeros (suc n) zero = refl
     zeros (suc n) (suc q) = zeros n q
-placed-other (suc n) places values p h =
+placed_other (suc n) places values p h =
     get_or-set_other (placed n places values) (places n) p (values n) 0 (λ e. h n (omega arith) (sym e))
-    ∙ placed-other n places values p (λ j l. h j (omega arith))
+    ∙ placed_other n places values p (λ j l. h j (omega arith))
 
 -- At its own place, where no two have the same.
-pub placed-own : (n : ℕ) (places values : ℕ → ℕ) (j : ℕ) → j < n → ((i : ℕ) → i < n → places i < 8)
+pub placed_own : (n : ℕ) (places values : ℕ → ℕ) (j : ℕ) → j < n → ((i : ℕ) → i < n → places i < 8)
     → ((i l : ℕ) → i < l → l < n → places i ≡ places l → ⊥) → at (placed n places values) (places j) ≡ values j
 unfolding placed
-placed-own zero places values j h small apart = absurd (omega arith)
-placed-own (suc n) places values j h small apart =
-    go (dec_lt j n) (λ l. placed-own n places values j l (λ i k. small i (omega arith))
+placed_own zero places values j h small apart = absurd (omega arith)
+placed_own (suc n) places values j h small apart =
+    go (dec_lt j n) (λ l. placed_own n places values j l (λ i k. small i (omega arith))
     (λ i m k q. apart i m k (omega arith)))
   where
     go : Dec (j < n) → (j < n → at (placed n places values) (places j) ≡ values j)

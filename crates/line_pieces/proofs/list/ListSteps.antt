@@ -9,44 +9,44 @@ use lib.ListN.{length, length-append, length-set, get_or, set, replicate, get_or
 use lib.Seq.{ext_get_or, get_or-append_seam, get_or-set_same, get_or-set_other}
 use borrow.Author.Tests.{ltb-true, ltb-false, eqb-true, eqb-false, eq-eqb, ne_eqb}
 use Rattle.clocks.specs.Counts.{at, list_of}
-use Rattle.clocks.specs.stored.CountsLaws.{length-listOf, getD-listOf, at-beyond}
+use Rattle.clocks.specs.stored.CountsLaws.{length-list_of, get_d_list_of, at_beyond}
 use Rattle.rules.specs.Text.{byte_at}
 use Rattle.line_pieces.specs.declared.Read.{Read}
 use Rattle.line_pieces.specs.declared.Read.TheVariants.{At, Refused}
 use Rattle.line_pieces.specs.Number.{number_at}
 use Rattle.line_pieces.specs.NumberLaws.{inside, number-after}
-use Rattle.line_pieces.specs.NumberList.{afterNumber, numbersAt, allNumbersAt, eightValues}
-use Rattle.line_pieces.specs.NumberListCode.{numbersRead}
+use Rattle.line_pieces.specs.NumberList.{after_number, numbers_at, all_numbers_at, eight_values}
+use Rattle.line_pieces.specs.NumberListCode.{numbers_read}
 
 -- ---- The numbers kept
 
 -- A number more takes the place behind those that are there; behind the eighth place it is not kept.
-pub eight-more : (ns : List ℕ) (v : ℕ) → eightValues (ns ++ v ∷ []) ≡ set (eightValues ns) (length ns) v
-eight-more ns v =
-    ext_get_or 0 (eightValues (ns ++ v ∷ [])) (set (eightValues ns) (length ns) v)
-    (length-listOf 8 (at (ns ++ v ∷ [])) ∙ sym (length-listOf 8 (at ns))
-    ∙ sym (length-set (eightValues ns) (length ns) v))
-    (λ p h. let q : p < 8 = omega (arith, length-listOf 8 (at (ns ++ v ∷ []))) in
-    getD-listOf 8 (at (ns ++ v ∷ [])) p 0 q ∙ go p q (ltb p (length ns)) (eqb p (length ns)) refl refl)
+pub eight_more : (ns : List ℕ) (v : ℕ) → eight_values (ns ++ v ∷ []) ≡ set (eight_values ns) (length ns) v
+eight_more ns v =
+    ext_get_or 0 (eight_values (ns ++ v ∷ [])) (set (eight_values ns) (length ns) v)
+    (length-list_of 8 (at (ns ++ v ∷ [])) ∙ sym (length-list_of 8 (at ns))
+    ∙ sym (length-set (eight_values ns) (length ns) v))
+    (λ p h. let q : p < 8 = omega (arith, length-list_of 8 (at (ns ++ v ∷ []))) in
+    get_d_list_of 8 (at (ns ++ v ∷ [])) p 0 q ∙ go p q (ltb p (length ns)) (eqb p (length ns)) refl refl)
   where
     go : (p : ℕ) → p < 8 → (a b : Bool) → ltb p (length ns) ≡ a → eqb p (length ns) ≡ b
-        → at (ns ++ v ∷ []) p ≡ get_or (set (eightValues ns) (length ns) v) p 0
+        → at (ns ++ v ∷ []) p ≡ get_or (set (eight_values ns) (length ns) v) p 0
     go p q a true e f =
         let r : p ≡ length ns = eqb-true p (length ns) f in
-        let l : length ns < length (eightValues ns) = omega (arith, length-listOf 8 (at ns)) in
-        rw (r) (get_or-append_seam ns v [] 0 ∙ sym (get_or-set_same (eightValues ns) (length ns) v 0 l))
+        let l : length ns < length (eight_values ns) = omega (arith, length-list_of 8 (at ns)) in
+        rw (r) (get_or-append_seam ns v [] 0 ∙ sym (get_or-set_same (eight_values ns) (length ns) v 0 l))
     go p q true false e f =
         let r : p < length ns = ltb-true p (length ns) e in
         get_or-append ns (v ∷ []) 0 p r
-        ∙ sym (get_or-set_other (eightValues ns) (length ns) p v 0 (eqb-false p (length ns) f)
-        ∙ getD-listOf 8 (at ns) p 0 q)
+        ∙ sym (get_or-set_other (eight_values ns) (length ns) p v 0 (eqb-false p (length ns) f)
+        ∙ get_d_list_of 8 (at ns) p 0 q)
     go p q false false e f =
         let l : length ns ≤ p = ltb-false p (length ns) e in
         let r : length (ns ++ v ∷ []) ≤ p = omega (arith, length-append ns (v ∷ []), eqb-false p (length ns) f) in
-        at-beyond (ns ++ v ∷ []) p r
-        ∙ sym (get_or-set_other (eightValues ns) (length ns) p v 0 (eqb-false p (length ns) f)
-        ∙ getD-listOf 8 (at ns) p 0 q
-        ∙ at-beyond ns p l)
+        at_beyond (ns ++ v ∷ []) p r
+        ∙ sym (get_or-set_other (eight_values ns) (length ns) p v 0 (eqb-false p (length ns) f)
+        ∙ get_d_list_of 8 (at ns) p 0 q
+        ∙ at_beyond ns p l)
 
 -- ---- The loop
 
@@ -54,53 +54,53 @@ eight-more ns v =
 pub record Going (s : List ℕ) (ascending : Bool) (most start : ℕ) (values : List ℕ)
     (count least here : ℕ) : Type 0 where
   pub numbers : List ℕ
-  pub values-are : values ≡ eightValues numbers
-  pub count-is : count ≡ length numbers
+  pub values_are : values ≡ eight_values numbers
+  pub count_is : count ≡ length numbers
   pub few : length numbers ≤ length s
   pub near : length numbers ≤ here
-  pub goes : allNumbersAt s ascending most start
-      ≡ numbersAt (length s + 1 - length numbers) s ascending most least numbers here
+  pub goes : all_numbers_at s ascending most start
+      ≡ numbers_at (length s + 1 - length numbers) s ascending most least numbers here
 
 pub going_start : (s : List ℕ) (ascending : Bool) (most start : ℕ)
     → Going s ascending most start (replicate 8 0) 0 0 start
 unfolding list_of
 going_start s ascending most start = record {
   numbers = [];
-  values-are = refl;
-  count-is = refl;
+  values_are = refl;
+  count_is = refl;
   few = omega arith;
   near = omega arith;
-  goes = ap (λ (n : ℕ). numbersAt n s ascending most 0 [] start) (omega arith);
+  goes = ap (λ (n : ℕ). numbers_at n s ascending most 0 [] start) (omega arith);
 }
 
 module _ {s : List ℕ} {ascending : Bool} {most start : ℕ} {values : List ℕ} {count least here : ℕ}
     (g : Going s ascending most start values count least here) where
   -- One number further.
-  going_step : allNumbersAt s ascending most start
-      ≡ afterNumber s ascending (numbersAt (length s - length g.numbers) s ascending most) g.numbers
+  going_step : all_numbers_at s ascending most start
+      ≡ after_number s ascending (numbers_at (length s - length g.numbers) s ascending most) g.numbers
       (number_at s here least most)
-  unfolding numbersAt
+  unfolding numbers_at
   going_step =
       let e : length s + 1 - length g.numbers ≡ suc (length s - length g.numbers) = omega (arith, g.few) in
       g.goes ∙ rw e
 
-  pub going-refused : (n i : ℕ) → number_at s here least most ≡ Refused n i
-      → numbersRead (allNumbersAt s ascending most start) ≡ record { values = values; read = Refused n i }
-  unfolding numbersRead afterNumber
-  going-refused n i h = rw (going_step, h, g.values-are)
+  pub going_refused : (n i : ℕ) → number_at s here least most ≡ Refused n i
+      → numbers_read (all_numbers_at s ascending most start) ≡ record { values = values; read = Refused n i }
+  unfolding numbers_read after_number
+  going_refused n i h = rw (going_step, h, g.values_are)
 
-  pub going-last : (i v : ℕ) → number_at s here least most ≡ At i v → (byte_at s i ≡ 32 → ⊥)
-      → numbersRead (allNumbersAt s ascending most start) ≡ record {
+  pub going_last : (i v : ℕ) → number_at s here least most ≡ At i v → (byte_at s i ≡ 32 → ⊥)
+      → numbers_read (all_numbers_at s ascending most start) ≡ record {
         values = set values count v;
         read =
             At i (count + 1);
       }
-  unfolding numbersRead afterNumber
-  going-last i v h q = rw (going_step, h, ne_eqb (byte_at s i) 32 q, g.values-are, g.count-is, eight-more)
+  unfolding numbers_read after_number
+  going_last i v h q = rw (going_step, h, ne_eqb (byte_at s i) 32 q, g.values_are, g.count_is, eight_more)
 
   pub going_on : (i v : ℕ) → number_at s here least most ≡ At i v → byte_at s i ≡ 32 → i < length s
       → Going s ascending most start (set values count v) (count + 1) (cond ascending (v + 1) 0) (i + 1)
-  unfolding afterNumber
+  unfolding after_number
   going_on i v h q l =
       let a = number-after s here least most i v h in
       let n = length-append g.numbers (v ∷ []) in
@@ -108,8 +108,8 @@ module _ {s : List ℕ} {ascending : Bool} {most start : ℕ} {values : List ℕ
       omega (arith, n, g.few, g.near) in
       record {
         numbers = g.numbers ++ v ∷ [];
-        values-are = rw (g.values-are, g.count-is) (sym (eight-more g.numbers v));
-        count-is = omega (arith, n, g.count-is);
+        values_are = rw (g.values_are, g.count_is) (sym (eight_more g.numbers v));
+        count_is = omega (arith, n, g.count_is);
         few = omega (arith, n, a.behind, g.near);
         near = omega (arith, n, a.behind, g.near);
         goes = going_step ∙ rw (h, eq-eqb (byte_at s i) 32 q, e);
@@ -117,9 +117,9 @@ module _ {s : List ℕ} {ascending : Bool} {most start : ℕ} {values : List ℕ
 
   -- The same, in the code's own terms: what it read, the numbers then kept, the byte behind, and what the next number
   -- is at least.
-  pub going-again : {r : Read} {i v b next : ℕ} {more : List ℕ} → r ≡ number_at s here least most → r ≡ At i v
+  pub going_again : {r : Read} {i v b next : ℕ} {more : List ℕ} → r ≡ number_at s here least most → r ≡ At i v
       → more ≡ set values count v
       → b ≡ byte_at s i → b ≡ 32 → next ≡ cond ascending (v + 1) 0
       → Going s ascending most start more (count + 1) next (i + 1)
-  going-again {r} {i} {v} {b} {next} {more} e h m c q n =
+  going_again {r} {i} {v} {b} {next} {more} e h m c q n =
       let p : i < length s = inside s i (omega arith) in rw (m, n) (going_on i v (sym e ∙ h) (sym c ∙ q) p)

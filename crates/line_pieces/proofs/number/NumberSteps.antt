@@ -10,10 +10,10 @@ use lib.ListN.{length, drop}
 use borrow.Author.Tests.{ltb-true, ltb-false, leb-true, leb-false, lt-ltb, le-leb, lt-leb}
 use Rattle.rules.specs.Text.{byte_at}
 use Rattle.line_pieces.specs.declared.Read.TheVariants.{At, Refused}
-use Rattle.codec.specs.Decimal.{digits, valueFrom, value}
+use Rattle.codec.specs.Decimal.{digits, value_from, value}
 use Rattle.line_pieces.specs.Number.{number_of, number_at}
 use Rattle.line_pieces.specs.Digits.{largest, grown, Says, DigitsRead}
-use Rattle.line_pieces.specs.NumberLaws.{digits-first, valueFrom-grows}
+use Rattle.line_pieces.specs.NumberLaws.{digits-first, value_from_grows}
 
 -- Two comparisons with the same answer.
 ltb-same : (a b c d : ℕ) → (a < b → c < d) → (c < d → a < b) → ltb a b ≡ ltb c d
@@ -27,21 +27,21 @@ ltb-same a b c d f g = go (ltb a b) refl
         go' true q = absurd (omega (arith, ltb-false a b e, g (ltb-true c d q)))
         go' false q = refl
 
-pub says-next : (v c : ℕ) (ds : List ℕ) (w : ℕ) → Says v (c ∷ ds) w → Says (grown v c) ds w
-unfolding valueFrom grown
-says-next v c ds w h = go (leb v largest) refl h
+pub says_next : (v c : ℕ) (ds : List ℕ) (w : ℕ) → Says v (c ∷ ds) w → Says (grown v c) ds w
+unfolding value_from grown
+says_next v c ds w h = go (leb v largest) refl h
   where
     go : (t : Bool) → leb v largest ≡ t → Says v (c ∷ ds) w → Says (cond t (10 * v + (c - 48)) v) ds w
     go true e (inl q) = inl q
     go true e (inr q) = absurd (omega (arith, leb-true v largest e, q.0))
-    go false e (inl q) = let p = leb-false v largest e in inr (p, omega (arith, valueFrom-grows (10 * v + (c - 48)) ds))
+    go false e (inl q) = let p = leb-false v largest e in inr (p, omega (arith, value_from_grows (10 * v + (c - 48)) ds))
     go false e (inr q) = inr q
 
 -- Within the limits, judged by the number that the code keeps.
 judged : (v w least most end i : ℕ) → Says v [] w → most ≤ largest
     → cond (leb least w && leb w most) (At end w) (Refused 10 i)
     ≡ cond (ltb v least) (Refused 10 i) (cond (ltb most v) (Refused 10 i) (At end v))
-unfolding valueFrom
+unfolding value_from
 judged v w least most end i (inl e) h = rw (← e) (go (ltb v least) (ltb most v) refl refl)
   where
     go : (a b : Bool) → ltb v least ≡ a → ltb most v ≡ b

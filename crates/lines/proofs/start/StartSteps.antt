@@ -6,15 +6,15 @@ use Rattle.codec.specs.Ascii.{ascii}
 use Rattle.line_pieces.specs.declared.Read.{Read}
 use Rattle.line_pieces.specs.declared.Numbers.{Numbers}
 use Rattle.lines.specs.declared.StartLine.{StartLine}
-use Rattle.line_pieces.specs.Reading.{headRead, thenEnd, limited}
-use Rattle.line_pieces.specs.NumberList.{thenSpacedList, thenClose}
-use Rattle.line_pieces.specs.NumberListCode.{numbersRead}
-use Rattle.lines.specs.Lines.{labelLimit, start_of, startLine}
+use Rattle.line_pieces.specs.Reading.{head_read, then_end, limited}
+use Rattle.line_pieces.specs.NumberList.{then_spaced_list, then_close}
+use Rattle.line_pieces.specs.NumberListCode.{numbers_read}
+use Rattle.lines.specs.Lines.{label_limit, start_of, start_line}
 
-pub start-made : (s : List ℕ) (k : ℕ) {head closed ended whole : Read} {labels : Numbers} {answer : StartLine}
-    → head ≡ headRead s (ascii "(start") → labels ≡ numbersRead (thenSpacedList s labelLimit head)
-    → closed ≡ thenClose s k k labels.read
-    → ended ≡ thenEnd s closed → whole ≡ limited s ended → answer ≡ start_of labels.values whole
-    → answer ≡ startLine s k
-unfolding numbersRead startLine
-start-made s k h l c e w a = rw (a, w, e, c, l, h)
+pub start_made : (s : List ℕ) (k : ℕ) {head closed ended whole : Read} {labels : Numbers} {answer : StartLine}
+    → head ≡ head_read s (ascii "(start") → labels ≡ numbers_read (then_spaced_list s label_limit head)
+    → closed ≡ then_close s k k labels.read
+    → ended ≡ then_end s closed → whole ≡ limited s ended → answer ≡ start_of labels.values whole
+    → answer ≡ start_line s k
+unfolding numbers_read start_line
+start_made s k h l c e w a = rw (a, w, e, c, l, h)

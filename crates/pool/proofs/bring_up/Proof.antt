@@ -1,6 +1,6 @@
 -- The kept number's place is within the pool.
 use borrow.Author.Rules.{rules}
-use Rattle.pool.specs.Pool.{broughtUp}
+use Rattle.pool.specs.Pool.{brought_up}
 use Rattle.pool.proofs.bring_up.Statement.{statement}
 use Rattle.pool.proofs.bring_up.Tie as tie
 
@@ -17,7 +17,7 @@ same_length : tie.Need-same-length
 same_length c = search rules
 
 returns : tie.Need-returns
-unfolding broughtUp
+unfolding brought_up
 returns c = c.before.before.write-u16.ensures
 
 pub bring-up-spec : {M : Type 1} → statement M

@@ -3,21 +3,21 @@ use Prim.Native.Nat.{◌+◌, ◌≤◌, ◌-◌, ◌*◌}
 use native.Mathlib.Omega.{arith}
 use mathlib.Core.Path.{◌≡◌, refl, ◌∙◌}
 use borrow.Author.Rules.{rules}
-use Rattle.pool.specs.Pool.{sumBelow, shareAt, usedByOthers}
-use Rattle.pool.specs.PoolCode.{usedBy}
-use Rattle.pool.specs.PoolLaws.{sum-next, sum-plus}
+use Rattle.pool.specs.Pool.{sum_below, share_at, used_by_others}
+use Rattle.pool.specs.PoolCode.{used_by}
+use Rattle.pool.specs.PoolLaws.{sum_next, sum_plus}
 use Rattle.pool.proofs.held.Statement.{statement}
 use Rattle.pool.proofs.held.Tie as tie
 
 abbrev invariant-loop : tie.invariant-loop
 invariant-loop pool i sum₀ j₀ sum j =
-    (j ≤ 8) × (sum ≡ sumBelow j (λ k. shareAt pool k + usedBy pool i k)) × (sum ≤ 65536 * j)
+    (j ≤ 8) × (sum ≡ sum_below j (λ k. share_at pool k + used_by pool i k)) × (sum ≤ 65536 * j)
 
 abbrev decreases-loop : tie.decreases-loop
 decreases-loop pool i sum₀ j₀ sum j = 8 - j
 
 loop-holds : tie.Need-loop-init invariant-loop decreases-loop
-unfolding sumBelow
+unfolding sum_below
 loop-holds c = (search rules, refl, search rules)
 
 held-by-requires : tie.Need-held-by-requires invariant-loop decreases-loop
@@ -38,18 +38,18 @@ loop-again c =
     let a = c.before.before.before.before.args in
     let h = c.held_by in (
       search rules,
-      sum-next (λ k. shareAt a.pool.now k + usedBy a.pool.now a.i k) l.j l.sum h.result l.invariant.1
+      sum_next (λ k. share_at a.pool.now k + used_by a.pool.now a.i k) l.j l.sum h.result l.invariant.1
           h.ensures.0,
       search rules,
     )
 
 returns : tie.Need-returns invariant-loop decreases-loop
-unfolding usedByOthers
+unfolding used_by_others
 returns c =
     let l = c.before.loop in
     let a = c.before.before.before.args in
     let all : l.j ≡ 8 = omega arith in
-    (rw all at l.invariant.1) ∙ sum-plus 8 (shareAt a.pool.now) (usedBy a.pool.now a.i)
+    (rw all at l.invariant.1) ∙ sum_plus 8 (share_at a.pool.now) (used_by a.pool.now a.i)
 
 pub held_spec : {M : Type 1} → statement M
 held_spec =

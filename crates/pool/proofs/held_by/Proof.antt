@@ -6,8 +6,8 @@ use mathlib.Core.List.{List}
 use mathlib.Core.Logic.{◌≢◌}
 use borrow.Author.Rules.{rules}
 use borrow.Author.Tests.{eq-eqb, ne_eqb}
-use Rattle.pool.specs.Pool.{shareAt, keptAt, aboveShare}
-use Rattle.pool.specs.PoolCode.{usedBy}
+use Rattle.pool.specs.Pool.{share_at, kept_at, above_share}
+use Rattle.pool.specs.PoolCode.{used_by}
 use Rattle.pool.proofs.held_by.Statement.{statement}
 use Rattle.pool.proofs.held_by.Tie as tie
 
@@ -24,9 +24,9 @@ returns c =
     (rw (eq-eqb a.j a.i (omega (arith, c.if1.true))) (omega (arith, s.share-at.ensures.0)), search rules)
 
 -- What another watch holds.
-another : (pool : List ℕ) (i j share kept held : ℕ) → j ≢ i → share ≡ shareAt pool j → kept ≡ keptAt pool j
-    → held ≡ share + (kept - share) → held ≡ shareAt pool j + usedBy pool i j
-unfolding aboveShare
+another : (pool : List ℕ) (i j share kept held : ℕ) → j ≢ i → share ≡ share_at pool j → kept ≡ kept_at pool j
+    → held ≡ share + (kept - share) → held ≡ share_at pool j + used_by pool i j
+unfolding above_share
 another pool i j share kept held other here there sum = rw (ne_eqb j i other, ← here, ← there) sum
 
 returns-2 : tie.Need-returns-2

@@ -1,6 +1,6 @@
 -- The number's place is within the pool.
 use borrow.Author.Rules.{rules}
-use Rattle.pool.specs.Pool.{keptAt}
+use Rattle.pool.specs.Pool.{kept_at}
 use Rattle.pool.proofs.kept_at.Statement.{statement}
 use Rattle.pool.proofs.kept_at.Tie as tie
 
@@ -17,7 +17,7 @@ cast-result : tie.Need-overflow-cast-result
 cast-result c = search rules
 
 returns : tie.Need-returns
-unfolding keptAt
+unfolding kept_at
 returns c = (c.read-u16.ensures, search rules)
 
 pub kept-at-spec : {M : Type 1} → statement M

@@ -2,19 +2,19 @@
 use native.Mathlib.Omega.{arith}
 use borrow.Author.Rules.{rules}
 use borrow.Author.Tests.{le-leb, lt-leb}
-use Rattle.pool.specs.Pool.{noShare}
+use Rattle.pool.specs.Pool.{no_share}
 use Rattle.pool.proofs.no_share.Statement.{statement}
 use Rattle.pool.proofs.no_share.Tie as tie
 
 returns : tie.Need-returns
-unfolding noShare
+unfolding no_share
 returns c = rw (le-leb 8 c.before.before.args.number (omega (arith, c.if1.true)))
 
 share-at-requires : tie.Need-share-at-requires
 share-at-requires c κs = search rules
 
 returns-2 : tie.Need-returns-2
-unfolding noShare
+unfolding no_share
 returns-2 c =
     let a = c.before.before.before.args in
     rw (lt-leb 8 a.number (omega (arith, c.before.if1.false)), ← c.share-at.ensures.0)

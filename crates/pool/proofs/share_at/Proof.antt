@@ -1,6 +1,6 @@
 -- The share's place is within the pool.
 use borrow.Author.Rules.{rules}
-use Rattle.pool.specs.Pool.{shareAt}
+use Rattle.pool.specs.Pool.{share_at}
 use Rattle.pool.proofs.share_at.Statement.{statement}
 use Rattle.pool.proofs.share_at.Tie as tie
 
@@ -14,7 +14,7 @@ cast-result : tie.Need-overflow-cast-result
 cast-result c = search rules
 
 returns : tie.Need-returns
-unfolding shareAt
+unfolding share_at
 returns c = (c.read-u16.ensures, search rules)
 
 pub share-at-spec : {M : Type 1} → statement M

@@ -9,18 +9,18 @@ use lib.Dec.{leb}
 use borrow.Author.Rules.{rules}
 use Rattle.clocks.specs.declared.Event.{Event}
 use Rattle.clocks.specs.Event.{count, involved}
-use Rattle.clocks.specs.Bounded.{anyBelow}
-use Rattle.clocks.specs.stored.BoundedTurns.{any_none, any_next, any-stop}
+use Rattle.clocks.specs.Bounded.{any_below}
+use Rattle.clocks.specs.stored.BoundedTurns.{any_none, any_next, any_stop}
 use Rattle.clocks.specs.Counts.{at}
 use Rattle.refusals.proofs.already_taken.Statement.{statement}
-use Rattle.refusals.specs.Refusals.{alreadyTaken}
+use Rattle.refusals.specs.Refusals.{already_taken}
 
 -- What 31 asks of process p.
 abbrev test : Event → List ℕ → ℕ → Bool
 test e taken p = involved e p && leb (count e p) (at taken p)
 
 abbrev invariant-loop : tie.invariant-loop
-invariant-loop e taken mask p₀ p = (p ≤ 8) × (anyBelow p (test e taken) ≡ false)
+invariant-loop e taken mask p₀ p = (p ≤ 8) × (any_below p (test e taken) ≡ false)
 
 abbrev decreases-loop : tie.decreases-loop
 decreases-loop e taken mask p₀ p = 8 - p
@@ -61,10 +61,10 @@ here c =
     ap (λ (b : Bool). b && leb (at a.t1.clock p) (at a.t2 p)) (sym c.before.before.has-bit.ensures) ∙ sym c.count-taken-at.ensures
 
 returns : tie.Need-returns invariant-loop decreases-loop
-unfolding alreadyTaken
+unfolding already_taken
 returns c =
     let a = c.before.before.before.before.before.before.args in
-    sym (any-stop 8 c.before.before.before.before.before.loop.p (test a.t1 a.t2) (search rules) (here c.before ∙ c.if1.true))
+    sym (any_stop 8 c.before.before.before.before.before.loop.p (test a.t1 a.t2) (search rules) (here c.before ∙ c.if1.true))
 
 add-p : tie.Need-overflow-add-p invariant-loop decreases-loop
 add-p c = search rules
@@ -78,7 +78,7 @@ loop-again c =
     (search rules, any_next c.before.before.before.before.before.loop.p (test a.t1 a.t2) c.before.before.before.before.before.loop.invariant.1 (here c.before ∙ c.if1.false))
 
 returns-2 : tie.Need-returns-2 invariant-loop decreases-loop
-unfolding alreadyTaken
+unfolding already_taken
 returns-2 c = let e : c.before.loop.p ≡ 8 = omega arith in rw (← e) (sym c.before.loop.invariant.1)
 
 pub already-taken-spec : {M : Type 1} → statement M

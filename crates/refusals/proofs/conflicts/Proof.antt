@@ -8,8 +8,8 @@ use lib.Dec.{eqb}
 use borrow.Author.Rules.{rules}
 use Rattle.clocks.specs.declared.Event.{Event}
 use Rattle.clocks.specs.Event.{count, involved}
-use Rattle.clocks.specs.Bounded.{anyBelow}
-use Rattle.clocks.specs.stored.BoundedTurns.{any_none, any_next, any-stop}
+use Rattle.clocks.specs.Bounded.{any_below}
+use Rattle.clocks.specs.stored.BoundedTurns.{any_none, any_next, any_stop}
 use Rattle.codec.specs.Bit.{bit}
 use Rattle.clocks.specs.Counts.{at}
 use Rattle.refusals.proofs.conflicts.Statement.{statement}
@@ -20,7 +20,7 @@ abbrev test : Event → Event → ℕ → Bool
 test e f p = (involved e p && involved f p) && eqb (count e p) (count f p)
 
 abbrev invariant-loop : tie.invariant-loop
-invariant-loop e f mask other p₀ p = (p ≤ 8) × (anyBelow p (test e f) ≡ false)
+invariant-loop e f mask other p₀ p = (p ≤ 8) × (any_below p (test e f) ≡ false)
 
 abbrev decreases-loop : tie.decreases-loop
 decreases-loop e f mask other p₀ p = 8 - p
@@ -71,7 +71,7 @@ returns : tie.Need-returns invariant-loop decreases-loop
 unfolding conflicts
 returns c =
     let a = c.before.before.before.before.before.before.before.before.args in
-    sym (any-stop 8 c.before.before.before.before.before.before.before.loop.p (test a.t1 a.t2) (search rules) (here c.before ∙ c.if1.true))
+    sym (any_stop 8 c.before.before.before.before.before.before.before.loop.p (test a.t1 a.t2) (search rules) (here c.before ∙ c.if1.true))
 
 add-p : tie.Need-overflow-add-p invariant-loop decreases-loop
 add-p c = search rules

@@ -1,19 +1,19 @@
--- No pending event passed is alike; the first that is decides: the laws `search-next`, `search-here`, `search-none`.
+-- No pending event passed is alike; the first that is decides: the laws `search_next`, `search_here`, `search_none`.
 use Rattle.repeats.proofs.pending_alike.Tie as tie
 use Prim.Native.Nat.{◌-◌, ◌≤◌}
 use native.Mathlib.Omega.{arith}
 use mathlib.Core.Path.{◌≡◌, refl, sym, ap, ◌∙◌}
 use borrow.Author.Rules.{rules}
 use Rattle.repeats.proofs.pending_alike.Statement.{statement}
-use Rattle.records.specs.Record.{pendingCount, pendingAt, pendingEvents}
+use Rattle.records.specs.Record.{pending_count, pending_at, pending_events}
 use Rattle.clocks.specs.Bounded.{any_of}
 use Rattle.repeats.specs.RepeatsCode.{alike}
-use Rattle.clocks.specs.stored.SearchLaws.{passesFrom, search-here, search-next, search-none}
+use Rattle.clocks.specs.stored.SearchLaws.{passes_from, search_here, search_next, search_none}
 
 abbrev invariant-loop : tie.invariant-loop
 invariant-loop s w e whole n i₀ i =
-    (i ≤ n) × (any_of (alike whole e) (pendingEvents w s)
-    ≡ passesFrom (pendingCount s) (pendingAt w s) (alike whole e) i)
+    (i ≤ n) × (any_of (alike whole e) (pending_events w s)
+    ≡ passes_from (pending_count s) (pending_at w s) (alike whole e) i)
 
 abbrev decreases-loop : tie.decreases-loop
 decreases-loop s w e whole n i₀ i = n - i
@@ -22,7 +22,7 @@ pending-count-requires : tie.Need-pending-count-requires invariant-loop decrease
 pending-count-requires c κs = search rules
 
 loop-holds : tie.Need-loop-init invariant-loop decreases-loop
-unfolding pendingEvents
+unfolding pending_events
 loop-holds c = (search rules, refl)
 
 pending-event-requires : tie.Need-pending-event-requires invariant-loop decreases-loop
@@ -34,7 +34,7 @@ alike-requires c κs = search rules
 -- The call's answer is that of pending event number i.
 here : (c : tie.After-alike invariant-loop decreases-loop)
     → let a = c.before.before.before.before.before.before.args in
-    alike a.whole a.e (pendingAt a.w a.«record».now c.before.before.before.loop.i)
+    alike a.whole a.e (pending_at a.w a.«record».now c.before.before.before.loop.i)
     ≡ c.alike.result
 here c =
     let a = c.before.before.before.before.before.before.args in
@@ -45,7 +45,7 @@ returns c =
     let a = c.before.before.before.before.before.before.before.args in
     let l = c.before.before.before.before.loop in
     sym (l.invariant.1
-    ∙ search-here (pendingCount a.«record».now) (pendingAt a.w a.«record».now)
+    ∙ search_here (pending_count a.«record».now) (pending_at a.w a.«record».now)
     (alike a.whole a.e) l.i (omega arith)
     (here c.before ∙ c.if1.true))
 
@@ -61,7 +61,7 @@ loop-again c =
     let l = c.before.before.before.before.loop in (
       search rules,
       l.invariant.1
-          ∙ search-next (pendingCount a.«record».now) (pendingAt a.w a.«record».now)
+          ∙ search_next (pending_count a.«record».now) (pending_at a.w a.«record».now)
           (alike a.whole a.e) l.i (omega arith)
           (here c.before ∙ c.if1.false),
     )
@@ -71,7 +71,7 @@ returns-2 c =
     let a = c.before.before.before.before.args in
     let l = c.before.loop in
     sym (l.invariant.1
-    ∙ search-none (pendingCount a.«record».now) (pendingAt a.w a.«record».now)
+    ∙ search_none (pending_count a.«record».now) (pending_at a.w a.«record».now)
     (alike a.whole a.e) l.i (omega arith))
 
 pub pending-alike-spec : {M : Type 1} → statement M

@@ -1,12 +1,12 @@
--- The law that inverts `replyWord`.
+-- The law that inverts `reply_word`.
 use mathlib.Core.Path.{ap, ◌∙◌}
-use Rattle.replies.specs.ReplyLaws.{wordParts, word-parts}
+use Rattle.replies.specs.ReplyLaws.{word_parts, word_parts_lem}
 use Rattle.replies.proofs.decode.Statement.{statement}
 use Rattle.replies.proofs.decode.Tie as tie
 
 returns : tie.Need-returns
-unfolding wordParts
-returns c = λ a f e. ap wordParts e ∙ word-parts a f
+unfolding word_parts
+returns c = λ a f e. ap word_parts e ∙ word_parts_lem a f
 
 pub decode-spec : {M : Type 1} → statement M
 decode-spec = tie.close (tie.spec returns)

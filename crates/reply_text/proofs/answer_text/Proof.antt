@@ -1,15 +1,15 @@
--- Each way lays the text of the one possible answer with such parts (`says-refused`, .. `says-state`).
+-- Each way lays the text of the one possible answer with such parts (`says_refused`, .. `says_state`).
 use native.Mathlib.Omega.{arith}
 use mathlib.Core.Path.{refl, ap, ◌∙◌}
 use Prim.Native.Nat.{ℕ}
 use mathlib.Core.List.{List, ◌++◌, [], ◌∷◌}
-use Rattle.reply_text.specs.Form.{programWidth}
+use Rattle.reply_text.specs.Form.{program_width}
 use Rattle.codec.specs.Decimal.{numeral}
-use Rattle.reply_text.specs.Texts.{countsText, refusedText, heldText, againText, stateText, verdictText}
+use Rattle.reply_text.specs.Texts.{counts_text, refused_text, held_text, again_text, state_text, verdict_text}
 use Rattle.reply_text.proofs.TextSteps.{behind}
-use Rattle.reply_text.proofs.ReplySteps.{says-refused, says_nothing, says-again, says-held, says-state}
+use Rattle.reply_text.proofs.ReplySteps.{says_refused, says_nothing, says_again, says_held, says_state}
 use Rattle.codec.specs.Ascii.{ascii}
-use Rattle.records.specs.Record.{takenCounts}
+use Rattle.records.specs.Record.{taken_counts}
 use mathlib.Core.Bool.{true, false}
 use borrow.Author.Rules.{rules}
 use Rattle.reply_text.proofs.answer_text.Statement.{statement}
@@ -37,14 +37,14 @@ same_length : tie.Need-same-length
 same_length c = search rules
 
 returns : tie.Need-returns
-unfolding refusedText
+unfolding refused_text
 returns c = let put = c.before.before in
     let second = put.before.before.before.before.before in
     let first = second.before.before.before.before.before in
     let test = first.before.before.before in
     let a = test.before.before.before.before.args in (
       omega arith,
-      says-refused a.offered (takenCounts programWidth a.«record».now) a.k a.reply _ test.if1.true
+      says_refused a.offered (taken_counts program_width a.«record».now) a.k a.reply _ test.if1.true
           (behind (41 ∷ 10 ∷ []) (behind (numeral _) (behind (32 ∷ []) first.piece.ensures.1 refl) second.piece2.ensures.1) put.put.ensures.1),
     )
 
@@ -58,19 +58,19 @@ same-length-2 : tie.Need-same-length-2
 same-length-2 c = search rules
 
 returns-2 : tie.Need-returns-2
-unfolding againText
+unfolding again_text
 returns-2 c = let put = c.before.before in
     let test = put.before.before.before in
     let start = test.before.before.before.before.before.before.before in
     let a = start.args in (
       omega (arith, start.requires.1.1),
-      says-again a.offered (takenCounts programWidth a.«record».now) a.k a.reply _ test.before.before.before.if1.false test.before.if2.true test.if3.true
+      says_again a.offered (taken_counts program_width a.«record».now) a.k a.reply _ test.before.before.before.if1.false test.before.if2.true test.if3.true
           put.put2.ensures.1,
     )
 
 returns-3 : tie.Need-returns-3
 returns-3 c = let a = c.before.before.before.before.before.before.before.args in
-    (omega arith, says_nothing a.offered (takenCounts programWidth a.«record».now) a.k a.reply c.before.before.before.if1.false c.before.if2.true c.if3.false)
+    (omega arith, says_nothing a.offered (taken_counts program_width a.«record».now) a.k a.reply c.before.before.before.if1.false c.before.if2.true c.if3.false)
 
 slice-aggregate-piece-3 : tie.Need-slice-aggregate-piece-3
 slice-aggregate-piece-3 c = search rules
@@ -88,14 +88,14 @@ same-length-3 : tie.Need-same-length-3
 same-length-3 c = search rules
 
 returns-4 : tie.Need-returns-4
-unfolding heldText
+unfolding held_text
 returns-4 c = let put = c.before.before in
     let first = put.before.before.before.before.before in
     let test = first.before.before.before in
     let start = test.before.before.before.before.before.before.before in
     let a = start.args in (
       omega (arith, start.requires.1.1),
-      says-held a.offered (takenCounts programWidth a.«record».now) a.k a.reply _ test.before.before.before.if1.false test.before.if2.false test.if4.true
+      says_held a.offered (taken_counts program_width a.«record».now) a.k a.reply _ test.before.before.before.if1.false test.before.if2.false test.if4.true
           (behind (41 ∷ 10 ∷ []) first.piece3.ensures.1 put.put3.ensures.1),
     )
 
@@ -121,7 +121,7 @@ same-length-4 : tie.Need-same-length-4
 same-length-4 c = search rules
 
 returns-5 : tie.Need-returns-5
-unfolding stateText verdictText
+unfolding state_text verdict_text
 returns-5 c = let put = c.before.before in
     let second = put.before.before.before.before.before in
     let counts = second.before.before.before.before.before.before in
@@ -129,8 +129,8 @@ returns-5 c = let put = c.before.before in
     let start = test.before.before.before.before.before.before.before in
     let a = start.args in (
       omega (arith, start.requires.1.1),
-      says-state a.offered (takenCounts programWidth a.«record».now) a.k a.reply _ true test.before.before.before.if1.false test.before.if2.false test.if4.false second.before.before.before.if5.true
-          (behind (41 ∷ 10 ∷ []) (behind (numeral _) (behind (ascii ") yes ") (counts.put-counts.ensures.1 ∙ ap (λ (n : List ℕ). ascii "(state (" ++ countsText n a.k) counts.before.before.taken-counts.ensures) refl) second.piece4.ensures.1) put.put4.ensures.1),
+      says_state a.offered (taken_counts program_width a.«record».now) a.k a.reply _ true test.before.before.before.if1.false test.before.if2.false test.if4.false second.before.before.before.if5.true
+          (behind (41 ∷ 10 ∷ []) (behind (numeral _) (behind (ascii ") yes ") (counts.put-counts.ensures.1 ∙ ap (λ (n : List ℕ). ascii "(state (" ++ counts_text n a.k) counts.before.before.taken-counts.ensures) refl) second.piece4.ensures.1) put.put4.ensures.1),
     )
 
 slice-aggregate-piece-5 : tie.Need-slice-aggregate-piece-5
@@ -149,7 +149,7 @@ same-length-5 : tie.Need-same-length-5
 same-length-5 c = search rules
 
 returns-6 : tie.Need-returns-6
-unfolding stateText verdictText
+unfolding state_text verdict_text
 returns-6 c = let put = c.before.before in
     let second = put.before.before.before.before.before in
     let counts = second.before.before.before.before.before.before in
@@ -157,8 +157,8 @@ returns-6 c = let put = c.before.before in
     let start = test.before.before.before.before.before.before.before in
     let a = start.args in (
       omega (arith, start.requires.1.1),
-      says-state a.offered (takenCounts programWidth a.«record».now) a.k a.reply _ false test.before.before.before.if1.false test.before.if2.false test.if4.false second.before.before.before.if5.false
-          (behind (41 ∷ 10 ∷ []) (behind (numeral _) (behind (ascii ") no ") (counts.put-counts.ensures.1 ∙ ap (λ (n : List ℕ). ascii "(state (" ++ countsText n a.k) counts.before.before.taken-counts.ensures) refl) second.piece5.ensures.1) put.put5.ensures.1),
+      says_state a.offered (taken_counts program_width a.«record».now) a.k a.reply _ false test.before.before.before.if1.false test.before.if2.false test.if4.false second.before.before.before.if5.false
+          (behind (41 ∷ 10 ∷ []) (behind (numeral _) (behind (ascii ") no ") (counts.put-counts.ensures.1 ∙ ap (λ (n : List ℕ). ascii "(state (" ++ counts_text n a.k) counts.before.before.taken-counts.ensures) refl) second.piece5.ensures.1) put.put5.ensures.1),
     )
 
 pub answer-text-spec : {M : Type 1} → statement M

@@ -6,8 +6,8 @@ use Prim.Native.Nat.{◌≤◌, ◌-◌, ◌+◌, ◌*◌}
 use mathlib.Core.List.{◌++◌, append-nil, [], ◌∷◌}
 use lib.ListN.{length, take}
 use Rattle.codec.specs.Decimal.{numeral}
-use Rattle.reply_text.specs.Texts.{moreCounts}
-use Rattle.reply_text.proofs.TextSteps.{behind, counts-next, counts_end}
+use Rattle.reply_text.specs.Texts.{more_counts}
+use Rattle.reply_text.proofs.TextSteps.{behind, counts_next, counts_end}
 use Rattle.codec.specs.Ascii.{ascii}
 use borrow.Author.Rules.{rules}
 use Rattle.reply_text.proofs.put_counts.Statement.{statement}
@@ -15,7 +15,7 @@ use Rattle.reply_text.proofs.put_counts.Tie as tie
 
 abbrev invariant-loop : tie.invariant-loop
 invariant-loop out₀ k counts at₀ p₀ t8 out at p =
-    (1 ≤ p) × (p - 1 ≤ k - 1) × (at ≤ 7 + 21 * p) × (length out ≡ length out₀) × (take at out ≡ take at₀ out₀ ++ moreCounts counts (p - 1))
+    (1 ≤ p) × (p - 1 ≤ k - 1) × (at ≤ 7 + 21 * p) × (length out ≡ length out₀) × (take at out ≡ take at₀ out₀ ++ more_counts counts (p - 1))
 
 abbrev decreases-loop : tie.decreases-loop
 decreases-loop out₀ k counts at₀ p₀ t8 out at p = k - p
@@ -33,7 +33,7 @@ piece-requires : tie.Need-piece-requires invariant-loop decreases-loop
 piece-requires c κs = search rules
 
 loop-holds : tie.Need-loop-init invariant-loop decreases-loop
-unfolding moreCounts
+unfolding more_counts
 loop-holds c = (omega arith, omega arith, omega arith, refl, sym (append-nil _))
 
 slice-aggregate-piece-2 : tie.Need-slice-aggregate-piece-2 invariant-loop decreases-loop
@@ -65,7 +65,7 @@ loop-again c = let a = c.before.before.before.before.before.before.before.before
       omega arith,
       omega arith,
       search rules,
-      behind (numeral _) (behind (32 ∷ []) l.invariant.4 refl) c.before.before.piece2.ensures.1 ∙ counts-next (take f.result f.new.0) a.t2 l.p l.invariant.0,
+      behind (numeral _) (behind (32 ∷ []) l.invariant.4 refl) c.before.before.piece2.ensures.1 ∙ counts_next (take f.result f.new.0) a.t2 l.p l.invariant.0,
     )
 
 same_length : tie.Need-same-length invariant-loop decreases-loop
@@ -74,7 +74,7 @@ same_length c = search rules
 returns : tie.Need-returns invariant-loop decreases-loop
 returns c = let a = c.before.before.before.before.before.before.before.before.args in
     let l = c.before.loop in
-    (omega arith, behind (moreCounts _ _) c.before.before.before.before.piece.ensures.1 l.invariant.4 ∙ counts_end (ascii "(state (") a.t2 a.k l.p (omega arith))
+    (omega arith, behind (more_counts _ _) c.before.before.before.before.piece.ensures.1 l.invariant.4 ∙ counts_end (ascii "(state (") a.t2 a.k l.p (omega arith))
 
 pub put-counts-spec : {M : Type 1} → statement M
 put-counts-spec =

@@ -9,29 +9,29 @@ use lib.Dec.{leb, ltb}
 use borrow.Author.Tests.{leb-true, eq-eqb, ne_eqb}
 use Rattle.rules.specs.declared.DigitRead.TheVariants.{Digit, NoDigit}
 use Rattle.rules.specs.Text.{byte_at}
-use Rattle.rules.specs.Laying.{digitAt}
-use Rattle.rules.specs.Reader.{Reading, expect, expectDigit, faulty}
+use Rattle.rules.specs.Laying.{digit_at}
+use Rattle.rules.specs.Reader.{Reading, expect, expect_digit, faulty}
 
 -- A byte
 
-pub expect-met : (s : List ℕ) (i b : ℕ) → byte_at s i ≡ b → (r : Reading) → expect s i b r ≡ r
+pub expect_met : (s : List ℕ) (i b : ℕ) → byte_at s i ≡ b → (r : Reading) → expect s i b r ≡ r
 unfolding expect
-expect-met s i b e r = rw (eq-eqb (byte_at s i) b e)
+expect_met s i b e r = rw (eq-eqb (byte_at s i) b e)
 
-pub expect-other : (s : List ℕ) (i b : ℕ) → (byte_at s i ≡ b → ⊥) → (r : Reading) → expect s i b r ≡ faulty 1 i
+pub expect_other : (s : List ℕ) (i b : ℕ) → (byte_at s i ≡ b → ⊥) → (r : Reading) → expect s i b r ≡ faulty 1 i
 unfolding expect
-expect-other s i b e r = rw (ne_eqb (byte_at s i) b e)
+expect_other s i b e r = rw (ne_eqb (byte_at s i) b e)
 
 -- A digit
 
 pub record DigitMet (s : List ℕ) (i bound value : ℕ) : Type 0 where
   pub same : byte_at s i - 48 ≡ value
   pub ten : value ≤ 9
-  pub step : (r : Reading) → expectDigit s i bound r ≡ r
+  pub step : (r : Reading) → expect_digit s i bound r ≡ r
 
-pub digit-met : (s : List ℕ) (i bound value : ℕ) → digitAt s i bound ≡ Digit value → DigitMet s i bound value
-unfolding digitAt
-digit-met s i bound value = go (leb 48 c) (leb c 57) (ltb (c - 48) bound) refl refl refl
+pub digit_met : (s : List ℕ) (i bound value : ℕ) → digit_at s i bound ≡ Digit value → DigitMet s i bound value
+unfolding digit_at
+digit_met s i bound value = go (leb 48 c) (leb c 57) (ltb (c - 48) bound) refl refl refl
   where
     c : ℕ
     c = byte_at s i
@@ -41,15 +41,15 @@ digit-met s i bound value = go (leb 48 c) (leb c 57) (ltb (c - 48) bound) refl r
     go true true true p q l h =
         let e : c - 48 ≡ value = cc in
         let t : c ≤ 57 = leb-true c 57 q in
-        record { same = e; ten = omega arith; step = λ r. unfold expectDigit in (rw (p, q, l)) }
+        record { same = e; ten = omega arith; step = λ r. unfold expect_digit in (rw (p, q, l)) }
     go true true false p q l h = let z : ◌≡◌ {A = ℕ} 0 1 = cc in absurd (omega arith)
     go true false z p q l h = let z : ◌≡◌ {A = ℕ} 0 1 = cc in absurd (omega arith)
     go false y z p q l h = let z : ◌≡◌ {A = ℕ} 0 1 = cc in absurd (omega arith)
 
-pub digit-other : (s : List ℕ) (i bound number : ℕ) → digitAt s i bound ≡ NoDigit number → (r : Reading)
-    → expectDigit s i bound r ≡ faulty number i
-unfolding digitAt expectDigit
-digit-other s i bound number h r = go (leb 48 c && leb c 57) (ltb (c - 48) bound) h
+pub digit_other : (s : List ℕ) (i bound number : ℕ) → digit_at s i bound ≡ NoDigit number → (r : Reading)
+    → expect_digit s i bound r ≡ faulty number i
+unfolding digit_at expect_digit
+digit_other s i bound number h r = go (leb 48 c && leb c 57) (ltb (c - 48) bound) h
   where
     c : ℕ
     c = byte_at s i

@@ -14,14 +14,14 @@ use Rattle.rules.specs.Text.{byte_at}
 use Rattle.rules.specs.Reader.{rest_at}
 
 -- While letters are left, letter j decides; then the word is there.
-pub restAt-next : (s : List ℕ) (i j : ℕ) (letters : List ℕ) (word : WordRead) → j < length letters
+pub rest_at_next : (s : List ℕ) (i j : ℕ) (letters : List ℕ) (word : WordRead) → j < length letters
     → rest_at s (i + j) (drop j letters) word
     ≡ cond (eqb (byte_at s (i + j)) (get_or letters j 0)) (rest_at s (i + (j + 1)) (drop (j + 1) letters) word) (NoWord (i + j))
 unfolding rest_at
-restAt-next s i j letters word h =
+rest_at_next s i j letters word h =
     let e : i + (j + 1) ≡ i + j + 1 = omega arith in
     rw (drop-cons letters j 0 h, e, add-one j)
 
-pub restAt-end : (s : List ℕ) (i j : ℕ) (letters : List ℕ) (word : WordRead) → length letters ≤ j → rest_at s (i + j) (drop j letters) word ≡ word
+pub rest_at-end_lem : (s : List ℕ) (i j : ℕ) (letters : List ℕ) (word : WordRead) → length letters ≤ j → rest_at s (i + j) (drop j letters) word ≡ word
 unfolding rest_at
-restAt-end s i j letters word h = rw (drop_of_length-le letters h)
+rest_at-end_lem s i j letters word h = rw (drop_of_length-le letters h)

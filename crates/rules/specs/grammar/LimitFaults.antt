@@ -6,18 +6,18 @@ use Rattle.std.specs.Prelude.{◌≡◌, Bool, true, false, cond, ◌&&◌, ◌�
 use Rattle.std.proofs.Math.Path.{refl, subst}
 use mathlib.Core.List.{List, [], ◌∷◌, ◌++◌}
 use Rattle.std.proofs.Math.Logic.{inl, inr}
-use Rattle.rules.specs.grammar.OpenForms.{Frame, before, closedLines, FramesGrammatical, Viable, form-closed, viable-text, viable-part, viable-inside, before-count, viable-at}
-use Rattle.rules.specs.grammar.FaultLaws.{Clean, first-over, Over, fault4-digit, clean-next}
-use Rattle.rules.specs.Line.{lineCount}
-use Rattle.rules.specs.reading.WordLaws.{span-byte, span-append, if-byte}
+use Rattle.rules.specs.grammar.OpenForms.{Frame, before, closed_lines, FramesGrammatical, Viable, form_closed, viable_text, viable_part, viable_inside, before-count, viable_at}
+use Rattle.rules.specs.grammar.FaultLaws.{Clean, first_over, Over, fault4_digit, clean_next}
+use Rattle.rules.specs.Line.{line_count}
+use Rattle.rules.specs.reading.WordLaws.{span_byte, span_append, if_byte}
 use Rattle.codec.specs.Ascii.{ascii}
 use Rattle.rules.specs.Text.{byte_at, text_of, Grammatical}
 use Rattle.rules.specs.reading.ReaderLaws.{Digit}
-use Rattle.rules.specs.Fault.{occurring, Fault2, linesClosed, Fault3, Fault, FirstFault, Fault4, Span}
+use Rattle.rules.specs.Fault.{occurring, Fault2, lines_closed, Fault3, Fault, FirstFault, Fault4, Span}
 use Rattle.rules.specs.Formula.{Formula}
-use Rattle.rules.specs.grammar.PlainBytes.{every, small, every-left, text-small}
-use Rattle.rules.specs.grammar.FirstBytes.{Begun, begun-span, begun-next}
-use Rattle.rules.specs.Reader.{Reading, and_then, expect, expectDigit, closeAt, formed, faulty}
+use Rattle.rules.specs.grammar.PlainBytes.{every, small, every_left, text-small}
+use Rattle.rules.specs.grammar.FirstBytes.{Begun, begun_span, begun_next}
+use Rattle.rules.specs.Reader.{Reading, and_then, expect, expect_digit, close_at, formed, faulty}
 
 -- A text's first bytes can go on, and hold no fault by 2, 3 or 4.
 pub record Stopped (s : List ℕ) (k i : ℕ) : Type 0 where
@@ -43,35 +43,35 @@ module _ (s : List ℕ) (k : ℕ) where
       → Outcome s k (faulty 1 j)
   unfolding Outcome
   stop cs i j bs x span bytes v clean =
-      inr (refl, record { bytes = before cs ++ bs; begun = begun-span x.begun span bytes; viable = viable-inside cs x.digits bs v; clean = clean })
+      inr (refl, record { bytes = before cs ++ bs; begun = begun_span x.begun span bytes; viable = viable_inside cs x.digits bs v; clean = clean })
 
   -- The reader stops by 1 behind the first bytes of a form.
-  pub stop-in : (cs : List Frame) (i j : ℕ) (xs ys : List ℕ) (f : Formula) → Reached s k cs i → Span s i xs j → xs ++ ys ≡ text_of f → Grammatical f
+  pub stop_in : (cs : List Frame) (i j : ℕ) (xs ys : List ℕ) (f : Formula) → Reached s k cs i → Span s i xs j → xs ++ ys ≡ text_of f → Grammatical f
       → Clean s k j → Outcome s k (faulty 1 j)
-  stop-in cs i j xs ys f x span e digits clean =
-      stop cs i j xs x span (every-left small xs ys (rw e (text-small f digits))) (viable-part xs ys (rw e (viable-text f digits))) clean
+  stop_in cs i j xs ys f x span e digits clean =
+      stop cs i j xs x span (every_left small xs ys (rw e (text-small f digits))) (viable_part xs ys (rw e (viable_text f digits))) clean
 
   -- A digit that is not below its bound, behind the first bytes of an atom.
-  pub over-in : (cs : List Frame) (i j : ℕ) (xs ys : List ℕ) (f : Formula) (d : ℕ) → Reached s k cs i → Span s i xs (j + 1) → xs ++ ys ≡ text_of f → Grammatical f
+  pub over_in : (cs : List Frame) (i j : ℕ) (xs ys : List ℕ) (f : Formula) (d : ℕ) → Reached s k cs i → Span s i xs (j + 1) → xs ++ ys ≡ text_of f → Grammatical f
       → Clean s k j → byte_at s j ≡ 48 + d → Fault4 s k j → Outcome s k (faulty 4 j)
   unfolding Outcome Fault Fault2 Fault3
-  over-in cs i j xs ys f d x span e digits clean b fault =
-      inl (first-over 4 k (begun-span x.begun span (every-left small xs ys (rw e (text-small f digits))))
-      (viable-inside cs x.digits xs (viable-part xs ys (rw e (viable-text f digits)))) clean
+  over_in cs i j xs ys f d x span e digits clean b fault =
+      inl (first_over 4 k (begun_span x.begun span (every_left small xs ys (rw e (text-small f digits))))
+      (viable_inside cs x.digits xs (viable_part xs ys (rw e (viable_text f digits)))) clean
       (inr (inr (inr (refl, fault)))) (omega arith) (λ _ z. omega (arith, z.0)) (λ _ z. omega (arith, z.0)))
 
   -- A byte that the grammar has at a place.
-  pub expect-out : (i b : ℕ) (r : Reading) → Outcome s k (faulty 1 i) → (byte_at s i ≡ b → Outcome s k r)
+  pub expect_out : (i b : ℕ) (r : Reading) → Outcome s k (faulty 1 i) → (byte_at s i ≡ b → Outcome s k r)
       → Outcome s k (expect s i b r)
   unfolding expect
-  expect-out i b r p q = if-byte (Outcome s k) (byte_at s i) b r (faulty 1 i) q (λ _. p)
+  expect_out i b r p q = if_byte (Outcome s k) (byte_at s i) b r (faulty 1 i) q (λ _. p)
 
   -- A digit at a place: none, one that is not below the bound, or one that is.
-  pub digit-out : (i bound : ℕ) (r : Reading) → Outcome s k (faulty 1 i)
+  pub digit_out : (i bound : ℕ) (r : Reading) → Outcome s k (faulty 1 i)
       → ((d : ℕ) → byte_at s i ≡ 48 + d → d ≤ 9 → bound ≤ d → Outcome s k (faulty 4 i))
-      → (Digit s i bound (byte_at s i - 48) → Outcome s k r) → Outcome s k (expectDigit s i bound r)
-  unfolding expectDigit
-  digit-out i bound r p over q = go (leb 48 c) (leb c 57) (ltb (c - 48) bound) refl refl refl
+      → (Digit s i bound (byte_at s i - 48) → Outcome s k r) → Outcome s k (expect_digit s i bound r)
+  unfolding expect_digit
+  digit_out i bound r p over q = go (leb 48 c) (leb c 57) (ltb (c - 48) bound) refl refl refl
     where
       c : ℕ
       c = byte_at s i
@@ -85,62 +85,62 @@ module _ (s : List ℕ) (k : ℕ) where
       go true false z e₁ e₂ e₃ = p
       go false y z e₁ e₂ e₃ = p
 
-  pub andThen-out : (r : Reading) (next : ℕ → Formula → Reading) → Outcome s k r
+  pub and_then_out : (r : Reading) (next : ℕ → Formula → Reading) → Outcome s k r
       → ((j : ℕ) (f : Formula) → r ≡ formed j f → Clean s k j → Outcome s k (next j f)) → Outcome s k (and_then r next)
   unfolding and_then Outcome
-  andThen-out (formed j f) next p q = q j f refl p
-  andThen-out (faulty n i) next p q = p
+  and_then_out (formed j f) next p q = q j f refl p
+  and_then_out (faulty n i) next p q = p
 
   -- Behind a closing bracket that stands there.
-  closed-out : (cs : List Frame) (closed l : ℕ) (f : Formula) → FramesGrammatical cs → Grammatical f → closed ≡ closedLines cs → byte_at s l ≡ 41
+  closed_out : (cs : List Frame) (closed l : ℕ) (f : Formula) → FramesGrammatical cs → Grammatical f → closed ≡ closed_lines cs → byte_at s l ≡ 41
       → Begun s (before cs ++ text_of f) (l + 1) → Clean s k l
-      → Outcome s k (cond (leb (closed + lineCount f) 64) (formed (l + 1) f) (faulty 3 l))
+      → Outcome s k (cond (leb (closed + line_count f) 64) (formed (l + 1) f) (faulty 3 l))
   unfolding Outcome Fault Fault2 Fault3
-  closed-out cs closed l f frames digits lines b begun clean = go (leb (closed + lineCount f) 64) refl
+  closed_out cs closed l f frames digits lines b begun clean = go (leb (closed + line_count f) 64) refl
     where
-      total : linesClosed [] (take (l + 1) s) ≡ closed + lineCount f
-      total = rw (begun.taken, lines) (form-closed cs f)
+      total : lines_closed [] (take (l + 1) s) ≡ closed + line_count f
+      total = rw (begun.taken, lines) (form_closed cs f)
 
-      none_here : closed + lineCount f ≤ 64 → Over s k l → ⊥
+      none_here : closed + line_count f ≤ 64 → Over s k l → ⊥
       none_here h (inl y) = omega (arith, y.0)
       none_here h (inr (inl y)) = omega (arith, y.1, total)
-      none_here h (inr (inr y)) = omega (arith, fault4-digit s k l y)
+      none_here h (inr (inr y)) = omega (arith, fault4_digit s k l y)
 
-      go : (t : Bool) → leb (closed + lineCount f) 64 ≡ t → Outcome s k (cond t (formed (l + 1) f) (faulty 3 l))
-      go true q = clean-next s k l clean (none_here (leb-true (closed + lineCount f) 64 q))
+      go : (t : Bool) → leb (closed + line_count f) 64 ≡ t → Outcome s k (cond t (formed (l + 1) f) (faulty 3 l))
+      go true q = clean_next s k l clean (none_here (leb-true (closed + line_count f) 64 q))
       go false q =
-          inl (first-over 3 k begun (viable-inside cs frames (text_of f) (viable-text f digits)) clean
-          (inr (inr (inl (refl, (b, omega (arith, leb-false (closed + lineCount f) 64 q, total))))))
+          inl (first_over 3 k begun (viable_inside cs frames (text_of f) (viable_text f digits)) clean
+          (inr (inr (inl (refl, (b, omega (arith, leb-false (closed + line_count f) 64 q, total))))))
           (omega arith) (λ _ z. omega (arith, z.0)) (λ z _. omega arith))
 
   -- The closing bracket of a form whose bytes before it stand there.
-  pub close-out : (cs : List Frame) (closed i l : ℕ) (bs : List ℕ) (f : Formula) → Reached s k cs i → closed ≡ closedLines cs → Span s i bs l
-      → bs ++ 41 ∷ [] ≡ text_of f → Grammatical f → Clean s k l → Outcome s k (closeAt s closed l f)
-  unfolding closeAt
-  close-out cs closed i l bs f x lines span e digits clean =
-      expect-out l 41 _
-      (stop-in cs i l bs (41 ∷ []) f x span e digits clean)
+  pub close_out : (cs : List Frame) (closed i l : ℕ) (bs : List ℕ) (f : Formula) → Reached s k cs i → closed ≡ closed_lines cs → Span s i bs l
+      → bs ++ 41 ∷ [] ≡ text_of f → Grammatical f → Clean s k l → Outcome s k (close_at s closed l f)
+  unfolding close_at
+  close_out cs closed i l bs f x lines span e digits clean =
+      expect_out l 41 _
+      (stop_in cs i l bs (41 ∷ []) f x span e digits clean)
       (λ b.
-      let whole : Span s i (text_of f) (l + 1) = subst (λ (z : List ℕ). Span s i z (l + 1)) e (span-append span (span-byte s l 41 b)) in
-      closed-out cs closed l f x.digits digits lines b (begun-span x.begun whole (text-small f digits)) clean)
+      let whole : Span s i (text_of f) (l + 1) = subst (λ (z : List ℕ). Span s i z (l + 1)) e (span_append span (span_byte s l 41 b)) in
+      closed_out cs closed l f x.digits digits lines b (begun_span x.begun whole (text-small f digits)) clean)
 
   -- The opening bracket, with no more allowed.
-  pub too-deep : (cs : List Frame) (i : ℕ) → Reached s k cs i → 32 ≤ length cs → byte_at s i ≡ 40
+  pub too_deep : (cs : List Frame) (i : ℕ) → Reached s k cs i → 32 ≤ length cs → byte_at s i ≡ 40
       → Outcome s k (faulty 2 i)
   unfolding Outcome Fault Fault2
-  too-deep cs i x h b =
-      inl (first-over 2 k (begun-next x.begun b (omega arith)) (viable-inside cs x.digits (40 ∷ []) (viable-part (40 ∷ []) (ascii "at") viable-at)) x.clean
+  too_deep cs i x h b =
+      inl (first_over 2 k (begun_next x.begun b (omega arith)) (viable_inside cs x.digits (40 ∷ []) (viable_part (40 ∷ []) (ascii "at") viable_at)) x.clean
       (inr (inl (refl, (b, rw x.begun.taken (omega (arith, before-count cs))))))
       (omega arith) (λ z _. omega arith) (λ z _. omega arith))
 
   -- The opening bracket, with more allowed.
-  pub opened-clean : (cs : List Frame) (i : ℕ) → Reached s k cs i → length cs < 32 → byte_at s i ≡ 40 → Clean s k (i + 1)
+  pub opened_clean : (cs : List Frame) (i : ℕ) → Reached s k cs i → length cs < 32 → byte_at s i ≡ 40 → Clean s k (i + 1)
   unfolding Fault2 Fault3
-  opened-clean cs i x h b = clean-next s k i x.clean none_here
+  opened_clean cs i x h b = clean_next s k i x.clean none_here
     where
       none_here : Over s k i → ⊥
       none_here (inl y) =
           let deep : 32 + occurring 41 (before cs) ≤ occurring 40 (before cs) = rw x.begun.taken at y.1 in
           omega (arith, before-count cs)
       none_here (inr (inl y)) = omega (arith, y.0)
-      none_here (inr (inr y)) = omega (arith, fault4-digit s k i y)
+      none_here (inr (inr y)) = omega (arith, fault4_digit s k i y)

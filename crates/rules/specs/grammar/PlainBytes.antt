@@ -3,7 +3,7 @@
 use Rattle.std.specs.Prelude.{ℕ, ◌+◌, ◌≤◌, ◌<◌, ◌≡◌, refl, Bool, true, false, cond, ◌&&◌, List, [], ◌∷◌, ◌++◌, leb, ltb, T}
 use Rattle.std.proofs.Common.{arith, leb→le, lt→ltb}
 use Rattle.codec.specs.Ascii.{ascii}
-use Rattle.rules.specs.Text.{constantLetters, unaryLetters, binaryLetters, text_of, Grammatical}
+use Rattle.rules.specs.Text.{constant_letters, unary_letters, binary_letters, text_of, Grammatical}
 use Rattle.rules.specs.declared.Constant.{Constant}
 use Rattle.rules.specs.declared.Constant.TheVariants.{True, False}
 use Rattle.rules.specs.declared.Unary.{Unary}
@@ -43,18 +43,18 @@ every_append test [] ys p q = q
 every_append test (x ∷ xs) ys p q =
     and_both (test x) _ (and_left (test x) _ p) (every_append test xs ys (and_right (test x) _ p) q)
 
-pub every-left : (test : ℕ → Bool) (xs ys : List ℕ) → T (every test (xs ++ ys)) → T (every test xs)
+pub every_left : (test : ℕ → Bool) (xs ys : List ℕ) → T (every test (xs ++ ys)) → T (every test xs)
 unfolding every
-every-left test [] ys p = tt
-every-left test (x ∷ xs) ys p = and_both (test x) _ (and_left (test x) _ p) (every-left test xs ys (and_right (test x) _ p))
+every_left test [] ys p = tt
+every_left test (x ∷ xs) ys p = and_both (test x) _ (and_left (test x) _ p) (every_left test xs ys (and_right (test x) _ p))
 
 -- What a plain byte is not.
 pub record Plain (b : ℕ) : Type 0 where
   pub below : b < 256
   pub quiet : 40 ≤ b → b ≤ 57 → ⊥
 
-pub plain-e : (b : ℕ) → T (plain b) → Plain b
-plain-e b h = go (leb b 39) refl h
+pub plain_e : (b : ℕ) → T (plain b) → Plain b
+plain_e b h = go (leb b 39) refl h
   where
     go : (t : Bool) → leb b 39 ≡ t → T (cond t true (leb 58 b && leb b 255)) → Plain b
     go true e p = let l = leb→le b 39 (rw e tt) in record { below = omega arith; quiet = omega arith }
@@ -68,7 +68,7 @@ pub plain-small : (bs : List ℕ) → T (every plain bs) → T (every small bs)
 unfolding every
 plain-small [] h = tt
 plain-small (b ∷ bs) h =
-    and_both (small b) _ (lt→ltb b 256 (plain-e b (and_left (plain b) _ h)).below) (plain-small bs (and_right (plain b) _ h))
+    and_both (small b) _ (lt→ltb b 256 (plain_e b (and_left (plain b) _ h)).below) (plain-small bs (and_right (plain b) _ h))
 
 -- Words have plain letters
 
@@ -76,13 +76,13 @@ pub at_plain : T (every plain (ascii "at"))
 unfolding every
 at_plain = tt
 
-pub constant-plain : (w : Constant) → T (every plain (constantLetters w))
-unfolding every constantLetters
+pub constant-plain : (w : Constant) → T (every plain (constant_letters w))
+unfolding every constant_letters
 constant-plain True = tt
 constant-plain False = tt
 
-pub unary-plain : (w : Unary) → T (every plain (unaryLetters w))
-unfolding every unaryLetters
+pub unary-plain : (w : Unary) → T (every plain (unary_letters w))
+unfolding every unary_letters
 unary-plain Not = tt
 unary-plain Ey = tt
 unary-plain Ep = tt
@@ -91,8 +91,8 @@ unary-plain Ay = tt
 unary-plain Eh = tt
 unary-plain Ah = tt
 
-pub binary-plain : (w : Binary) → T (every plain (binaryLetters w))
-unfolding every binaryLetters
+pub binary-plain : (w : Binary) → T (every plain (binary_letters w))
+unfolding every binary_letters
 binary-plain And = tt
 binary-plain Es = tt
 binary-plain As = tt
@@ -103,9 +103,9 @@ pub text-small : (f : Formula) → Grammatical f → T (every small (text_of f))
 unfolding every text_of Atoms
 text-small (atom p b) h =
     and_both (small (48 + p)) _ (lt→ltb (48 + p) 256 (omega arith)) (and_both (small (48 + b)) _ (lt→ltb (48 + b) 256 (omega arith)) tt)
-text-small (constant w) h = every_append small (constantLetters w) _ (plain-small (constantLetters w) (constant-plain w)) tt
+text-small (constant w) h = every_append small (constant_letters w) _ (plain-small (constant_letters w) (constant-plain w)) tt
 text-small (unary w f) h =
-    every_append small (unaryLetters w) _ (plain-small (unaryLetters w) (unary-plain w)) (every_append small (text_of f) _ (text-small f h) tt)
+    every_append small (unary_letters w) _ (plain-small (unary_letters w) (unary-plain w)) (every_append small (text_of f) _ (text-small f h) tt)
 text-small (binary w f g) h =
-    every_append small (binaryLetters w) _ (plain-small (binaryLetters w) (binary-plain w))
+    every_append small (binary_letters w) _ (plain-small (binary_letters w) (binary-plain w))
     (every_append small (text_of f) _ (text-small f h.0) (every_append small (text_of g) _ (text-small g h.1) tt))

@@ -1,5 +1,5 @@
--- No event tried before decided, and `seen` says whether one of them was ready: the laws `tried-pass`, `-full`,
--- `-false`, `-fits` and `-end`. No frontier before j is what the event knows of: the laws `search-next`, `-here` and
+-- No event tried before decided, and `seen` says whether one of them was ready: the laws `tried_pass`, `_full`,
+-- `-false`, `-fits` and `-end`. No frontier before j is what the event knows of: the laws `search_next`, `_here` and
 -- `-none`.
 use Rattle.trial.proofs.decide.Tie as tie
 use Prim.Native.Nat.{ℕ, ◌-◌, ◌+◌, ◌≤◌}
@@ -16,17 +16,17 @@ use Rattle.clocks.specs.declared.Event.{Event}
 use Rattle.clocks.specs.Event.{lowered}
 use Rattle.clocks.specs.Bounded.{any_of}
 use Rattle.clocks.specs.cuts.EventLaws.{true-T}
-use Rattle.clocks.specs.stored.SearchLaws.{passesFrom, search-here, search-next, search-none}
-use Rattle.window.specs.Step.{fits, keptAfter}
+use Rattle.clocks.specs.stored.SearchLaws.{passes_from, search_here, search_next, search_none}
+use Rattle.window.specs.Step.{fits, kept_after}
 use Rattle.frontiers.specs.declared.Frontier.{Frontier}
-use Rattle.frontiers.specs.Bytes.{frontierAt, frontiers}
+use Rattle.frontiers.specs.Bytes.{frontier_at, frontiers}
 use Rattle.frontiers.specs.WindowLaws.{place-within}
 use Rattle.lookup.specs.Order.{same}
 use Rattle.trial.specs.declared.Choice.TheVariants.{Undecided, Chosen}
-use Rattle.records.specs.Record.{pendingAt, readyIn}
-use Rattle.trial.specs.Trial.{Decision, settingIn, validAmong, trial}
-use Rattle.trial.proofs.TrialSteps.{triedFrom, tried-end, tried-pass, tried-false, tried-fits, tried-full}
-use Rattle.trial.specs.TrialCode.{choiceFor}
+use Rattle.records.specs.Record.{pending_at, ready_in}
+use Rattle.trial.specs.Trial.{Decision, setting_in, valid_among, trial}
+use Rattle.trial.proofs.TrialSteps.{tried_from, tried-end, tried_pass, tried-false, tried-fits, tried_full}
+use Rattle.trial.specs.TrialCode.{choice_for}
 
 -- The frontier is the cut that is looked for.
 abbrev stands : List ℕ → Frontier → Bool
@@ -35,12 +35,12 @@ stands known f = same f.counts known
 -- The trial from the event after so many turns on.
 abbrev from : ℕ → List ℕ → ℕ → List ℕ → ℕ → ℕ → Bool → Decision
 from w s allowed window n turn seen =
-    triedFrom w s (validAmong (frontiers w window n)) allowed (frontiers w window n) turn seen
+    tried_from w s (valid_among (frontiers w window n)) allowed (frontiers w window n) turn seen
 
 abbrev invariant-loop : tie.invariant-loop
 invariant-loop s w window marks n allowed taken pending ordered turn i e known j₀ j =
     (n ≤ 1024) × (j ≤ n) × (any_of (stands known) (frontiers w window n)
-    ≡ passesFrom n (frontierAt w window) (stands known) j)
+    ≡ passes_from n (frontier_at w window) (stands known) j)
 
 abbrev decreases-loop : tie.decreases-loop
 decreases-loop s w window marks n allowed taken pending ordered turn i e known j₀ j = n - j
@@ -68,9 +68,9 @@ head c = (placed c).before.before
 abbrev start : tie.After-ready invariant-loop decreases-loop invariant-events decreases-events → tie.Start invariant-loop decreases-loop invariant-events decreases-events
 start c = let ordered = (head c).before in ordered.before.before.before.before.before.before
 
-abbrev was-ready : tie.After-lowered invariant-loop decreases-loop invariant-events decreases-events
+abbrev was_ready : tie.After-lowered invariant-loop decreases-loop invariant-events decreases-events
     → tie.After-ready invariant-loop decreases-loop invariant-events decreases-events
-was-ready c = c.before.before
+was_ready c = c.before.before
 
 abbrev scanned : tie.After-counts-same invariant-loop decreases-loop invariant-events decreases-events
     → tie.After-lowered invariant-loop decreases-loop invariant-events decreases-events
@@ -80,59 +80,59 @@ scanned c = let head = c.before.before.before in head.before
 
 -- The event and the frontiers, as the definition has them.
 abbrev event : tie.After-ready invariant-loop decreases-loop invariant-events decreases-events → Event
-event c = let a = (start c).args in pendingAt a.w a.«record».now (placed c).place-in-turn.result
+event c = let a = (start c).args in pending_at a.w a.«record».now (placed c).place-in-turn.result
 
 abbrev kept : tie.After-ready invariant-loop decreases-loop invariant-events decreases-events → List Frontier
 kept c = let a = (start c).args in frontiers a.w a.window.now a.n
 
-tested-ready : (c : tie.After-ready invariant-loop decreases-loop invariant-events decreases-events)
-    → readyIn (start c).args.w (start c).args.«record».now (event c) ≡ c.ready.result
-unfolding readyIn
-tested-ready c =
+tested_ready : (c : tie.After-ready invariant-loop decreases-loop invariant-events decreases-events)
+    → ready_in (start c).args.w (start c).args.«record».now (event c) ≡ c.ready.result
+unfolding ready_in
+tested_ready c =
     let counted = (head c).before.before in
     rw (← c.before.pending-event.ensures, ← counted.before.taken-counts.ensures)
     (sym c.ready.ensures)
 
 -- What the event knows of is looked for among them,
-tested-valid : (c : tie.After-lowered invariant-loop decreases-loop invariant-events decreases-events)
-    → validAmong (kept (was-ready c)) (event (was-ready c)) ≡ any_of (stands c.lowered.result) (kept (was-ready c))
-unfolding validAmong
-tested-valid c = rw (← (was-ready c).before.pending-event.ensures, ← c.lowered.ensures) refl
+tested_valid : (c : tie.After-lowered invariant-loop decreases-loop invariant-events decreases-events)
+    → valid_among (kept (was_ready c)) (event (was_ready c)) ≡ any_of (stands c.lowered.result) (kept (was_ready c))
+unfolding valid_among
+tested_valid c = rw (← (was_ready c).before.pending-event.ensures, ← c.lowered.ensures) refl
 
 -- and a frontier is compared with it.
-tested-here : (c : tie.After-counts-same invariant-loop decreases-loop invariant-events decreases-events)
-    → let a = (start (was-ready (scanned c))).args in
-    stands (scanned c).lowered.result (frontierAt a.w a.window.now c.before.before.before.loop.j)
+tested_here : (c : tie.After-counts-same invariant-loop decreases-loop invariant-events decreases-events)
+    → let a = (start (was_ready (scanned c))).args in
+    stands (scanned c).lowered.result (frontier_at a.w a.window.now c.before.before.before.loop.j)
     ≡ c.counts_same.result
-tested-here c = rw (← c.before.counts-at.ensures) (sym c.counts_same.ensures)
+tested_here c = rw (← c.before.counts-at.ensures) (sym c.counts_same.ensures)
 
-read-ready : (c : tie.After-lowered invariant-loop decreases-loop invariant-events decreases-events)
-    → let a = (start (was-ready c)).args in
-    T (readyIn a.w a.«record».now (was-ready c).before.pending-event.result)
-read-ready c =
-    let a = (start (was-ready c)).args in
-    subst⁻¹ (λ (e : Event). T (readyIn a.w a.«record».now e)) (was-ready c).before.pending-event.ensures
-    (true-T (tested-ready (was-ready c) ∙ c.before.if1.true))
+read_ready : (c : tie.After-lowered invariant-loop decreases-loop invariant-events decreases-events)
+    → let a = (start (was_ready c)).args in
+    T (ready_in a.w a.«record».now (was_ready c).before.pending-event.result)
+read_ready c =
+    let a = (start (was_ready c)).args in
+    subst⁻¹ (λ (e : Event). T (ready_in a.w a.«record».now e)) (was_ready c).before.pending-event.ensures
+    (true-T (tested_ready (was_ready c) ∙ c.before.if1.true))
 
 -- Found, the event's clock is valid; looked for in vain, it is not.
-is_known : (c : tie.Then3 invariant-loop decreases-loop invariant-events decreases-events) → let r = was-ready (scanned c.before) in
-    validAmong (kept r) (event r) ≡ true
+is_known : (c : tie.Then3 invariant-loop decreases-loop invariant-events decreases-events) → let r = was_ready (scanned c.before) in
+    valid_among (kept r) (event r) ≡ true
 is_known c =
     let low = scanned c.before in
-    let a = (start (was-ready low)).args in
+    let a = (start (was_ready low)).args in
     let l = c.before.before.before.before.loop in
-    tested-valid low ∙ l.invariant.2
-    ∙ search-here a.n (frontierAt a.w a.window.now) (stands low.lowered.result) l.j (search rules)
-    (tested-here c.before ∙ c.if3.true)
+    tested_valid low ∙ l.invariant.2
+    ∙ search_here a.n (frontier_at a.w a.window.now) (stands low.lowered.result) l.j (search rules)
+    (tested_here c.before ∙ c.if3.true)
 
-not_known : (c : tie.Then2 invariant-loop decreases-loop invariant-events decreases-events) → let r = was-ready c.before.before in
-    validAmong (kept r) (event r) ≡ false
+not_known : (c : tie.Then2 invariant-loop decreases-loop invariant-events decreases-events) → let r = was_ready c.before.before in
+    valid_among (kept r) (event r) ≡ false
 not_known c =
     let low = c.before.before in
-    let a = (start (was-ready low)).args in
+    let a = (start (was_ready low)).args in
     let l = c.before.loop in
-    tested-valid low ∙ l.invariant.2
-    ∙ search-none a.n (frontierAt a.w a.window.now) (stands low.lowered.result) l.j (search rules)
+    tested_valid low ∙ l.invariant.2
+    ∙ search_none a.n (frontier_at a.w a.window.now) (stands low.lowered.result) l.j (search rules)
 
 -- So many frontiers were counted, and fit or not.
 abbrev asked : tie.After-fitting invariant-loop decreases-loop invariant-events decreases-events
@@ -141,14 +141,14 @@ asked c = let counted = c.before.before.before in counted.before
 
 abbrev trying : tie.After-fitting invariant-loop decreases-loop invariant-events decreases-events
     → tie.After-ready invariant-loop decreases-loop invariant-events decreases-events
-trying c = let found = (asked c).before in was-ready (scanned found.before)
+trying c = let found = (asked c).before in was_ready (scanned found.before)
 
-tested-fits : (c : tie.After-fitting invariant-loop decreases-loop invariant-events decreases-events)
+tested_fits : (c : tie.After-fitting invariant-loop decreases-loop invariant-events decreases-events)
     → let r = trying c in
     let a = (start r).args in
-    fits (settingIn a.w a.«record».now (event r)) a.allowed (kept r) ≡ c.fitting.result
+    fits (setting_in a.w a.«record».now (event r)) a.allowed (kept r) ≡ c.fitting.result
 unfolding fits
-tested-fits c =
+tested_fits c =
     rw (← (trying c).before.pending-event.ensures, ← c.before.before.before.kept-with.ensures.0)
     (sym c.fitting.ensures)
 
@@ -160,22 +160,22 @@ onward c turn seen =
 passed : (c : tie.Else1 invariant-loop decreases-loop invariant-events decreases-events) → let l = (head c.before).events in
     onward c.before l.turn l.inv.1.0 ≡ onward c.before (l.turn + 1) l.inv.1.0
 passed c =
-    tried-pass _ _ _ _ _ _ _ _ (omega arith) (placed c.before).place-in-turn.ensures.0
-    (tested-ready c.before ∙ c.if1.false)
+    tried_pass _ _ _ _ _ _ _ _ (omega arith) (placed c.before).place-in-turn.ensures.0
+    (tested_ready c.before ∙ c.if1.false)
 
-passed-full : (c : tie.Else4 invariant-loop decreases-loop invariant-events decreases-events) → let r = trying c.before in
+passed_full : (c : tie.Else4 invariant-loop decreases-loop invariant-events decreases-events) → let r = trying c.before in
     let l = (head r).events in
     onward r l.turn l.inv.1.0 ≡ onward r (l.turn + 1) true
-passed-full c =
-    tried-full _ _ _ _ _ _ _ _ (omega arith) (placed (trying c.before)).place-in-turn.ensures.0
-    (tested-ready (trying c.before) ∙ (scanned (asked c.before).before.before).before.if1.taken)
+passed_full c =
+    tried_full _ _ _ _ _ _ _ _ (omega arith) (placed (trying c.before)).place-in-turn.ensures.0
+    (tested_ready (trying c.before) ∙ (scanned (asked c.before).before.before).before.if1.taken)
     (is_known (asked c.before).before)
-    (tested-fits c.before ∙ c.if4.false)
+    (tested_fits c.before ∙ c.if4.false)
 
-still-long : (c : tie.Else4 invariant-loop decreases-loop invariant-events decreases-events)
+still_long : (c : tie.Else4 invariant-loop decreases-loop invariant-events decreases-events)
     → length c.before.before.before.before.kept-with.new.1.1.1.0
     ≡ length (start (trying c.before)).args.marks.now
-still-long c = search rules
+still_long c = search rules
 
 -- ---- The needs
 
@@ -189,7 +189,7 @@ in-order-requires : tie.Need-in-order-requires invariant-loop decreases-loop inv
 in-order-requires c κs = search rules
 
 events-holds : tie.Need-events-init invariant-loop decreases-loop invariant-events decreases-events
-unfolding triedFrom
+unfolding tried_from
 events-holds c = (search rules, (false, refl, refl, refl))
 
 place-in-turn-requires : tie.Need-place-in-turn-requires invariant-loop decreases-loop invariant-events decreases-events
@@ -210,7 +210,7 @@ loop-holds c = (search rules, search rules, refl)
 
 counts-at-requires : tie.Need-counts-at-requires invariant-loop decreases-loop invariant-events decreases-events
 counts-at-requires c κs =
-    let first = start (was-ready c.before.before) in
+    let first = start (was_ready c.before.before) in
     let l = c.before.loop in
     let inside = place-within l.j first.args.n first.args.w (search rules) in
     (search rules, (search rules, omega (arith, inside, first.pre.1.1.1.1.0.1)))
@@ -226,24 +226,24 @@ loop-less c = search rules
 
 loop-again : tie.Need-loop-preserved invariant-loop decreases-loop invariant-events decreases-events
 loop-again c =
-    let a = (start (was-ready (scanned c.before))).args in
+    let a = (start (was_ready (scanned c.before))).args in
     let l = c.before.before.before.before.loop in (
       search rules,
       search rules,
       l.invariant.2
-          ∙ search-next a.n (frontierAt a.w a.window.now) (stands (scanned c.before).lowered.result)
+          ∙ search_next a.n (frontier_at a.w a.window.now) (stands (scanned c.before).lowered.result)
           l.j (search rules)
-          (tested-here c.before ∙ c.if3.false),
+          (tested_here c.before ∙ c.if3.false),
     )
 
 kept-with-requires : tie.Need-kept-with-requires invariant-loop decreases-loop invariant-events decreases-events
 kept-with-requires c κs =
     let low = scanned c.before.before in
-    let first = start (was-ready low) in
+    let first = start (was_ready low) in
     let room = first.pre.1.1.1.1 in
-    let long = (head (was-ready low)).events.inv.1.3 in (
+    let long = (head (was_ready low)).events.inv.1.3 in (
       search rules,
-      (first.pre.1.0, (first.pre.1.1.0, (room.0, (read-ready low, omega (arith, long, room.1))))),
+      (first.pre.1.0, (first.pre.1.1.0, (room.0, (read_ready low, omega (arith, long, room.1))))),
     )
 
 fitting-requires : tie.Need-fitting-requires invariant-loop decreases-loop invariant-events decreases-events
@@ -271,16 +271,16 @@ events-again c =
           record { before = read; counts_same = v.5 } in
           let found : tie.Then3 invariant-loop decreases-loop invariant-events decreases-events = record { before = compared; if3 = v.6 } in
           let lent : tie.After-kept-with-arg invariant-loop decreases-loop invariant-events decreases-events =
-          record { before = found; kept-with-arg = v.7 } in
+          record { before = found; kept_with_arg = v.7 } in
           let counted : tie.After-kept-with invariant-loop decreases-loop invariant-events decreases-events =
-          record { before = lent; kept-with = v.8 } in
+          record { before = lent; kept_with = v.8 } in
           let marked : tie.After-marks invariant-loop decreases-loop invariant-events decreases-events =
           record { before = counted; marks = v.9 } in
           let same : tie.After-slice-known2 invariant-loop decreases-loop invariant-events decreases-events =
-          record { before = marked; slice-known2 = v.10 } in
+          record { before = marked; slice_known2 = v.10 } in
           let fit : tie.After-fitting invariant-loop decreases-loop invariant-events decreases-events = record { before = same; fitting = v.11 } in
           let past : tie.Else4 invariant-loop decreases-loop invariant-events decreases-events = record { before = fit; if4 = v.12 } in
-          (true, v.14, l.inv.1.2 ∙ passed-full past, ap length v.13 ∙ still-long past))
+          (true, v.14, l.inv.1.2 ∙ passed_full past, ap length v.13 ∙ still_long past))
           (λ v. (
             l.inv.1.0,
             v.2 ∙ l.inv.1.1,
@@ -294,10 +294,10 @@ same_length : tie.Need-same-length invariant-loop decreases-loop invariant-event
 same_length c = search rules
 
 returns : tie.Need-returns invariant-loop decreases-loop invariant-events decreases-events
-unfolding choiceFor
+unfolding choice_for
 returns c =
     let l = c.before.events in (
-      l.invariant.1.1 ∙ sym (ap (choiceFor _ _ _) (l.invariant.1.2 ∙ tried-end _ _ _ _ _ _ _ (omega arith))),
+      l.invariant.1.1 ∙ sym (ap (choice_for _ _ _) (l.invariant.1.2 ∙ tried-end _ _ _ _ _ _ _ (omega arith))),
       λ i kept e. let z : ◌≡◌ {A = ℕ} 0 1 = cc in absurd (omega arith),
     )
 
@@ -305,14 +305,14 @@ same-length-2 : tie.Need-same-length-2 invariant-loop decreases-loop invariant-e
 same-length-2 c = search rules
 
 returns-2 : tie.Need-returns-2 invariant-loop decreases-loop invariant-events decreases-events
-unfolding choiceFor
+unfolding choice_for
 returns-2 c =
     let low = c.before.before in
-    let l = (head (was-ready low)).events in (
-      sym (ap (choiceFor _ _ _)
+    let l = (head (was_ready low)).events in (
+      sym (ap (choice_for _ _ _)
           (l.inv.1.2
-          ∙ tried-false _ _ _ _ _ _ _ _ (omega arith) (placed (was-ready low)).place-in-turn.ensures.0
-          (tested-ready (was-ready low) ∙ low.before.if1.true) (not_known c))),
+          ∙ tried-false _ _ _ _ _ _ _ _ (omega arith) (placed (was_ready low)).place-in-turn.ensures.0
+          (tested_ready (was_ready low) ∙ low.before.if1.true) (not_known c))),
       λ i kept e. let z : ◌≡◌ {A = ℕ} 0 1 = cc in absurd (omega arith),
     )
 
@@ -320,7 +320,7 @@ same-length-3 : tie.Need-same-length-3 invariant-loop decreases-loop invariant-e
 same-length-3 c = search rules
 
 returns-3 : tie.Need-returns-3 invariant-loop decreases-loop invariant-events decreases-events
-unfolding choiceFor
+unfolding choice_for
 returns-3 c =
     let r = trying c.before in
     let a = (start r).args in
@@ -330,13 +330,13 @@ returns-3 c =
     let read = r.before.pending-event.ensures in (
       ap (Chosen place.result)
           (counted.ensures.0
-          ∙ ap (λ (e : Event). keptAfter (settingIn a.w a.«record».now e)
+          ∙ ap (λ (e : Event). kept_after (setting_in a.w a.«record».now e)
           (frontiers a.w a.window.now a.n)) read)
-          ∙ sym (ap (choiceFor a.w a.«record».now (frontiers a.w a.window.now a.n))
+          ∙ sym (ap (choice_for a.w a.«record».now (frontiers a.w a.window.now a.n))
           (l.inv.1.2 ∙ tried-fits _ _ _ _ _ _ _ _ (omega arith) place.ensures.0
-          (tested-ready r ∙ (scanned (asked c.before).before.before).before.if1.taken)
+          (tested_ready r ∙ (scanned (asked c.before).before.before).before.if1.taken)
           (is_known (asked c.before).before)
-          (tested-fits c.before ∙ c.if4.true))),
+          (tested_fits c.before ∙ c.if4.true))),
       λ i kept e. let same : i ≡ place.result = cc in rw (same, ← read) counted.ensures.1,
     )
 

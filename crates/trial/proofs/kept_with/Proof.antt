@@ -11,19 +11,19 @@ use borrow.Author.Rules.{rules}
 use Rattle.trial.proofs.kept_with.Statement.{statement}
 use Rattle.clocks.specs.declared.Event.{Event}
 use Rattle.clocks.specs.Event.{Cut, involved, count, apply}
-use Rattle.clocks.specs.Tested.{readyAt, ready}
-use Rattle.clocks.specs.stored.BoundedLaws.{all-e}
+use Rattle.clocks.specs.Tested.{ready_at, ready}
+use Rattle.clocks.specs.stored.BoundedLaws.{all_e}
 use Rattle.clocks.specs.Counts.{at, list_of}
-use Rattle.records.specs.Record.{lineTotal, tablePlace, takenCounts, readyIn}
-use Rattle.trial.specs.SettingLaws.{setting-lent}
+use Rattle.records.specs.Record.{line_total, table_place, taken_counts, ready_in}
+use Rattle.trial.specs.SettingLaws.{setting_lent}
 
 -- An event that is ready somewhere has a count above 0 at each of its processes.
 ready-counted : (n : ℕ) (e : Event) (S : Cut) → T (ready n e S) → (p : ℕ) → p < n → involved e p ≡ true → 0 < count e p
 unfolding ready
 ready-counted n e S t p l =
-    above (involved e p) (all-e n (λ q. readyAt (involved e q) (count e q) (S q)) t p l)
+    above (involved e p) (all_e n (λ q. ready_at (involved e q) (count e q) (S q)) t p l)
   where
-    above : (b : Bool) → T (readyAt b (count e p) (S p)) → b ≡ true → 0 < count e p
+    above : (b : Bool) → T (ready_at b (count e p) (S p)) → b ≡ true → 0 < count e p
     above true next h = omega (arith, eqb→eq (count e p) (S p + 1) next)
     above false next h = absurd (true≢false (sym h))
 
@@ -50,11 +50,11 @@ taken-counts-requires : tie.Need-taken-counts-requires
 taken-counts-requires c κs = search rules
 
 apply-requires : tie.Need-apply-requires
-unfolding readyIn
+unfolding ready_in
 apply-requires c κs = rw c.taken-counts.ensures (start (counted c)).requires.1.1.1.1.0
 
 count-after-requires : tie.Need-count-after-requires
-unfolding readyIn
+unfolding ready_in
 count-after-requires c κs =
     let b = start (counted c.before.before) in
     (search rules, (search rules, (search rules, (search rules, ready-counted 8 b.args.e _ b.pre.1.1.1.1.0))))
@@ -74,9 +74,9 @@ returns c =
     let closed = step.before.before.closed-mask in
     let a = (start processes).args in
     let s = a.«record».now in
-    let counts : step.apply.result ≡ list_of 8 (apply a.e (at (takenCounts a.w s))) =
+    let counts : step.apply.result ≡ list_of 8 (apply a.e (at (taken_counts a.w s))) =
     step.apply.ensures ∙ ap (λ (l : List ℕ). list_of 8 (apply a.e (at l))) step.before.taken-counts.ensures in
-    let setting = setting-lent a.w s a.e _ _ (tablePlace a.w) (lineTotal s) _ (small (start processes))
+    let setting = setting_lent a.w s a.e _ _ (table_place a.w) (line_total s) _ (small (start processes))
     processes.process-count.ensures.0 closed.ensures.0 refl refl counts in
     let kept = c.before.before.count-after.ensures in
     (rw setting (kept.0 _ _), rw setting (kept.1.1 _ _))

@@ -9,18 +9,18 @@ use Rattle.clocks.specs.Event.{apply}
 use Rattle.clocks.specs.Counts.{at, list_of}
 use Rattle.clocks.specs.Tested.{ready}
 use Rattle.updates.proofs.count_taken.Statement.{statement}
-use Rattle.records.specs.Record.{counted, takenCounts, readyIn}
-use Rattle.updates.proofs.UpdateSteps.{applied-fits}
+use Rattle.records.specs.Record.{counted, taken_counts, ready_in}
+use Rattle.updates.proofs.UpdateSteps.{applied_fits}
 
 taken-counts-requires : tie.Need-taken-counts-requires
 taken-counts-requires c κs = search rules
 
 -- The counts that were read are the taken ones, and those that are stored are theirs with the event.
-stored : (c : tie.After-apply) → c.apply.result ≡ list_of 8 (apply c.before.before.before.before.args.e (at (takenCounts c.before.before.before.before.args.w c.before.before.before.before.args.«record».now)))
+stored : (c : tie.After-apply) → c.apply.result ≡ list_of 8 (apply c.before.before.before.before.args.e (at (taken_counts c.before.before.before.before.args.w c.before.before.before.before.args.«record».now)))
 stored c = let a = c.before.before.before.before.args in c.apply.ensures ∙ ap (λ (l : List ℕ). list_of 8 (apply a.e (at l))) c.before.taken-counts.ensures
 
 apply-requires : tie.Need-apply-requires
-unfolding readyIn
+unfolding ready_in
 apply-requires c κs =
     let a = c.before.before.before.args in
     subst⁻¹ (λ (l : List ℕ). T (ready 8 a.e (at l))) c.taken-counts.ensures c.before.before.before.requires.1.1.1
@@ -31,7 +31,7 @@ write-u32-requires c κs = search rules
 write-counts-at-requires : tie.Need-write-counts-at-requires
 write-counts-at-requires c κs =
     let a = c.before.before.before.before.before.before.before.before.before.args in
-    (search rules, (search rules, λ p. rw (stored c.before.before.before.before.before) (applied-fits a.w a.«record».now a.e (λ i. (c.before.before.before.before.before.before.before.before.slice-known.given i).fits) c.before.before.before.before.before.before.before.before.before.requires.1.1.1 c.before.before.before.before.before.before.before.before.before.requires.1.1.0 p)))
+    (search rules, (search rules, λ p. rw (stored c.before.before.before.before.before) (applied_fits a.w a.«record».now a.e (λ i. (c.before.before.before.before.before.before.before.before.slice-known.given i).fits) c.before.before.before.before.before.before.before.before.before.requires.1.1.1 c.before.before.before.before.before.before.before.before.before.requires.1.1.0 p)))
 
 set-clocks-requires : tie.Need-set-clocks-requires
 set-clocks-requires c κs = (search rules, (search rules, c.before.before.before.before.before.before.before.before.before.before.before.before.before.requires.1.1.0))

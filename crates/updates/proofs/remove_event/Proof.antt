@@ -1,4 +1,4 @@
--- The events behind are moved down, then the last place is cleared: the law `stored-removed`.
+-- The events behind are moved down, then the last place is cleared: the law `stored_removed`.
 use Rattle.updates.proofs.remove_event.Tie as tie
 use Prim.Native.Nat.{◌-◌}
 use native.Mathlib.Omega.{arith}
@@ -6,8 +6,8 @@ use mathlib.Core.Path.{sym}
 use lib.ListN.{length-set}
 use borrow.Author.Rules.{rules}
 use Rattle.updates.proofs.remove_event.Statement.{statement}
-use Rattle.records.specs.RecordLaws.{place-below, event-within}
-use Rattle.updates.proofs.UpdateSteps.{stored-removed}
+use Rattle.records.specs.RecordLaws.{place_below, event-within}
+use Rattle.updates.proofs.UpdateSteps.{stored_removed}
 
 pending-count-requires : tie.Need-pending-count-requires
 pending-count-requires c κs = search rules
@@ -25,13 +25,13 @@ event-length-requires : tie.Need-event-length-requires
 event-length-requires c κs = search rules
 
 sub-move-down : tie.Need-overflow-sub-move-down
-sub-move-down c = let a = c.before.before.before.before.before.before.before.args in omega (arith, place-below a.w a.i (c.before.before.before.before.pending-count.result - 1) (search rules))
+sub-move-down c = let a = c.before.before.before.before.before.before.before.args in omega (arith, place_below a.w a.i (c.before.before.before.before.pending-count.result - 1) (search rules))
 
 move-down-requires : tie.Need-move-down-requires
 move-down-requires c κs =
     let a = c.before.before.before.before.before.before.before.args in
     let n = c.before.before.before.before.pending-count.result in
-    omega (arith, place-below a.w a.i (n - 1) (search rules), event-within a.w (n - 1) (search rules))
+    omega (arith, place_below a.w a.i (n - 1) (search rules), event-within a.w (n - 1) (search rules))
 
 clear-requires : tie.Need-clear-requires
 clear-requires c κs =
@@ -62,7 +62,7 @@ returns c =
       c.before.before.before.before.before.before.before.before.before.pending-place2.ensures.0,
       c.before.before.before.before.before.before.before.before.before.before.pending-place.ensures.0,
     )
-    (stored-removed a.w a.i n a.«record».now (sym
+    (stored_removed a.w a.i n a.«record».now (sym
     c.before.before.before.before.before.before.before.before.before.before.before.pending-count.ensures.0) (search rules) (search rules) (search rules))
 
 pub remove-event-spec : {M : Type 1} → statement M

@@ -1,5 +1,5 @@
--- The clocks of the processes passed are stored; the next is stored or passed over: the laws `clocks-next` and
--- `clocks-skip`.
+-- The clocks of the processes passed are stored; the next is stored or passed over: the laws `clocks_next` and
+-- `clocks_skip`.
 use Rattle.updates.proofs.set_clocks.Tie as tie
 use Prim.Native.Nat.{◌+◌, ◌-◌, ◌*◌, ◌≤◌, ℕ}
 use native.Mathlib.Omega.{arith}
@@ -8,12 +8,12 @@ use mathlib.Core.Logic.{⊎_elim}
 use lib.ListN.{length}
 use borrow.Author.Rules.{rules}
 use Rattle.updates.proofs.set_clocks.Statement.{statement}
-use Rattle.updates.proofs.UpdateSteps.{bare, clocksSet-bare, clocks-none, clocks-next, clocks-skip}
-use Rattle.records.specs.Record.{clocksPlace, clocksSet}
-use Rattle.records.specs.RecordLaws.{clock-within, clock-next}
+use Rattle.updates.proofs.UpdateSteps.{bare, clocks_set-bare_lem, clocks_none, clocks_next, clocks_skip}
+use Rattle.records.specs.Record.{clocks_place, clocks_set}
+use Rattle.records.specs.RecordLaws.{clock_within, clock_next}
 
 abbrev invariant-loop : tie.invariant-loop
-invariant-loop s₀ w mask clock place₀ p₀ s place p = (p ≤ 8) × (place ≡ clocksPlace w + p * (8 * w)) × (length s ≡ length s₀) × (s ≡ clocksSet w p s₀ (bare mask clock))
+invariant-loop s₀ w mask clock place₀ p₀ s place p = (p ≤ 8) × (place ≡ clocks_place w + p * (8 * w)) × (length s ≡ length s₀) × (s ≡ clocks_set w p s₀ (bare mask clock))
 
 abbrev decreases-loop : tie.decreases-loop
 decreases-loop s₀ w mask clock place₀ p₀ s place p = 8 - p
@@ -28,7 +28,7 @@ add-place : tie.Need-overflow-add-place invariant-loop decreases-loop
 add-place c = search rules
 
 loop-holds : tie.Need-loop-init invariant-loop decreases-loop
-loop-holds c = let a = c.before.before.before.args in (search rules, search rules, search rules, clocks-none a.w a.«record».now (bare a.e.mask a.e.clock))
+loop-holds c = let a = c.before.before.before.args in (search rules, search rules, search rules, clocks_none a.w a.«record».now (bare a.e.mask a.e.clock))
 
 has-bit-requires : tie.Need-has-bit-requires invariant-loop decreases-loop
 has-bit-requires c κs = search rules
@@ -36,7 +36,7 @@ has-bit-requires c κs = search rules
 write-counts-at-requires : tie.Need-write-counts-at-requires invariant-loop decreases-loop
 write-counts-at-requires c κs =
     let a = c.before.before.before.before.before.before.before.before.args in
-    (search rules, (omega (arith, clock-within a.w c.before.before.before.before.loop.p (search rules)), c.before.before.before.before.before.before.before.before.requires.1.1))
+    (search rules, (omega (arith, clock_within a.w c.before.before.before.before.loop.p (search rules)), c.before.before.before.before.before.before.before.before.requires.1.1))
 
 mul-place-2 : tie.Need-overflow-mul-place-2 invariant-loop decreases-loop
 mul-place-2 c = search rules
@@ -44,7 +44,7 @@ mul-place-2 c = search rules
 add-place-2 : tie.Need-overflow-add-place-2 invariant-loop decreases-loop
 add-place-2 c =
     let a = c.before.before.before.before.before.before.before.args in
-    record { fits = omega (arith, clock-within a.w c.before.before.before.loop.p (search rules)) }
+    record { fits = omega (arith, clock_within a.w c.before.before.before.loop.p (search rules)) }
 
 add-p : tie.Need-overflow-add-p invariant-loop decreases-loop
 add-p c = search rules
@@ -56,10 +56,10 @@ loop-again : tie.Need-loop-preserved invariant-loop decreases-loop
 loop-again c =
     let a = c.before.before.before.before.before.before.before.args in
     let l = c.before.before.before.loop in
-    let next = clocks-next a.w l.p a.«record».now a.e.mask a.e.clock in
-    let skip = clocks-skip a.w l.p a.«record».now a.e.mask a.e.clock in (
+    let next = clocks_next a.w l.p a.«record».now a.e.mask a.e.clock in
+    let skip = clocks_skip a.w l.p a.«record».now a.e.mask a.e.clock in (
       search rules,
-      omega (arith, clock-next a.w l.p),
+      omega (arith, clock_next a.w l.p),
       ⊎_elim (λ v. omega (arith, ap length v.5)) (λ v. omega (arith, ap length v.1)) c.if1.branch,
       ⊎_elim (λ v. cc (next (sym c.before.has-bit.ensures ∙ v.0.taken))) (λ v. cc (skip (sym c.before.has-bit.ensures ∙ v.0.left))) c.if1.branch,
     )
@@ -71,7 +71,7 @@ returns : tie.Need-returns invariant-loop decreases-loop
 returns c =
     let a = c.before.before.before.before.before.args in
     let all : c.before.loop.p ≡ 8 = omega arith in
-    c.before.loop.invariant.3 ∙ ap (λ (n : ℕ). clocksSet a.w n a.«record».now (bare a.e.mask a.e.clock)) all ∙ clocksSet-bare a.w 8 a.«record».now a.e
+    c.before.loop.invariant.3 ∙ ap (λ (n : ℕ). clocks_set a.w n a.«record».now (bare a.e.mask a.e.clock)) all ∙ clocks_set-bare_lem a.w 8 a.«record».now a.e
 
 pub set-clocks-spec : {M : Type 1} → statement M
 set-clocks-spec =

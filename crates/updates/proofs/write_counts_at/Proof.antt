@@ -1,8 +1,8 @@
--- Storing at the start of the tail is storing at its place: the law `lent-tail`.
+-- Storing at the start of the tail is storing at its place: the law `lent_tail`.
 use Rattle.updates.proofs.write_counts_at.Tie as tie
 use borrow.Author.Rules.{rules}
-use Rattle.frontiers.specs.StoreLaws.{lent-tail}
-use Rattle.frontiers.specs.Bytes.{countBytes}
+use Rattle.frontiers.specs.StoreLaws.{lent_tail}
+use Rattle.frontiers.specs.Bytes.{count_bytes}
 use Rattle.updates.proofs.write_counts_at.Statement.{statement}
 
 sub-write-counts : tie.Need-overflow-sub-write-counts
@@ -23,7 +23,7 @@ same_length c = search rules
 returns : tie.Need-returns
 returns c =
     let a = c.before.before.before.before.before.args in
-    cc (lent-tail a.«record».now a.place (countBytes a.w a.counts))
+    cc (lent_tail a.«record».now a.place (count_bytes a.w a.counts))
 
 pub write-counts-at-spec : {M : Type 1} → statement M
 write-counts-at-spec =

@@ -1,10 +1,10 @@
--- The four parts are stored one behind the other: the law `stored-event`.
+-- The four parts are stored one behind the other: the law `stored_event`.
 use Rattle.updates.proofs.write_event.Tie as tie
 use native.Mathlib.Omega.{arith}
 use lib.ListN.{length-set}
 use borrow.Author.Rules.{rules}
 use Rattle.updates.proofs.write_event.Statement.{statement}
-use Rattle.updates.proofs.UpdateSteps.{stored-event}
+use Rattle.updates.proofs.UpdateSteps.{stored_event}
 
 add-behind : tie.Need-overflow-add-behind
 add-behind c = search rules
@@ -36,7 +36,7 @@ same_length c = let a = c.before.before.before.before.before.before.before.befor
 returns : tie.Need-returns
 returns c =
     let a = c.before.before.before.before.before.before.before.before.before.before.before.before.before.before.before.args in
-    cc (stored-event a.w a.«record».now a.place a.e (search rules))
+    cc (stored_event a.w a.«record».now a.place a.e (search rules))
 
 pub write-event-spec : {M : Type 1} → statement M
 write-event-spec =

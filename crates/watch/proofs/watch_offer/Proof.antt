@@ -3,7 +3,7 @@ use Rattle.watch.proofs.watch_offer.Tie as tie
 use mathlib.Core.List.{[], ◌∷◌}
 use borrow.Author.Rules.{rules}
 use Rattle.watch.proofs.watch_offer.Statement.{statement}
-use Rattle.call_words.specs.WordLaws.{counts-fit}
+use Rattle.call_words.specs.WordLaws.{counts_fit}
 
 unpack-counts-requires : tie.Need-unpack-counts-requires
 unpack-counts-requires c κs = search rules
@@ -14,7 +14,7 @@ unpack-labels-requires c κs = search rules
 offer-requires : tie.Need-offer-requires
 offer-requires c κs =
     let a = c.before.before.before.before.args in
-    (search rules, λ p. rw c.before.before.unpack-counts.ensures (counts-fit 2 (a.low ∷ a.high ∷ []) p))
+    (search rules, λ p. rw c.before.before.unpack-counts.ensures (counts_fit 2 (a.low ∷ a.high ∷ []) p))
 
 same_length : tie.Need-same-length
 same_length c = search rules

@@ -3,7 +3,7 @@ use Rattle.watch32.proofs.watch32_offer.Tie as tie
 use mathlib.Core.List.{[], ◌∷◌}
 use borrow.Author.Rules.{rules}
 use Rattle.watch32.proofs.watch32_offer.Statement.{statement}
-use Rattle.call_words.specs.WordLaws.{counts-fit}
+use Rattle.call_words.specs.WordLaws.{counts_fit}
 
 unpack-wide-counts-requires : tie.Need-unpack-wide-counts-requires
 unpack-wide-counts-requires c κs = search rules
@@ -14,7 +14,7 @@ unpack-labels-requires c κs = search rules
 offer-requires : tie.Need-offer-requires
 offer-requires c κs =
     let a = c.before.before.before.before.args in
-    (search rules, λ p. rw c.before.before.unpack-wide-counts.ensures (counts-fit 4 (a.c01 ∷ a.c23 ∷ a.c45 ∷ a.c67 ∷ []) p))
+    (search rules, λ p. rw c.before.before.unpack-wide-counts.ensures (counts_fit 4 (a.c01 ∷ a.c23 ∷ a.c45 ∷ a.c67 ∷ []) p))
 
 same_length : tie.Need-same-length
 same_length c = search rules

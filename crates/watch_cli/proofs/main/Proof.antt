@@ -8,11 +8,11 @@ use mathlib.Core.Bool.{Bool, true, false, not, ◌&&◌, ◌||◌}
 use lib.Dec.{ltb}
 use lib.ListN.{length}
 use lib.Seq.{length-take-le}
-use Rattle.records.specs.Record.{recordLength}
-use Rattle.reply_text.specs.Form.{programWidth, programWindow}
-use Rattle.replies.specs.Following.{overStage}
+use Rattle.records.specs.Record.{record_length}
+use Rattle.reply_text.specs.Form.{program_width, program_window}
+use Rattle.replies.specs.Following.{over_stage}
 use Rattle.program.specs.Stages.{Within}
-use Rattle.program.specs.Turn.{atFirst}
+use Rattle.program.specs.Turn.{at_first}
 use borrow.Author.Tests.{ltb-true}
 use borrow.Author.Rules.{rules}
 use Rattle.watch_cli.proofs.main.Statement.{statement}
@@ -26,9 +26,9 @@ goes_on false b e = sym e
 abbrev invariant-loop : tie.invariant-loop
 invariant-loop chunk₀ line₀ rule₀ state₀ window₀ scratch₀ out₀ session₀ input₀ left₀ chunk line rule state window scratch out
     session input left =
-    (input.end ≤ 4096) × (session.stage < overStage) × Within 4112 session × (length chunk ≡ 4096)
-    × (length line ≡ 4112) × (length rule ≡ 4112) × (length state ≡ recordLength programWidth)
-    × (length window ≡ programWindow) × (length scratch ≡ programWindow) × (length out ≡ 34 * 256)
+    (input.end ≤ 4096) × (session.stage < over_stage) × Within 4112 session × (length chunk ≡ 4096)
+    × (length line ≡ 4112) × (length rule ≡ 4112) × (length state ≡ record_length program_width)
+    × (length window ≡ program_window) × (length scratch ≡ program_window) × (length out ≡ 34 * 256)
 
 abbrev decreases-loop : tie.decreases-loop
 decreases-loop chunk₀ line₀ rule₀ state₀ window₀ scratch₀ out₀ session₀ input₀ left₀ chunk line rule state window scratch out
@@ -50,7 +50,7 @@ begin-requires : tie.Need-begin-requires invariant-loop decreases-loop
 begin-requires c κs = search rules
 
 loop-holds : tie.Need-loop-init invariant-loop decreases-loop
-unfolding atFirst
+unfolding at_first
 loop-holds c =
     let first = (c.begin.ensures.0 [] [] []).stage in
     (omega arith, omega (arith, first), c.begin.ensures.1 4112, refl, refl, refl, refl, refl, refl, refl)
@@ -131,7 +131,7 @@ loop-again c =
     let unwritten = not c.before.before.before.before.write-all.result in
     let on = goes_on r.result.on (unwritten && ltb (head n).loop.session.stage 3) c.before.if2.false in (
       omega (arith, n.next-line.ensures.1, chunk),
-      ltb-true r.result.session.stage overStage (sym r.ensures.1.1.1 ∙ on),
+      ltb-true r.result.session.stage over_stage (sym r.ensures.1.1.1 ∙ on),
       subst (λ (m : ℕ). Within m r.result.session) rule r.ensures.1.0,
       chunk,
       kept.line2.given,

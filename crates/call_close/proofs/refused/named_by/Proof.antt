@@ -1,5 +1,5 @@
--- No pending event passed names the process; the first that does decides: the laws `search-next`, `search-here`,
--- `search-none`.
+-- No pending event passed names the process; the first that does decides: the laws `search_next`, `search_here`,
+-- `search_none`.
 use Rattle.call_close.proofs.refused.named_by.Tie as tie
 use native.Mathlib.Omega.{arith}
 use mathlib.Core.Path.{◌≡◌, refl, sym, ap, ◌∙◌}
@@ -8,16 +8,16 @@ use lib.ListN.{get_or}
 use borrow.Author.Rules.{rules}
 use Rattle.codec.specs.Bit.{bit}
 use Rattle.clocks.specs.Event.{involved}
-use Rattle.clocks.specs.stored.SearchLaws.{passesFrom, search-here, search-next, search-none}
-use Rattle.records.specs.Record.{pendingCount, pendingAt, pendingEvents}
+use Rattle.clocks.specs.stored.SearchLaws.{passes_from, search_here, search_next, search_none}
+use Rattle.records.specs.Record.{pending_count, pending_at, pending_events}
 use Rattle.records.specs.RecordLaws.{event-within}
 use Rattle.refusals.specs.Refusals.{named_by}
 use Rattle.call_close.proofs.refused.named_by.Statement.{statement}
 
 abbrev invariant-loop : tie.invariant-loop
 invariant-loop s w p n i₀ i =
-    (i ≤ n) × (named_by p (pendingEvents w s)
-    ≡ passesFrom (pendingCount s) (pendingAt w s) (λ e. involved e p) i)
+    (i ≤ n) × (named_by p (pending_events w s)
+    ≡ passes_from (pending_count s) (pending_at w s) (λ e. involved e p) i)
 
 abbrev decreases-loop : tie.decreases-loop
 decreases-loop s w p n i₀ i = n - i
@@ -33,7 +33,7 @@ pending-count-requires : tie.Need-pending-count-requires invariant-loop decrease
 pending-count-requires c κs = search rules
 
 loop-holds : tie.Need-loop-init invariant-loop decreases-loop
-unfolding named_by pendingEvents
+unfolding named_by pending_events
 loop-holds c = (search rules, refl)
 
 pending-place-requires : tie.Need-pending-place-requires invariant-loop decreases-loop
@@ -52,8 +52,8 @@ has-bit-requires c κs = search rules
 
 -- The call's answer is that of pending event number i.
 here : (c : tie.After-has-bit invariant-loop decreases-loop) → let a = (start (head c)).args in
-    involved (pendingAt a.w a.«record».now (head c).loop.i) a.p ≡ c.has-bit.result
-unfolding involved pendingAt
+    involved (pending_at a.w a.«record».now (head c).loop.i) a.p ≡ c.has-bit.result
+unfolding involved pending_at
 here c =
     let a = (start (head c)).args in
     sym (c.has-bit.ensures
@@ -66,7 +66,7 @@ returns c =
     let s = a.«record».now in
     let found = here c.before ∙ c.if1.true in
     sym (l.inv.1
-    ∙ search-here (pendingCount s) (pendingAt a.w s) (λ e. involved e a.p) l.i (omega arith) found)
+    ∙ search_here (pending_count s) (pending_at a.w s) (λ e. involved e a.p) l.i (omega arith) found)
 
 add-i : tie.Need-overflow-add-i invariant-loop decreases-loop
 add-i c = search rules
@@ -82,7 +82,7 @@ loop-again c =
     let passed = here c.before ∙ c.if1.false in (
       search rules,
       l.inv.1
-          ∙ search-next (pendingCount s) (pendingAt a.w s) (λ e. involved e a.p) l.i (omega arith) passed,
+          ∙ search_next (pending_count s) (pending_at a.w s) (λ e. involved e a.p) l.i (omega arith) passed,
     )
 
 returns-2 : tie.Need-returns-2 invariant-loop decreases-loop
@@ -90,7 +90,7 @@ returns-2 c =
     let a = (start c.before).args in
     let l = c.before.loop in
     let s = a.«record».now in
-    sym (l.invariant.1 ∙ search-none (pendingCount s) (pendingAt a.w s) (λ e. involved e a.p) l.i (omega arith))
+    sym (l.invariant.1 ∙ search_none (pending_count s) (pending_at a.w s) (λ e. involved e a.p) l.i (omega arith))
 
 pub named-by-spec : {M : Type 1} → statement M
 named-by-spec =

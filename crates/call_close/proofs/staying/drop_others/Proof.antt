@@ -1,4 +1,4 @@
--- Those that stay, then zeros where there were more: the law `cleared-behind`.
+-- Those that stay, then zeros where there were more: the law `cleared_behind`.
 use Rattle.call_close.proofs.staying.drop_others.Tie as tie
 use native.Mathlib.Omega.{arith}
 use mathlib.Core.Path.{◌∙◌}
@@ -6,10 +6,10 @@ use Prim.Native.Nat.{◌≤◌, ◌*◌}
 use lib.ListN.{length}
 use native.Mathlib.Nat.{mul-le-mul_right}
 use borrow.Author.Rules.{rules}
-use Rattle.frontiers.specs.Bytes.{frontierLength}
-use Rattle.frontiers.specs.WindowLaws.{left-within}
+use Rattle.frontiers.specs.Bytes.{frontier_length}
+use Rattle.frontiers.specs.WindowLaws.{left_within}
 use Rattle.call_close.specs.CloseCode.{staying}
-use Rattle.call_close.proofs.StayingSteps.{cleared-behind}
+use Rattle.call_close.proofs.StayingSteps.{cleared_behind}
 use Rattle.call_close.proofs.staying.drop_others.Statement.{statement}
 
 -- ---- Places in the walk: the start, when those that stay are moved, and when what is left is measured
@@ -41,10 +41,10 @@ clear-requires : tie.Need-clear-requires
 clear-requires c κs =
     let m = (moved c).keep-staying.result in
     let a = (start (moved c)).args in
-    let F = frontierLength a.w in
+    let F = frontier_length a.w in
     let room : a.n * F ≤ length a.window.now = search rules in
     let few : m * F ≤ a.n * F = mul-le-mul_right F (moved c).keep-staying.ensures.0 in
-    omega (arith, left-within F m a.n (length a.window.now) (omega arith) room)
+    omega (arith, left_within F m a.n (length a.window.now) (omega arith) room)
 
 same_length : tie.Need-same-length
 same_length c = search rules
@@ -60,7 +60,7 @@ returns c =
     let gs = staying a.w a.k a.closed a.reached a.window.now a.n in
     let bytes =
     b.clear.ensures
-    ∙ cleared-behind a.w a.n kept.result far.result left.frontier-place2.result a.window.now _ gs
+    ∙ cleared_behind a.w a.n kept.result far.result left.frontier-place2.result a.window.now _ gs
     kept.ensures.1.0 far.ensures.0 left.frontier-place2.ensures.0 kept.ensures.1.1 in
     (few, (kept.ensures.1.0, bytes))
 

@@ -1,5 +1,5 @@
 -- Those that stay among the frontiers passed are laid together, and the next is read as it was, since they end before
--- it: the laws `read_here`, `laid_next` and `laid-passed`.
+-- it: the laws `read_here`, `laid_next` and `laid_passed`.
 use Rattle.call_close.proofs.staying.keep_staying.Tie as tie
 use native.Mathlib.Omega.{arith}
 use mathlib.Core.Path.{◌≡◌, sym, ap, ◌∙◌}
@@ -9,16 +9,16 @@ use lib.ListN.{length, get_or}
 use mathlib.Core.Logic.{⊎_elim}
 use borrow.Author.Rules.{rules}
 use Rattle.frontiers.specs.declared.Frontier.{Frontier}
-use Rattle.frontiers.specs.Bytes.{frontierLength, frontierAt}
+use Rattle.frontiers.specs.Bytes.{frontier_length, frontier_at}
 use Rattle.frontiers.specs.WindowLaws.{place-within}
-use Rattle.window.specs.StepCode.{staysWith}
+use Rattle.window.specs.StepCode.{stays_with}
 use Rattle.call_close.specs.CloseCode.{staying}
-use Rattle.call_close.proofs.StayingSteps.{Laid, laid_none, read_here, laid_next, laid-passed}
+use Rattle.call_close.proofs.StayingSteps.{Laid, laid_none, read_here, laid_next, laid_passed}
 use Rattle.call_close.proofs.staying.keep_staying.Statement.{statement}
 
 abbrev invariant-loop : tie.invariant-loop
 invariant-loop window₀ w n k closed reached opens m₀ i₀ window m i =
-    (i ≤ n) × Laid (λ f. staysWith k closed reached f.counts) w window₀ i m window
+    (i ≤ n) × Laid (λ f. stays_with k closed reached f.counts) w window₀ i m window
 
 abbrev decreases-loop : tie.decreases-loop
 decreases-loop window₀ w n k closed reached opens m₀ i₀ window m i = n - i
@@ -36,7 +36,7 @@ open-ones-requires c κs = search rules
 loop-holds : tie.Need-loop-init invariant-loop decreases-loop
 loop-holds c =
     let a = c.before.before.args in
-    (search rules, laid_none (λ f. staysWith a.k a.closed a.reached f.counts) a.w a.window.now)
+    (search rules, laid_none (λ f. stays_with a.k a.closed a.reached f.counts) a.w a.window.now)
 
 counts-at-requires : tie.Need-counts-at-requires invariant-loop decreases-loop
 counts-at-requires c κs =
@@ -70,17 +70,17 @@ loop-again c =
     let a = (start h).args in
     let s = a.window.now in
     let l = h.loop in
-    let t : Frontier → Bool = λ f. staysWith a.k a.closed a.reached f.counts in
+    let t : Frontier → Bool = λ f. stays_with a.k a.closed a.reached f.counts in
     let room = place-within l.i a.n a.w (search rules) in
-    let fits : l.i * frontierLength a.w + frontierLength a.w ≤ length s = omega (arith, room) in
+    let fits : l.i * frontier_length a.w + frontier_length a.w ≤ length s = omega (arith, room) in
     let bytes : (i : ℕ) → get_or s i 0 < 256 = λ i. (h.before.before.slice-known.given i).fits in
     let same = read_here t a.w s l.i bytes fits l.m l.window l.inv.1 in
-    let here : t (frontierAt a.w s l.i) ≡ c.before.stays.result =
+    let here : t (frontier_at a.w s l.i) ≡ c.before.stays.result =
     sym (c.before.stays.ensures a.k a.closed (search rules) h.before.open-ones.ensures
-    ∙ ap (staysWith a.k a.closed a.reached) read.counts-at.ensures
+    ∙ ap (stays_with a.k a.closed a.reached) read.counts-at.ensures
     ∙ ap t same) in
     let next = laid_next t a.w s l.i bytes fits l.m l.window l.inv.1 in
-    let passed = laid-passed t a.w s l.i bytes fits l.m l.window l.inv.1 in (
+    let passed = laid_passed t a.w s l.i bytes fits l.m l.window l.inv.1 in (
       search rules,
       ⊎_elim
           (λ v. rw v.6 (next c.if1.window (here ∙ v.0.taken) (v.5 ∙ v.2.ensures)))

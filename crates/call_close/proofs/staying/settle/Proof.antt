@@ -1,4 +1,4 @@
--- A frontier that stands there already is as good as moved; another is moved by the law `moved-to`.
+-- A frontier that stands there already is as good as moved; another is moved by the law `moved_to`.
 use Rattle.call_close.proofs.staying.settle.Tie as tie
 use native.Mathlib.Omega.{arith}
 use mathlib.Core.Path.{◌≡◌, sym, ◌∙◌}
@@ -6,8 +6,8 @@ use Prim.Native.Nat.{◌-◌, ◌+◌, ◌*◌}
 use native.Mathlib.Nat.{mul-le-mul_right}
 use borrow.Author.Rules.{rules}
 use Rattle.codec.specs.SetsLaws.{sets_same}
-use Rattle.frontiers.specs.Bytes.{frontierLength}
-use Rattle.call_close.proofs.StayingSteps.{moved-to}
+use Rattle.frontiers.specs.Bytes.{frontier_length}
+use Rattle.call_close.proofs.StayingSteps.{moved_to}
 use Rattle.call_close.proofs.staying.settle.Statement.{statement}
 
 -- The start, from where a frontier's length is known, and that place, from the move.
@@ -22,7 +22,7 @@ returns c =
     let a = c.before.before.args in
     let s = a.window.now in
     let e : a.m ≡ a.i = omega arith in
-    sym (rw e (sets_same s (a.i * frontierLength a.w) (frontierLength a.w)))
+    sym (rw e (sets_same s (a.i * frontier_length a.w) (frontier_length a.w)))
 
 frontier-place-requires : tie.Need-frontier-place-requires
 frontier-place-requires c κs = search rules
@@ -36,12 +36,12 @@ frontier-length-requires c κs = search rules
 sub-move-down : tie.Need-overflow-sub-move-down
 sub-move-down c =
     let a = (start c).args in
-    omega (arith, mul-le-mul_right {m = a.m} {n = a.i} (frontierLength a.w) (search rules))
+    omega (arith, mul-le-mul_right {m = a.m} {n = a.i} (frontier_length a.w) (search rules))
 
 move-down-requires : tie.Need-move-down-requires
 move-down-requires c κs =
     let a = (start c).args in
-    omega (arith, mul-le-mul_right {m = a.m} {n = a.i} (frontierLength a.w) (search rules))
+    omega (arith, mul-le-mul_right {m = a.m} {n = a.i} (frontier_length a.w) (search rules))
 
 same_length : tie.Need-same-length
 same_length c = search rules
@@ -52,11 +52,11 @@ returns-2 c =
     let a = (start m).args in
     let to = m.before.before.before.frontier-place in
     let from = m.before.before.frontier-place2 in
-    let there : to.result + (from.result - to.result) ≡ a.i * frontierLength a.w =
-    omega (arith, mul-le-mul_right {m = a.m} {n = a.i} (frontierLength a.w) (search rules)) in
+    let there : to.result + (from.result - to.result) ≡ a.i * frontier_length a.w =
+    omega (arith, mul-le-mul_right {m = a.m} {n = a.i} (frontier_length a.w) (search rules)) in
     c.before.before.move_down.ensures
-    ∙ moved-to a.window.now to.result (from.result - to.result) m.frontier-length.result a.m a.i
-    (frontierLength a.w) to.ensures.0 there m.frontier-length.ensures.0
+    ∙ moved_to a.window.now to.result (from.result - to.result) m.frontier-length.result a.m a.i
+    (frontier_length a.w) to.ensures.0 there m.frontier-length.ensures.0
 
 pub settle-spec : {M : Type 1} → statement M
 settle-spec =

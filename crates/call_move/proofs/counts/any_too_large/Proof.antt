@@ -1,4 +1,4 @@
--- The test of eight times i counts, eight more each turn: the law `looked-turn`.
+-- The test of eight times i counts, eight more each turn: the law `looked_turn`.
 use Rattle.call_move.proofs.counts.any_too_large.Tie as tie
 use native.Mathlib.Omega.{arith}
 use mathlib.Core.Path.{◌≡◌}
@@ -7,13 +7,13 @@ use lib.ListN.{drop}
 use borrow.Author.Rules.{rules}
 use Rattle.frontiers.specs.BytesLaws.{count-within}
 use Rattle.frontiers.specs.StoreLaws.{count_next}
-use Rattle.call_move.specs.MoveCode.{anyTooLarge}
-use Rattle.call_move.proofs.CountSteps.{looked-none, looked-turn}
+use Rattle.call_move.specs.MoveCode.{any_too_large}
+use Rattle.call_move.proofs.CountSteps.{looked_none, looked_turn}
 use Rattle.call_move.proofs.counts.any_too_large.Statement.{statement}
 
 abbrev invariant-loop : tie.invariant-loop
 invariant-loop s place v n w some₀ next₀ i₀ some next i =
-    (i ≤ n) × (next ≡ place + i * (8 * v)) × (some ≡ anyTooLarge v w (8 * i) (drop place s))
+    (i ≤ n) × (next ≡ place + i * (8 * v)) × (some ≡ any_too_large v w (8 * i) (drop place s))
 
 abbrev decreases-loop : tie.decreases-loop
 decreases-loop s place v n w some₀ next₀ i₀ some next i = n - i
@@ -28,7 +28,7 @@ start c = c.before.before
 loop-holds : tie.Need-loop-init invariant-loop decreases-loop
 loop-holds c =
     let a = c.before.args in
-    (search rules, search rules, looked-none a.v a.w (drop a.place a.s.now))
+    (search rules, search rules, looked_none a.v a.w (drop a.place a.s.now))
 
 read-counts-requires : tie.Need-read-counts-requires invariant-loop decreases-loop
 read-counts-requires c κs =
@@ -58,7 +58,7 @@ loop-again c =
     let l = (head c).loop in (
       search rules,
       omega (arith, count_next l.i (8 * a.v)),
-      looked-turn a.v a.w l.i a.s.now a.place l.next _ _ _ l.inv.1
+      looked_turn a.v a.w l.i a.s.now a.place l.next _ _ _ l.inv.1
           c.before.read-counts.ensures c.one-too-large.ensures l.inv.2,
     )
 

@@ -1,4 +1,4 @@
--- Eight times i counts are written, eight more with each turn: the law `written-more`.
+-- Eight times i counts are written, eight more with each turn: the law `written_more`.
 use Rattle.call_move.proofs.counts.move_counts.Tie as tie
 use native.Mathlib.Omega.{arith}
 use mathlib.Core.Path.{◌≡◌}
@@ -6,17 +6,17 @@ use Prim.Native.Nat.{◌≤◌, ◌-◌, ◌+◌, ◌*◌}
 use lib.ListN.{length, drop}
 use lib.Seq.{sets}
 use borrow.Author.Rules.{rules}
-use Rattle.frontiers.specs.Bytes.{countBytes}
+use Rattle.frontiers.specs.Bytes.{count_bytes}
 use Rattle.frontiers.specs.BytesLaws.{count-within}
 use Rattle.frontiers.specs.StoreLaws.{count_next}
-use Rattle.call_move.specs.Move.{countsFrom}
-use Rattle.call_move.proofs.CountSteps.{written_none, written-more, eight-fit}
+use Rattle.call_move.specs.Move.{counts_from}
+use Rattle.call_move.proofs.CountSteps.{written_none, written_more, eight_fit}
 use Rattle.call_move.proofs.counts.move_counts.Statement.{statement}
 
 abbrev invariant-loop : tie.invariant-loop
 invariant-loop s from v n target₀ to w next₀ free₀ i₀ target next free i =
     (i ≤ n) × (next ≡ from + i * (8 * v)) × (free ≡ to + i * (8 * w)) × (length target ≡ length target₀)
-    × (target ≡ sets target₀ to (countBytes w (countsFrom v (8 * i) (drop from s))))
+    × (target ≡ sets target₀ to (count_bytes w (counts_from v (8 * i) (drop from s))))
 
 abbrev decreases-loop : tie.decreases-loop
 decreases-loop s from v n target₀ to w next₀ free₀ i₀ target next free i = n - i
@@ -43,7 +43,7 @@ move-eight-requires c κs =
     let b = start c.before.before in
     let a = b.args in
     let l = c.before.before.loop in
-    let fit = eight-fit a.v a.w a.n a.s.now a.from b.pre.1.1.1.1 l.i (search rules) in (
+    let fit = eight_fit a.v a.w a.n a.s.now a.from b.pre.1.1.1.1 l.i (search rules) in (
       search rules,
       (
         search rules,
@@ -80,7 +80,7 @@ loop-again : tie.Need-loop-preserved invariant-loop decreases-loop
 loop-again c =
     let a = (start (head c)).args in
     let l = (head c).loop in
-    let more = written-more a.v a.w l.i a.s.now a.from a.target.now a.to in (
+    let more = written_more a.v a.w l.i a.s.now a.from a.target.now a.to in (
       search rules,
       omega (arith, count_next l.i (8 * a.v)),
       omega (arith, count_next l.i (8 * a.w)),

@@ -1,12 +1,12 @@
--- The eight counts are read before they are written to the lent tail: the laws `lent-tail` and `eight-read`.
+-- The eight counts are read before they are written to the lent tail: the laws `lent_tail` and `eight_read`.
 use Rattle.call_move.proofs.counts.move_eight.Tie as tie
 use borrow.Author.Rules.{rules}
 use lib.ListN.{drop}
 use Prim.Native.Nat.{◌-◌}
-use Rattle.frontiers.specs.Bytes.{countBytes}
-use Rattle.frontiers.specs.StoreLaws.{lent-tail}
-use Rattle.call_move.specs.Move.{countsFrom}
-use Rattle.call_move.proofs.CountSteps.{eight-read, read-fit}
+use Rattle.frontiers.specs.Bytes.{count_bytes}
+use Rattle.frontiers.specs.StoreLaws.{lent_tail}
+use Rattle.call_move.specs.Move.{counts_from}
+use Rattle.call_move.proofs.CountSteps.{eight_read, read_fit}
 use Rattle.call_move.proofs.counts.move_eight.Statement.{statement}
 
 read-counts-requires : tie.Need-read-counts-requires
@@ -25,7 +25,7 @@ write-counts-requires : tie.Need-write-counts-requires
 write-counts-requires c κs =
     let b = c.before.before.before.before in
     let a = b.args in
-    let fit = read-fit a.v a.w a.s.now a.from b.requires.1.1.1.1 in
+    let fit = read_fit a.v a.w a.s.now a.from b.requires.1.1.1.1 in
     (search rules, (search rules, λ p. rw c.before.read-counts.ensures (fit p)))
 
 same_length : tie.Need-same-length
@@ -34,8 +34,8 @@ same_length c = search rules
 returns : tie.Need-returns
 returns c =
     let a = c.before.before.before.before.before.before.before.args in
-    let read = eight-read a.v a.s.now a.from in
-    cc (lent-tail a.target.now a.to (countBytes a.w (countsFrom a.v 8 (drop a.from a.s.now))))
+    let read = eight_read a.v a.s.now a.from in
+    cc (lent_tail a.target.now a.to (count_bytes a.w (counts_from a.v 8 (drop a.from a.s.now))))
 
 pub move-eight-spec : {M : Type 1} → statement M
 move-eight-spec =

@@ -1,4 +1,4 @@
--- The test of the counts passed, one more each turn: the law `any-more`.
+-- The test of the counts passed, one more each turn: the law `any_more`.
 use Rattle.call_move.proofs.counts.one_too_large.Tie as tie
 use native.Mathlib.Omega.{arith}
 use mathlib.Core.Path.{◌≡◌, sym}
@@ -6,18 +6,18 @@ use mathlib.Core.Bool.{Bool}
 use mathlib.Core.List.{List}
 use Prim.Native.Nat.{ℕ, ◌≤◌, ◌-◌}
 use borrow.Author.Rules.{rules}
-use Rattle.clocks.specs.Bounded.{anyBelow}
+use Rattle.clocks.specs.Bounded.{any_below}
 use Rattle.clocks.specs.Counts.{at}
-use Rattle.clocks.specs.stored.BoundedTurns.{any_none, any-more}
-use Rattle.call_move.specs.Move.{tooLarge}
+use Rattle.clocks.specs.stored.BoundedTurns.{any_none, any_more}
+use Rattle.call_move.specs.Move.{too_large}
 use Rattle.call_move.proofs.counts.one_too_large.Statement.{statement}
 
 -- The count at i is too large.
 abbrev test : ℕ → List ℕ → ℕ → Bool
-test w counts i = tooLarge w (at counts i)
+test w counts i = too_large w (at counts i)
 
 abbrev invariant-loop : tie.invariant-loop
-invariant-loop w counts some₀ i₀ some i = (i ≤ 8) × (some ≡ anyBelow i (test w counts))
+invariant-loop w counts some₀ i₀ some i = (i ≤ 8) × (some ≡ any_below i (test w counts))
 
 abbrev decreases-loop : tie.decreases-loop
 decreases-loop w counts some₀ i₀ some i = 8 - i
@@ -44,7 +44,7 @@ loop-again : tie.Need-loop-preserved invariant-loop decreases-loop
 loop-again c =
     let a = c.before.before.before.args in
     let l = c.before.before.loop in
-    let more = any-more l.i (test a.w a.t1) in
+    let more = any_more l.i (test a.w a.t1) in
     (search rules, cc)
 
 returns : tie.Need-returns invariant-loop decreases-loop

@@ -2,7 +2,7 @@
 use Rattle.call_move.proofs.record_parts.move_event.Tie as tie
 use Prim.Native.Nat.{◌-◌}
 use borrow.Author.Rules.{rules}
-use Rattle.call_move.proofs.RecordSteps.{event-counts-fit, event-written}
+use Rattle.call_move.proofs.RecordSteps.{event-counts_fit, event-written}
 use Rattle.call_move.proofs.record_parts.move_event.Statement.{statement}
 
 -- The start, and where a part is written.
@@ -12,8 +12,8 @@ start c = c.before.before.before.before
 abbrev first-written : tie.After-move-counts → tie.After-copy-eights
 first-written c = c.before.before.before.before
 
-abbrev clock-written : tie.After-copy-eights2 → tie.After-move-counts
-clock-written c = c.before.before.before.before
+abbrev clock_written : tie.After-copy-eights2 → tie.After-move-counts
+clock_written c = c.before.before.before.before
 
 copy-eights-requires : tie.Need-copy-eights-requires
 copy-eights-requires c κs = search rules
@@ -28,7 +28,7 @@ move-counts-requires : tie.Need-move-counts-requires
 move-counts-requires c κs =
     let b = start c.before.before.before in
     let a = b.args in
-    let fit = event-counts-fit a.v a.w a.«record».now a.from b.pre.1.1.1.1 in
+    let fit = event-counts_fit a.v a.w a.«record».now a.from b.pre.1.1.1.1 in
     (search rules, (search rules, (search rules, (search rules, fit))))
 
 add-copy-eights : tie.Need-overflow-add-copy-eights
@@ -58,7 +58,7 @@ same_length c = search rules
 returns : tie.Need-returns
 returns c =
     let labels = c.before.before in
-    let clock = clock-written labels in
+    let clock = clock_written labels in
     let first = first-written clock in
     let b = start first in
     let a = b.args in

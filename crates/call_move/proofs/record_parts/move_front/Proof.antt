@@ -1,9 +1,9 @@
--- Four parts, each written behind those before it: the law `front-written`.
+-- Four parts, each written behind those before it: the law `front_written`.
 use Rattle.call_move.proofs.record_parts.move_front.Tie as tie
 use native.Mathlib.Omega.{arith}
 use Prim.Native.Nat.{◌-◌}
 use borrow.Author.Rules.{rules}
-use Rattle.call_move.proofs.RecordSteps.{front-counts-fit, front-written}
+use Rattle.call_move.proofs.RecordSteps.{front_counts_fit, front_written}
 use Rattle.call_move.proofs.record_parts.move_front.Statement.{statement}
 
 -- The start, and where a part is written.
@@ -22,7 +22,7 @@ copy-eights-requires c κs = search rules
 move-counts-requires : tie.Need-move-counts-requires
 move-counts-requires c κs =
     let b = start c.before.before.before in
-    let fit = front-counts-fit b.args.v b.args.w b.args.«record».now b.pre.1.1.1.1 in
+    let fit = front_counts_fit b.args.v b.args.w b.args.«record».now b.pre.1.1.1.1 in
     (search rules, (search rules, (search rules, (search rules, fit.0))))
 
 mul-move-counts : tie.Need-overflow-mul-move-counts
@@ -40,7 +40,7 @@ add-move-counts-2 c = search rules
 move-counts-requires-2 : tie.Need-move-counts-requires-2
 move-counts-requires-2 c κs =
     let b = start (first-written c.before.before.before) in
-    let fit = front-counts-fit b.args.v b.args.w b.args.«record».now b.pre.1.1.1.1 in
+    let fit = front_counts_fit b.args.v b.args.w b.args.«record».now b.pre.1.1.1.1 in
     (search rules, (search rules, (search rules, (search rules, fit.1))))
 
 table-place-requires : tie.Need-table-place-requires
@@ -63,7 +63,7 @@ returns c =
     let a = (start first).args in
     let from = c.before.before.before.before.before.table-place in
     let to = c.before.before.before.table-place2 in
-    front-written a.v a.w a.«record».now a.target.now _ _ _ _ from.result to.result
+    front_written a.v a.w a.«record».now a.target.now _ _ _ _ from.result to.result
     from.ensures.0 to.ensures.0 (omega (arith, (start first).pre.1.1.0)) first.copy-eights.ensures
     taken.move-counts.ensures counts.move-counts2.ensures c.before.before.copy-eights2.ensures
 

@@ -1,4 +1,4 @@
--- What stands before the pending events, then one event more each turn: the law `events-written`.
+-- What stands before the pending events, then one event more each turn: the law `events_written`.
 use Rattle.call_move.proofs.record_parts.move_record.Tie as tie
 use native.Mathlib.Omega.{arith}
 use Prim.Native.Nat.{ℕ, ◌≤◌, ◌-◌}
@@ -7,21 +7,21 @@ use mathlib.Core.List.{List}
 use lib.ListN.{length, drop}
 use lib.Seq.{sets}
 use borrow.Author.Rules.{rules}
-use Rattle.records.specs.Record.{recordLength}
+use Rattle.records.specs.Record.{record_length}
 use Rattle.records.specs.RecordLaws.{event-within}
-use Rattle.call_move.specs.Parts.{Part, eventParts, recordParts}
+use Rattle.call_move.specs.Parts.{Part, event_parts, record_parts}
 use Rattle.call_move.specs.PartLengths.{length_of}
 use Rattle.call_move.specs.Move.{moved}
-use Rattle.call_move.specs.MoveCode.{partsTo}
-use Rattle.call_move.specs.PartLaws.{length-recordParts}
+use Rattle.call_move.specs.MoveCode.{parts_to}
+use Rattle.call_move.specs.PartLaws.{length-record_parts}
 use Rattle.call_move.proofs.PartSteps.{all-written}
-use Rattle.call_move.proofs.RecordSteps.{parts_all, front_fits, event-fits, front-begins, events-written}
+use Rattle.call_move.proofs.RecordSteps.{parts_all, front_fits, event-fits, front_begins, events_written}
 use Rattle.call_move.proofs.record_parts.move_record.Statement.{statement}
 
 abbrev invariant-loop : tie.invariant-loop
 invariant-loop «record» v target₀ w next₀ target next =
-    (next ≤ 32) × (length target₀ ≡ recordLength w) × (length target ≡ recordLength w)
-    × (target ≡ sets target₀ 0 (moved v w (partsTo next) «record»))
+    (next ≤ 32) × (length target₀ ≡ record_length w) × (length target ≡ record_length w)
+    × (target ≡ sets target₀ 0 (moved v w (parts_to next) «record»))
 
 abbrev decreases-loop : tie.decreases-loop
 decreases-loop «record» v target₀ w next₀ target next = 32 - next
@@ -30,15 +30,15 @@ decreases-loop «record» v target₀ w next₀ target next = 32 - next
 abbrev head : tie.After-slice-known3 invariant-loop decreases-loop → tie.At-loop invariant-loop decreases-loop
 head c = c.before.before.before.before.before.before.before
 
-abbrev front-moved : tie.At-loop invariant-loop decreases-loop → tie.After-move-front invariant-loop decreases-loop
-front-moved c = c.before.before.before
+abbrev front_moved : tie.At-loop invariant-loop decreases-loop → tie.After-move-front invariant-loop decreases-loop
+front_moved c = c.before.before.before
 
 abbrev start : tie.After-move-front invariant-loop decreases-loop → tie.Start invariant-loop decreases-loop
 start c = c.before.before.before.before
 
 -- The target with what stands before the pending events.
 abbrev begun : tie.At-loop invariant-loop decreases-loop → List ℕ
-begun c = (front-moved c).move-front.new.1.1.0
+begun c = (front_moved c).move-front.new.1.1.0
 
 move-front-requires : tie.Need-move-front-requires invariant-loop decreases-loop
 move-front-requires c κs =
@@ -50,7 +50,7 @@ loop-holds : tie.Need-loop-init invariant-loop decreases-loop
 loop-holds c =
     let m = c.before.before in
     let a = (start m).args in
-    let holds = front-begins a.v a.w a.«record».now a.target.now _ m.move-front.ensures in
+    let holds = front_begins a.v a.w a.«record».now a.target.now _ m.move-front.ensures in
     (search rules, search rules, search rules, holds)
 
 pending-place-requires : tie.Need-pending-place-requires invariant-loop decreases-loop
@@ -62,7 +62,7 @@ pending-place-requires-2 c κs = search rules
 move-event-requires : tie.Need-move-event-requires invariant-loop decreases-loop
 move-event-requires c κs =
     let h = c.before.before.before.before in
-    let b = start (front-moved h) in
+    let b = start (front_moved h) in
     let v = b.args.v in
     let w = b.args.w in
     let i = h.loop.next in
@@ -81,15 +81,15 @@ loop-less c = search rules
 
 loop-again : tie.Need-loop-preserved invariant-loop decreases-loop
 loop-again c =
-    let a = (start (front-moved (head c))).args in
+    let a = (start (front_moved (head c))).args in
     let l = (head c).loop in
     let s = a.«record».now in
     let from = c.before.before.before.before.before.pending-place in
     let to = c.before.before.before.pending-place2 in
     let within : from.result ≤ length s = omega (arith, event-within a.v l.next (omega arith)) in
-    let event = moved a.v a.w eventParts (drop from.result s) in
+    let event = moved a.v a.w event_parts (drop from.result s) in
     let more =
-    events-written a.v a.w l.next s from.result (begun (head c)) to.result from.ensures.0
+    events_written a.v a.w l.next s from.result (begun (head c)) to.result from.ensures.0
     to.ensures.0 within in (
       search rules,
       search rules,
@@ -103,14 +103,14 @@ same_length c = search rules
 returns : tie.Need-returns invariant-loop decreases-loop
 returns c =
     let h = c.before in
-    let a = (start (front-moved h)).args in
+    let a = (start (front_moved h)).args in
     let s = a.«record».now in
     let t = begun h in
     let all : h.loop.next ≡ 32 = omega arith in
-    let long : length_of a.v recordParts ≡ length s = omega (arith, length-recordParts a.v) in
-    h.loop.invariant.3 ∙ ap (λ (n : ℕ). sets t 0 (moved a.v a.w (partsTo n) s)) all
+    let long : length_of a.v record_parts ≡ length s = omega (arith, length-record_parts a.v) in
+    h.loop.invariant.3 ∙ ap (λ (n : ℕ). sets t 0 (moved a.v a.w (parts_to n) s)) all
     ∙ ap (λ (ps : List Part). sets t 0 (moved a.v a.w ps s)) parts_all
-    ∙ all-written a.v a.w recordParts s t (omega arith) (omega (arith, length-recordParts a.w))
+    ∙ all-written a.v a.w record_parts s t (omega arith) (omega (arith, length-record_parts a.w))
 
 pub move-record-spec : {M : Type 1} → statement M
 move-record-spec =

@@ -1,5 +1,5 @@
--- The counts before the pending events, then those of one event more each turn: the laws `front-looked` and
--- `event-looked`.
+-- The counts before the pending events, then those of one event more each turn: the laws `front_looked` and
+-- `event_looked`.
 use Rattle.call_move.proofs.record_parts.record_too_large.Tie as tie
 use native.Mathlib.Omega.{arith}
 use Prim.Native.Nat.{ℕ, ◌≤◌, ◌-◌}
@@ -8,14 +8,14 @@ use mathlib.Core.List.{List}
 use borrow.Author.Rules.{rules}
 use Rattle.records.specs.RecordLaws.{event-within}
 use Rattle.call_move.specs.Parts.{Part}
-use Rattle.call_move.specs.Move.{someTooLarge}
-use Rattle.call_move.specs.MoveCode.{partsTo}
-use Rattle.call_move.proofs.RecordSteps.{parts_all, front-looked, event-looked}
+use Rattle.call_move.specs.Move.{some_too_large}
+use Rattle.call_move.specs.MoveCode.{parts_to}
+use Rattle.call_move.proofs.RecordSteps.{parts_all, front_looked, event_looked}
 use Rattle.call_move.proofs.record_parts.record_too_large.Statement.{statement}
 
 abbrev invariant-loop : tie.invariant-loop
 invariant-loop «record» v w taken some₀ i₀ some i =
-    (i ≤ 32) × (some ≡ someTooLarge v w (partsTo i) «record»)
+    (i ≤ 32) × (some ≡ some_too_large v w (parts_to i) «record»)
 
 abbrev decreases-loop : tie.decreases-loop
 decreases-loop «record» v w taken some₀ i₀ some i = 32 - i
@@ -41,7 +41,7 @@ any-too-large-requires-2 c κs = search rules
 
 loop-holds : tie.Need-loop-init invariant-loop decreases-loop
 loop-holds c =
-    let a = c.before.before.before.args in (search rules, cc (front-looked a.v a.w a.«record».now))
+    let a = c.before.before.before.args in (search rules, cc (front_looked a.v a.w a.«record».now))
 
 pending-place-requires : tie.Need-pending-place-requires invariant-loop decreases-loop
 pending-place-requires c κs = search rules
@@ -65,7 +65,7 @@ loop-again c =
     let a = (start (head c)).args in
     let l = (head c).loop in
     let place = c.before.pending-place in
-    (search rules, cc (event-looked a.v a.w l.i a.«record».now place.result place.ensures.0))
+    (search rules, cc (event_looked a.v a.w l.i a.«record».now place.result place.ensures.0))
 
 returns : tie.Need-returns invariant-loop decreases-loop
 returns c =
@@ -73,8 +73,8 @@ returns c =
     let l = c.before.loop in
     let s = a.«record».now in
     let all : l.i ≡ 32 = omega arith in
-    l.invariant.1 ∙ ap (λ (n : ℕ). someTooLarge a.v a.w (partsTo n) s) all
-    ∙ ap (λ (ps : List Part). someTooLarge a.v a.w ps s) parts_all
+    l.invariant.1 ∙ ap (λ (n : ℕ). some_too_large a.v a.w (parts_to n) s) all
+    ∙ ap (λ (ps : List Part). some_too_large a.v a.w ps s) parts_all
 
 pub record-too-large-spec : {M : Type 1} → statement M
 record-too-large-spec =

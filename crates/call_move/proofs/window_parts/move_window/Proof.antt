@@ -6,16 +6,16 @@ use mathlib.Core.Path.{◌≡◌}
 use lib.ListN.{length}
 use lib.Seq.{sets}
 use borrow.Author.Rules.{rules}
-use Rattle.frontiers.specs.Bytes.{frontierLength}
+use Rattle.frontiers.specs.Bytes.{frontier_length}
 use Rattle.frontiers.specs.BytesLaws.{count-within}
-use Rattle.call_move.specs.Parts.{windowParts}
+use Rattle.call_move.specs.Parts.{window_parts}
 use Rattle.call_move.specs.Move.{moved}
-use Rattle.call_move.proofs.WindowSteps.{frontier-fits, none_written, frontiers-written}
+use Rattle.call_move.proofs.WindowSteps.{frontier_fits, none_written, frontiers-written}
 use Rattle.call_move.proofs.window_parts.move_window.Statement.{statement}
 
 abbrev invariant-loop : tie.invariant-loop
 invariant-loop window n v target₀ w i₀ target i =
-    (i ≤ n) × (length target ≡ length target₀) × (target ≡ sets target₀ 0 (moved v w (windowParts i) window))
+    (i ≤ n) × (length target ≡ length target₀) × (target ≡ sets target₀ 0 (moved v w (window_parts i) window))
 
 abbrev decreases-loop : tie.decreases-loop
 decreases-loop window n v target₀ w i₀ target i = n - i
@@ -47,10 +47,10 @@ move-frontier-requires c κs =
     let n = b.args.n in
     let i = h.loop.i in
     let place = c.before.before.frontier-place in
-    let from = count-within i n (frontierLength v) (omega arith) in
-    let to = count-within i n (frontierLength w) (omega arith) in
+    let from = count-within i n (frontier_length v) (omega arith) in
+    let to = count-within i n (frontier_length w) (omega arith) in
     let s = b.args.window.now in
-    let fit = frontier-fits v w n i s place.result place.ensures.0 (omega arith) b.pre.1.1.1.1.1 in
+    let fit = frontier_fits v w n i s place.result place.ensures.0 (omega arith) b.pre.1.1.1.1.1 in
     (search rules, (search rules, (omega (arith, from), (omega (arith, to), fit))))
 
 add-i : tie.Need-overflow-add-i invariant-loop decreases-loop
@@ -65,7 +65,7 @@ loop-again c =
     let l = (head c).loop in
     let from = c.before.before.before.before.before.frontier-place in
     let to = c.before.before.before.frontier-place2 in
-    let within = count-within l.i a.n (frontierLength a.v) (omega arith) in
+    let within = count-within l.i a.n (frontier_length a.v) (omega arith) in
     let s = a.window.now in
     let more =
     frontiers-written a.v a.w l.i s from.result a.target.now to.result from.ensures.0

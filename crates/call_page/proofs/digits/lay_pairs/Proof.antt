@@ -1,11 +1,11 @@
--- Below n the table is laid: the law `pairs-more`.
+-- Below n the table is laid: the law `pairs_more`.
 use Rattle.call_page.proofs.digits.lay_pairs.Tie as tie
 use native.Mathlib.Omega.{arith}
 use mathlib.Core.Path.{sym, ◌∙◌}
 use Prim.Native.Nat.{◌≤◌, ◌-◌}
 use lib.ListN.{length-set}
 use borrow.Author.Rules.{rules}
-use Rattle.call_page.proofs.PairSteps.{LaidBelow, none, pairs-more, all}
+use Rattle.call_page.proofs.PairSteps.{LaidBelow, none, pairs_more, all}
 use Rattle.call_page.proofs.digits.lay_pairs.Statement.{statement}
 
 abbrev invariant-loop : tie.invariant-loop
@@ -53,7 +53,7 @@ loop-less c = search rules
 loop-again : tie.Need-loop-preserved invariant-loop decreases-loop
 loop-again c =
     let l = c.before.loop in
-    (omega arith, pairs-more l.n l.pairs (omega arith) l.invariant.1)
+    (omega arith, pairs_more l.n l.pairs (omega arith) l.invariant.1)
 
 same_length : tie.Need-same-length invariant-loop decreases-loop
 same_length c = c.before.loop.invariant.1.long ∙ sym c.before.before.requires

@@ -1,4 +1,4 @@
--- Digits go over the blanks from the right, two at a time: the law `pair-laid` for a turn, then one or two are left.
+-- Digits go over the blanks from the right, two at a time: the law `pair_laid` for a turn, then one or two are left.
 use Rattle.call_page.proofs.digits.put_count.Tie as tie
 use native.Mathlib.Omega.{arith}
 use mathlib.Core.Path.{◌≡◌, refl, ap, ◌∙◌}
@@ -9,7 +9,7 @@ use borrow.Author.Rules.{rules}
 use lib.Seq.{sets, length-sets}
 use Rattle.codec.specs.Decimal.{numeral}
 use Rattle.call_page.specs.Page.{aligned}
-use Rattle.call_page.proofs.CountSteps.{Laid, none-laid, pair-laid, last-pair, last-laid, column-stands}
+use Rattle.call_page.proofs.CountSteps.{Laid, none_laid, pair_laid, last-pair, last_laid, column_stands}
 use Rattle.call_page.proofs.digits.put_count.Statement.{statement}
 
 abbrev invariant-loop : tie.invariant-loop
@@ -32,7 +32,7 @@ turn : (h : tie.At-loop invariant-loop decreases-loop) → let l = h.loop in 100
     (sets l.page ((start h).args.at + (l.i - 2)) ((48 + l.rest % 100 / 10) ∷ (48 + l.rest % 100 % 10) ∷ []))
     (l.rest / 100) (l.i - 2)
 turn h =
-    pair-laid (filled h).fill.new.0 (start h).args.at (start h).args.count (omega arith) h.loop.page
+    pair_laid (filled h).fill.new.0 (start h).args.at (start h).args.count (omega arith) h.loop.page
     h.loop.i h.loop.rest h.loop.invariant.1
 
 pair : (h : tie.At-loop invariant-loop decreases-loop) → let l = h.loop in 10 ≤ l.rest → l.rest < 100
@@ -48,7 +48,7 @@ stands : (h : tie.At-loop invariant-loop decreases-loop) (page : List ℕ)
     → page ≡ sets (filled h).fill.new.0 (start h).args.at (aligned 11 (numeral (start h).args.count))
     → page ≡ sets (start h).args.page.now (start h).args.at (aligned 11 (numeral (start h).args.count))
 stands h page =
-    column-stands (filled h).fill.new.0 (start h).args.at (start h).args.count (omega arith)
+    column_stands (filled h).fill.new.0 (start h).args.at (start h).args.count (omega arith)
     (start h).args.page.now page (filled h).fill.ensures
 
 -- ---- Needs
@@ -60,7 +60,7 @@ loop-holds : tie.Need-loop-init invariant-loop decreases-loop
 loop-holds c =
     let f = c.before.before in
     let a = f.before.before.before.before.args in
-    (refl, none-laid f.fill.new.0 a.at a.count (omega arith) a.page.now f.fill.ensures)
+    (refl, none_laid f.fill.new.0 a.at a.count (omega arith) a.page.now f.fill.ensures)
 
 sub-i : tie.Need-overflow-sub-i invariant-loop decreases-loop
 sub-i c = omega (arith, (turn c.before c.loop-test.true).0)
@@ -142,7 +142,7 @@ returns-2 c =
     let small : l.rest ≡ l.rest % 10 = omega arith in
     let place : a.at + l.i - 1 ≡ a.at + (l.i - 1) = omega (arith, l.invariant.1.some) in
     let last =
-    last-laid (filled h).fill.new.0 a.at a.count (omega arith) l.page l.i l.rest l.invariant.1
+    last_laid (filled h).fill.new.0 a.at a.count (omega arith) l.page l.i l.rest l.invariant.1
     (omega arith) in
     stands h _ (rw place (ap (λ (d : ℕ). set l.page (a.at + (l.i - 1)) (48 + d)) small ∙ last))
 

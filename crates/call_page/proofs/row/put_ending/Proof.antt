@@ -1,7 +1,7 @@
 -- Five bytes, by whether the rule holds.
 use Rattle.call_page.proofs.row.put_ending.Tie as tie
 use Prim.Native.Nat.{◌-◌}
-use Rattle.call_page.proofs.RowSteps.{ending-yes, ending-no}
+use Rattle.call_page.proofs.RowSteps.{ending_yes, ending_no}
 use borrow.Author.Rules.{rules}
 use Rattle.call_page.proofs.row.put_ending.Statement.{statement}
 
@@ -25,7 +25,7 @@ returns c =
     let done = c.before.before in
     let test = done.before.before.before in
     let a = test.before.before.args in
-    ending-yes a.page.now _ a.at a.holds test.if1.true done.copy-in.ensures
+    ending_yes a.page.now _ a.at a.holds test.if1.true done.copy-in.ensures
 
 same-length-2 : tie.Need-same-length-2
 same-length-2 c = search rules
@@ -35,7 +35,7 @@ returns-2 c =
     let done = c.before.before in
     let test = done.before.before.before in
     let a = test.before.before.args in
-    ending-no a.page.now _ a.at a.holds test.if1.false done.copy-in2.ensures
+    ending_no a.page.now _ a.at a.holds test.if1.false done.copy-in2.ensures
 
 pub put-ending-spec : {M : Type 1} → statement M
 put-ending-spec =

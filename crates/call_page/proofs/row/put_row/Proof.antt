@@ -1,4 +1,4 @@
--- Before process p the columns below p stand there: the law `next-column`. The blanks and the ending go behind them.
+-- Before process p the columns below p stand there: the law `next_column`. The blanks and the ending go behind them.
 use Rattle.call_page.proofs.row.put_row.Tie as tie
 use native.Mathlib.Omega.{arith}
 use mathlib.Core.Path.{◌≡◌, ap, ◌∙◌}
@@ -7,7 +7,7 @@ use lib.ListN.{length}
 use borrow.Author.Rules.{rules}
 use lib.Seq.{sets}
 use Rattle.call_page.specs.Page.{columns}
-use Rattle.call_page.proofs.RowSteps.{no-columns, next-column, row-stands}
+use Rattle.call_page.proofs.RowSteps.{no_columns, next_column, row_stands}
 use Rattle.call_page.proofs.row.put_row.Statement.{statement}
 
 abbrev invariant-loop : tie.invariant-loop
@@ -20,7 +20,7 @@ decreases-loop page₀ at k holds pairs counts p₀ page p = k - p
 loop-holds : tie.Need-loop-init invariant-loop decreases-loop
 loop-holds c =
     let b = c.before.before in
-    let none = no-columns b.args.page.now b.args.at b.args.k b.args.t4 in
+    let none = no_columns b.args.page.now b.args.at b.args.k b.args.t4 in
     (search rules, search rules, none)
 
 mul-put-count : tie.Need-overflow-mul-put-count invariant-loop decreases-loop
@@ -50,7 +50,7 @@ loop-again c =
     let l = done.before.before.before.loop in
     let b = done.before.before.before.before.before.before in
     let a = b.args in
-    let next = next-column a.page.now a.at a.k a.t4 b.requires.1.0 l.p (omega arith) in
+    let next = next_column a.page.now a.at a.k a.t4 b.requires.1.0 l.p (omega arith) in
     (search rules, search rules, cc)
 
 mul-fill : tie.Need-overflow-mul-fill invariant-loop decreases-loop
@@ -86,7 +86,7 @@ returns c =
     let a = b.args in
     let all : l.p ≡ a.k = omega arith in
     let stands =
-    row-stands a.page.now a.at a.k a.t4 a.holds b.requires.1.0 b.requires.0 blanks.fill.new.0
+    row_stands a.page.now a.at a.k a.t4 a.holds b.requires.1.0 b.requires.0 blanks.fill.new.0
     l.page (l.invariant.2 ∙ ap (λ (n : ℕ). sets a.page.now a.at (columns a.k a.t4 n)) all)
     blanks.fill.ensures in
     done.put-ending.ensures ∙ stands

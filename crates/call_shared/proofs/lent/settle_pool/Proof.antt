@@ -5,7 +5,7 @@ use native.Mathlib.Omega.{arith}
 use mathlib.Core.Path.{◌≡◌}
 use borrow.Author.Rules.{rules}
 use borrow.Author.Tests.{eq-eqb, ne_eqb}
-use Rattle.call_shared.specs.SharedCode.{poolBy}
+use Rattle.call_shared.specs.SharedCode.{pool_by}
 use Rattle.call_shared.proofs.lent.settle_pool.Statement.{statement}
 
 -- Where the word's number is 0.
@@ -13,7 +13,7 @@ abbrev accepted : tie.After-kept-count → tie.Else1
 accepted c = c.before.before
 
 returns : tie.Need-returns
-unfolding poolBy
+unfolding pool_by
 returns c =
     let refused : c.before.before.before.args.reply % 256 ≡ 0 → ⊥ = λ z. omega (arith, c.if1.true, z) in
     rw (ne_eqb _ _ refused)
@@ -34,7 +34,7 @@ same_length : tie.Need-same-length
 same_length c = search rules
 
 returns-2 : tie.Need-returns-2
-unfolding poolBy
+unfolding pool_by
 returns-2 c =
     let brought = c.before.before in
     let read = brought.before in

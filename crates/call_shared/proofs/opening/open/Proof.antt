@@ -1,16 +1,16 @@
--- Turned back, or opened and the pool brought up to date: the laws `open-turned`, `open-passed` and `open-settled`.
+-- Turned back, or opened and the pool brought up to date: the laws `open_turned`, `open_passed` and `open_settled`.
 use Rattle.call_shared.proofs.opening.open.Tie as tie
 use Prim.Native.Nat.{◌≤◌}
 use native.Mathlib.Omega.{arith}
 use mathlib.Core.Path.{◌≡◌, sym, ◌∙◌}
 use lib.ListN.{length}
 use borrow.Author.Rules.{rules}
-use Rattle.answers.specs.Answer.{replyWord}
-use Rattle.call_open.specs.Open.{openCall}
-use Rattle.call_open.specs.OpenCode.{openFault}
-use Rattle.call_shared.specs.SharedCode.{sharedFault}
-use Rattle.call_shared.specs.SettledLaws.{Made, made-pool, made-few, open-settled}
-use Rattle.call_shared.proofs.CallSteps.{OpenPassed, open-turned, open-passed}
+use Rattle.answers.specs.Answer.{reply_word}
+use Rattle.call_open.specs.Open.{open_call}
+use Rattle.call_open.specs.OpenCode.{open_fault}
+use Rattle.call_shared.specs.SharedCode.{shared_fault}
+use Rattle.call_shared.specs.SettledLaws.{Made, made_pool, made_few, open_settled}
+use Rattle.call_shared.proofs.CallSteps.{OpenPassed, open_turned, open_passed}
 use Rattle.call_shared.proofs.opening.open.Statement.{statement}
 
 -- ---- Places in the walk: the start, where nothing turns the call back, and after the plain call
@@ -31,7 +31,7 @@ opened c = c.before.before.before.before.before.before
 
 number_is : (c : tie.After-shared-fault) → let a = (start c).args in
     c.shared-fault.result
-    ≡ sharedFault (openFault a.w a.k a.labels (length a.«record».now) (length a.window.now))
+    ≡ shared_fault (open_fault a.w a.k a.labels (length a.«record».now) (length a.window.now))
     a.pool.now a.number
 number_is c = rw (← (judged c).open-fault.ensures) c.shared-fault.ensures
 
@@ -40,24 +40,24 @@ known : (c : tie.Else1) → let a = (start c.before).args in
     a.number
 known c =
     let a = (start c.before).args in
-    open-passed a.w a.rule.now a.k a.labels a.«record».now a.window.now a.pool.now
+    open_passed a.w a.rule.now a.k a.labels a.«record».now a.window.now a.pool.now
     a.number (sym (number_is c.before) ∙ c.if1.false)
 
 made : (c : tie.After-open) → let a = (start (passed c).before).args in
-    let call = openCall a.w a.rule.now a.k a.labels a.«record».now a.window.now in
+    let call = open_call a.w a.rule.now a.k a.labels a.«record».now a.window.now in
     Made call.answer call.bytes c.«open».result c.«open».new.1.1.1.1.0
 made c =
     let a = (start (passed c).before).args in
     record {
       settled =
-          open-settled a.w a.rule.now a.k a.labels a.«record».now a.window.now;
+          open_settled a.w a.rule.now a.k a.labels a.«record».now a.window.now;
       told = c.«open».ensures.0;
       left = c.«open».ensures.1.0;
     }
 
-record-stays : (c : tie.After-open)
+record_stays : (c : tie.After-open)
     → length c.«open».new.1.1.1.1.0 ≡ length (start (passed c).before).args.«record».now
-record-stays c = search rules
+record_stays c = search rules
 
 -- ---- The needs
 
@@ -71,12 +71,12 @@ same_length : tie.Need-same-length
 same_length c = search rules
 
 returns : tie.Need-returns
-unfolding replyWord
+unfolding reply_word
 returns c =
     let f = c.before in
     let a = (start f).args in
     let whole =
-    open-turned a.w a.rule.now a.k a.labels a.«record».now a.window.now a.pool.now
+    open_turned a.w a.rule.now a.k a.labels a.«record».now a.window.now a.pool.now
     a.number f.shared-fault.result (number_is f) c.if1.true in
     (rw whole (omega arith), (rw whole, (rw whole, rw whole)))
 
@@ -87,8 +87,8 @@ settle-pool-requires : tie.Need-settle-pool-requires
 settle-pool-requires c κs =
     let d = opened c in
     let k = known (passed d) in
-    let long : 8 ≤ length d.«open».last.1.1.1.1.0 = omega (arith, record-stays d, k.long) in
-    (k.pool-long, (omega (arith, k.member), (long, made-few _ _ _ _ (made d))))
+    let long : 8 ≤ length d.«open».last.1.1.1.1.0 = omega (arith, record_stays d, k.long) in
+    (k.pool-long, (omega (arith, k.member), (long, made_few _ _ _ _ (made d))))
 
 same-length-2 : tie.Need-same-length-2
 same-length-2 c = search rules
@@ -105,7 +105,7 @@ returns-2 c =
     let d = opened s.before in
     let a = (start (passed d).before).args in
     let whole = (known (passed d)).whole in
-    let pool = made-pool _ _ _ _ (made d) a.pool.now a.number in
+    let pool = made_pool _ _ _ _ (made d) a.pool.now a.number in
     let e = d.«open».ensures in
     (rw whole e.0, (rw whole e.1.0, (rw whole e.1.1, rw whole (s.settle-pool.ensures ∙ pool))))
 

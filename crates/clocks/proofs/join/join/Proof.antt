@@ -6,21 +6,21 @@ use mathlib.Core.List.{List}
 use mathlib.Core.Logic.{⊎_elim}
 use borrow.Author.Rules.{rules}
 use Rattle.codec.specs.Bit.{bit}
-use Rattle.clocks.specs.Counts.{list_of, clockRows, at}
-use Rattle.clocks.specs.Joined.{joinTo}
-use Rattle.clocks.proofs.join.JoinSteps.{join-next, join-skip}
+use Rattle.clocks.specs.Counts.{list_of, clock_rows, at}
+use Rattle.clocks.specs.Joined.{join_to}
+use Rattle.clocks.proofs.join.JoinSteps.{join_next, join_skip}
 use Rattle.clocks.proofs.join.join.Statement.{statement}
 use Rattle.clocks.proofs.join.join.Tie as tie
 use Rattle.clocks.specs.Bounds.{upper}
 
 abbrev invariant-loop : tie.invariant-loop
-invariant-loop mask last word out₀ p₀ out p = (p ≤ 8) × (out ≡ list_of 8 (joinTo p (bit mask) (clockRows last)))
+invariant-loop mask last word out₀ p₀ out p = (p ≤ 8) × (out ≡ list_of 8 (join_to p (bit mask) (clock_rows last)))
 
 abbrev decreases-loop : tie.decreases-loop
 decreases-loop mask last word out₀ p₀ out p = 8 - p
 
 loop-holds : tie.Need-loop-init invariant-loop decreases-loop
-unfolding list_of joinTo
+unfolding list_of join_to
 loop-holds c = (search rules, refl)
 
 has-bit-requires : tie.Need-has-bit-requires invariant-loop decreases-loop
@@ -48,10 +48,10 @@ loop-again : tie.Need-loop-preserved invariant-loop decreases-loop
 loop-again c =
     let a = c.before.before.before.before.args in
     let l = c.before.before.before.loop in
-    let join : List ℕ → List ℕ = λ o. list_of 8 (upper (clockRows a.t1 l.p) (at o)) in
+    let join : List ℕ → List ℕ = λ o. list_of 8 (upper (clock_rows a.t1 l.p) (at o)) in
     let member = sym c.before.has-bit.ensures in
-    let next = join-next 8 l.p (bit a.mask) (clockRows a.t1) in
-    let skip = join-skip 8 l.p (bit a.mask) (clockRows a.t1) in
+    let next = join_next 8 l.p (bit a.mask) (clock_rows a.t1) in
+    let skip = join_skip 8 l.p (bit a.mask) (clock_rows a.t1) in
     let came = ⊎_elim
     (λ w. w.3 ∙ w.2.ensures ∙ ap join l.invariant.1 ∙ next (member ∙ w.0.taken))
     (λ w. w.1 ∙ l.invariant.1 ∙ skip (member ∙ w.0.left))

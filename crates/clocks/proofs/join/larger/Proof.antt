@@ -4,7 +4,7 @@ use mathlib.Core.Path.{◌≡◌}
 use lib.ListN.{length, get_or}
 use borrow.Author.Rules.{rules}
 use Rattle.clocks.specs.Counts.{at}
-use Rattle.clocks.specs.stored.CountsLaws.{filled, fill-next}
+use Rattle.clocks.specs.stored.CountsLaws.{filled, fill_next}
 use Rattle.clocks.proofs.join.larger.Statement.{statement}
 use Rattle.clocks.proofs.join.larger.Tie as tie
 use Rattle.clocks.specs.Bounds.{upper}
@@ -48,7 +48,7 @@ loop-less c = search rules
 loop-again : tie.Need-loop-preserved invariant-loop decreases-loop
 loop-again c =
     let l = c.before.before.loop in
-    (search rules, search rules, fill-next _ 0 l.out l.i c.larger-count.result (search rules) c.larger-count.ensures l.invariant.2)
+    (search rules, search rules, fill_next _ 0 l.out l.i c.larger-count.result (search rules) c.larger-count.ensures l.invariant.2)
 
 returns : tie.Need-returns invariant-loop decreases-loop
 returns c = filled 8 _ 0 c.before.loop.out (search rules) (λ q l. c.before.loop.invariant.2 q (search rules))

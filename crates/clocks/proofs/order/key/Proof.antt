@@ -2,7 +2,7 @@
 use mathlib.Core.Path.{◌≡◌, sym, ◌∙◌}
 use lib.ListN.{length, length-map}
 use borrow.Author.Rules.{rules}
-use Rattle.clocks.specs.stored.KeyLaws.{key-at, key-beyond}
+use Rattle.clocks.specs.stored.KeyLaws.{key_at, key_beyond}
 use Rattle.clocks.specs.Key.{lowest}
 use Rattle.clocks.proofs.order.key.Statement.{statement}
 use Rattle.clocks.proofs.order.key.Tie as tie
@@ -23,14 +23,14 @@ returns : tie.Need-returns
 unfolding lowest
 returns c =
     let e = c.before.before.before.args.t1 in
-    key-at e c.before.before.lowest-bit.result c.before.before.lowest-bit.ensures.0
+    key_at e c.before.before.lowest-bit.result c.before.before.lowest-bit.ensures.0
 
 returns-2 : tie.Need-returns-2
 unfolding lowest
 returns-2 c =
     let e = c.before.before.args.t1 in
     let h : length e.clock ≡ 8 = sym (length-map e.clock (λ v. v)) ∙ c.before.before.well-formed.0.1.1.1.0.1.0.1 in
-    key-beyond e c.before.lowest-bit.result (search rules) c.before.lowest-bit.ensures.0
+    key_beyond e c.before.lowest-bit.result (search rules) c.before.lowest-bit.ensures.0
 
 pub key_spec : {M : Type 1} → statement M
 key_spec =

@@ -6,14 +6,14 @@ use mathlib.Core.Bool.{false, Bool, not, ◌&&◌, ◌||◌}
 use lib.Dec.{eqb, leb}
 use borrow.Author.Rules.{rules}
 use Rattle.clocks.specs.Counts.{at}
-use Rattle.clocks.specs.Bounded.{anyBelow}
-use Rattle.clocks.specs.Refusal.{badCount, badClock}
-use Rattle.clocks.specs.stored.BoundedTurns.{any_none, any_next, any-stop}
+use Rattle.clocks.specs.Bounded.{any_below}
+use Rattle.clocks.specs.Refusal.{bad_count, bad_clock}
+use Rattle.clocks.specs.stored.BoundedTurns.{any_none, any_next, any_stop}
 use Rattle.clocks.proofs.refusal.bad_clock.Statement.{statement}
 use Rattle.clocks.proofs.refusal.bad_clock.Tie as tie
 
 abbrev invariant-loop : tie.invariant-loop
-invariant-loop k mask clock p₀ p = (p ≤ 8) × (anyBelow p (badCount k mask clock) ≡ false)
+invariant-loop k mask clock p₀ p = (p ≤ 8) × (any_below p (bad_count k mask clock) ≡ false)
 
 abbrev decreases-loop : tie.decreases-loop
 decreases-loop k mask clock p₀ p = 8 - p
@@ -37,7 +37,7 @@ bad-count-requires : tie.Need-bad-count-requires invariant-loop decreases-loop
 bad-count-requires c κs = search rules
 
 -- The call's answer is the test at p.
-here : (c : tie.After-bad-count invariant-loop decreases-loop) → badCount c.before.before.before.before.args.k c.before.before.before.before.args.mask c.before.before.before.before.args.t3 c.before.before.before.loop.p ≡ c.bad-count.result
+here : (c : tie.After-bad-count invariant-loop decreases-loop) → bad_count c.before.before.before.before.args.k c.before.before.before.before.args.mask c.before.before.before.before.args.t3 c.before.before.before.loop.p ≡ c.bad-count.result
 here c =
     let a = c.before.before.before.before.args in
     let p = c.before.before.before.loop.p in
@@ -45,10 +45,10 @@ here c =
     ap (λ (b : Bool). (b && eqb x 0) || (leb a.k p && not (eqb x 0))) (sym c.before.has-bit.ensures) ∙ sym c.bad-count.ensures
 
 returns : tie.Need-returns invariant-loop decreases-loop
-unfolding badClock
+unfolding bad_clock
 returns c =
     let a = c.before.before.before.before.before.args in
-    sym (any-stop 8 c.before.before.before.before.loop.p (badCount a.k a.mask a.t3) (search rules) (here c.before ∙ c.if1.true))
+    sym (any_stop 8 c.before.before.before.before.loop.p (bad_count a.k a.mask a.t3) (search rules) (here c.before ∙ c.if1.true))
 
 add-p : tie.Need-overflow-add-p invariant-loop decreases-loop
 add-p c = search rules
@@ -59,10 +59,10 @@ loop-less c = search rules
 loop-again : tie.Need-loop-preserved invariant-loop decreases-loop
 loop-again c =
     let a = c.before.before.before.before.before.args in
-    (search rules, any_next c.before.before.before.before.loop.p (badCount a.k a.mask a.t3) c.before.before.before.before.loop.invariant.1 (here c.before ∙ c.if1.false))
+    (search rules, any_next c.before.before.before.before.loop.p (bad_count a.k a.mask a.t3) c.before.before.before.before.loop.invariant.1 (here c.before ∙ c.if1.false))
 
 returns-2 : tie.Need-returns-2 invariant-loop decreases-loop
-unfolding badClock
+unfolding bad_clock
 returns-2 c = let e : c.before.loop.p ≡ 8 = omega arith in rw (← e) (sym c.before.loop.invariant.1)
 
 pub bad-clock-spec : {M : Type 1} → statement M

@@ -6,14 +6,14 @@ use mathlib.Core.Bool.{false, Bool, not, ◌&&◌}
 use lib.Dec.{eqb}
 use borrow.Author.Rules.{rules}
 use Rattle.clocks.specs.Counts.{at}
-use Rattle.clocks.specs.Bounded.{anyBelow}
-use Rattle.clocks.specs.Refusal.{badLabels, badLabel}
-use Rattle.clocks.specs.stored.BoundedTurns.{any_none, any_next, any-stop}
+use Rattle.clocks.specs.Bounded.{any_below}
+use Rattle.clocks.specs.Refusal.{bad_labels, bad_label}
+use Rattle.clocks.specs.stored.BoundedTurns.{any_none, any_next, any_stop}
 use Rattle.clocks.proofs.refusal.bad_labels.Statement.{statement}
 use Rattle.clocks.proofs.refusal.bad_labels.Tie as tie
 
 abbrev invariant-loop : tie.invariant-loop
-invariant-loop mask labels p₀ p = (p ≤ 8) × (anyBelow p (badLabel mask labels) ≡ false)
+invariant-loop mask labels p₀ p = (p ≤ 8) × (any_below p (bad_label mask labels) ≡ false)
 
 abbrev decreases-loop : tie.decreases-loop
 decreases-loop mask labels p₀ p = 8 - p
@@ -34,17 +34,17 @@ stray-requires : tie.Need-stray-requires invariant-loop decreases-loop
 stray-requires c κs = search rules
 
 -- The call's answer is the test at p.
-here : (c : tie.After-stray invariant-loop decreases-loop) → badLabel c.before.before.before.before.args.mask c.before.before.before.before.args.t2 c.before.before.before.loop.p ≡ c.stray.result
+here : (c : tie.After-stray invariant-loop decreases-loop) → bad_label c.before.before.before.before.args.mask c.before.before.before.before.args.t2 c.before.before.before.loop.p ≡ c.stray.result
 here c =
     let a = c.before.before.before.before.args in
     let p = c.before.before.before.loop.p in
     ap (λ (b : Bool). not b && not (eqb (at a.t2 p) 0)) (sym c.before.has-bit.ensures) ∙ sym c.stray.ensures
 
 returns : tie.Need-returns invariant-loop decreases-loop
-unfolding badLabels
+unfolding bad_labels
 returns c =
     let a = c.before.before.before.before.before.args in
-    sym (any-stop 8 c.before.before.before.before.loop.p (badLabel a.mask a.t2) (search rules) (here c.before ∙ c.if1.true))
+    sym (any_stop 8 c.before.before.before.before.loop.p (bad_label a.mask a.t2) (search rules) (here c.before ∙ c.if1.true))
 
 add-p : tie.Need-overflow-add-p invariant-loop decreases-loop
 add-p c = search rules
@@ -55,10 +55,10 @@ loop-less c = search rules
 loop-again : tie.Need-loop-preserved invariant-loop decreases-loop
 loop-again c =
     let a = c.before.before.before.before.before.args in
-    (search rules, any_next c.before.before.before.before.loop.p (badLabel a.mask a.t2) c.before.before.before.before.loop.invariant.1 (here c.before ∙ c.if1.false))
+    (search rules, any_next c.before.before.before.before.loop.p (bad_label a.mask a.t2) c.before.before.before.before.loop.invariant.1 (here c.before ∙ c.if1.false))
 
 returns-2 : tie.Need-returns-2 invariant-loop decreases-loop
-unfolding badLabels
+unfolding bad_labels
 returns-2 c = let e : c.before.loop.p ≡ 8 = omega arith in rw (← e) (sym c.before.loop.invariant.1)
 
 pub bad-labels-spec : {M : Type 1} → statement M

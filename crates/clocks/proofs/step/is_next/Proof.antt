@@ -4,7 +4,7 @@ use native.Mathlib.Omega.{arith}
 use mathlib.Core.Path.{◌≡◌, sym}
 use borrow.Author.Tests.{ne_eqb}
 use borrow.Author.Rules.{rules}
-use Rattle.clocks.specs.stored.StepCountLaws.{eqb-next}
+use Rattle.clocks.specs.stored.StepCountLaws.{eqb_next}
 use Rattle.clocks.proofs.step.is_next.Statement.{statement}
 use Rattle.clocks.proofs.step.is_next.Tie as tie
 
@@ -12,7 +12,7 @@ sub-result : tie.Need-overflow-sub-result
 sub-result c = search rules
 
 returns : tie.Need-returns
-returns c = eqb-next _ _ c.if1.true
+returns c = eqb_next _ _ c.if1.true
 
 returns-2 : tie.Need-returns-2
 returns-2 c = sym (ne_eqb _ _ (λ (e : c.before.args.n ≡ c.before.args.c + 1). omega arith))

@@ -6,7 +6,7 @@ use lib.ListN.{length, get_or}
 use borrow.Author.Rules.{rules}
 use Rattle.clocks.specs.Counts.{at}
 use Rattle.clocks.specs.Event.{minus, one}
-use Rattle.clocks.specs.stored.CountsLaws.{filled, fill-next}
+use Rattle.clocks.specs.stored.CountsLaws.{filled, fill_next}
 use Rattle.clocks.proofs.step.minus.Statement.{statement}
 use Rattle.clocks.proofs.step.minus.Tie as tie
 
@@ -56,7 +56,7 @@ stored c =
 loop-again : tie.Need-loop-preserved invariant-loop decreases-loop
 loop-again c =
     let l = c.before.before.before.loop in
-    (search rules, search rules, fill-next _ 0 l.out l.p c.lower.result (search rules) (stored c) l.invariant.2)
+    (search rules, search rules, fill_next _ 0 l.out l.p c.lower.result (search rules) (stored c) l.invariant.2)
 
 returns : tie.Need-returns invariant-loop decreases-loop
 returns c = filled 8 _ 0 c.before.loop.out (search rules) (λ q l. c.before.loop.invariant.2 q (search rules))

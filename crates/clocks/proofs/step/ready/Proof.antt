@@ -9,15 +9,15 @@ use borrow.Author.Rules.{rules}
 use Rattle.clocks.specs.Bounded.{all_below}
 use Rattle.clocks.specs.Counts.{at}
 use Rattle.clocks.specs.Event.{involved, count}
-use Rattle.clocks.specs.Tested.{readyAt, ready}
-use Rattle.clocks.specs.stored.BoundedTurns.{all_none, all-next, all-stop}
+use Rattle.clocks.specs.Tested.{ready_at, ready}
+use Rattle.clocks.specs.stored.BoundedTurns.{all_none, all_next, all_stop}
 use Rattle.clocks.specs.declared.Event.{Event}
 use Rattle.clocks.proofs.step.ready.Statement.{statement}
 use Rattle.clocks.proofs.step.ready.Tie as tie
 
 -- What ready asks of process p.
 abbrev test : Event → List ℕ → ℕ → Bool
-test e counts p = readyAt (involved e p) (count e p) (at counts p)
+test e counts p = ready_at (involved e p) (count e p) (at counts p)
 
 abbrev invariant-loop : tie.invariant-loop
 invariant-loop e counts mask p₀ p = (p ≤ 8) × (all_below p (test e counts) ≡ true)
@@ -58,13 +58,13 @@ unfolding involved count
 here c =
     let a = c.before.before.before.before.before.args in
     let p = c.before.before.before.before.loop.p in
-    ap (λ (b : Bool). readyAt b (at a.t1.clock p) (at a.t2 p)) (sym c.before.before.has-bit.ensures) ∙ sym c.ready_at.ensures
+    ap (λ (b : Bool). ready_at b (at a.t1.clock p) (at a.t2 p)) (sym c.before.before.has-bit.ensures) ∙ sym c.ready_at.ensures
 
 returns : tie.Need-returns invariant-loop decreases-loop
 unfolding ready
 returns c =
     let a = c.before.before.before.before.before.before.args in
-    sym (all-stop 8 c.before.before.before.before.before.loop.p (test a.t1 a.t2) (search rules) (here c.before ∙ not-true _ c.if1.true))
+    sym (all_stop 8 c.before.before.before.before.before.loop.p (test a.t1 a.t2) (search rules) (here c.before ∙ not-true _ c.if1.true))
 
 add-p : tie.Need-overflow-add-p invariant-loop decreases-loop
 add-p c = search rules
@@ -75,7 +75,7 @@ loop-less c = search rules
 loop-again : tie.Need-loop-preserved invariant-loop decreases-loop
 loop-again c =
     let a = c.before.before.before.before.before.before.args in
-    (search rules, all-next c.before.before.before.before.before.loop.p (test a.t1 a.t2) c.before.before.before.before.before.loop.invariant.1 (here c.before ∙ not-false _ c.if1.false))
+    (search rules, all_next c.before.before.before.before.before.loop.p (test a.t1 a.t2) c.before.before.before.before.before.loop.invariant.1 (here c.before ∙ not-false _ c.if1.false))
 
 returns-2 : tie.Need-returns-2 invariant-loop decreases-loop
 unfolding ready

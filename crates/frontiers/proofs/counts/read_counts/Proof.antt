@@ -4,7 +4,7 @@ use native.Mathlib.Omega.{arith}
 use mathlib.Core.Path.{◌≡◌}
 use lib.ListN.{length, get_or}
 use borrow.Author.Rules.{rules}
-use Rattle.clocks.specs.stored.CountsLaws.{fill-next, filled}
+use Rattle.clocks.specs.stored.CountsLaws.{fill_next, filled}
 use Rattle.codec.specs.Little.{number}
 use Rattle.frontiers.specs.BytesLaws.{count-within}
 use Rattle.frontiers.specs.StoreLaws.{count_next}
@@ -49,7 +49,7 @@ loop-again c =
       search rules,
       omega (arith, count_next p a.w),
       search rules,
-      fill-next (λ q. number a.s.now (a.place + q * a.w) a.w) 0 c.before.before.loop.counts p c.read_count.result (search rules) (cc) c.before.before.loop.invariant.3,
+      fill_next (λ q. number a.s.now (a.place + q * a.w) a.w) 0 c.before.before.loop.counts p c.read_count.result (search rules) (cc) c.before.before.loop.invariant.3,
     )
 
 returns : tie.Need-returns invariant-loop decreases-loop

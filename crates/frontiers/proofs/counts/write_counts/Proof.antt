@@ -1,4 +1,4 @@
--- The loop stores the first p counts, one more with each turn: the law `counts-more`.
+-- The loop stores the first p counts, one more with each turn: the law `counts_more`.
 use Prim.Native.Nat.{◌≤◌, ◌<◌, ◌-◌, ◌*◌}
 use native.Mathlib.Omega.{arith}
 use mathlib.Core.Path.{◌≡◌}
@@ -6,19 +6,19 @@ use lib.Seq.{take_all, sets}
 use lib.ListN.{length, take}
 use borrow.Author.Rules.{rules}
 use Rattle.frontiers.specs.BytesLaws.{count-within}
-use Rattle.frontiers.specs.StoreLaws.{count_next, counts-more}
-use Rattle.frontiers.specs.Bytes.{countBytes}
+use Rattle.frontiers.specs.StoreLaws.{count_next, counts_more}
+use Rattle.frontiers.specs.Bytes.{count_bytes}
 use Rattle.frontiers.proofs.counts.write_counts.Statement.{statement}
 use Rattle.frontiers.proofs.counts.write_counts.Tie as tie
 
 abbrev invariant-loop : tie.invariant-loop
-invariant-loop s₀ w counts next₀ p₀ s next p = (p ≤ 8) × (next ≡ p * w) × (length s ≡ length s₀) × (length counts ≡ 8) × (s ≡ sets s₀ 0 (countBytes w (take p counts)))
+invariant-loop s₀ w counts next₀ p₀ s next p = (p ≤ 8) × (next ≡ p * w) × (length s ≡ length s₀) × (length counts ≡ 8) × (s ≡ sets s₀ 0 (count_bytes w (take p counts)))
 
 abbrev decreases-loop : tie.decreases-loop
 decreases-loop s₀ w counts next₀ p₀ s next p = 8 - p
 
 loop-holds : tie.Need-loop-init invariant-loop decreases-loop
-unfolding countBytes
+unfolding count_bytes
 loop-holds c = search rules
 
 mul-write-count : tie.Need-overflow-mul-write-count invariant-loop decreases-loop
@@ -49,7 +49,7 @@ loop-again c =
     let a = c.before.before.before.before.before.before.before.args in
     let p = c.before.before.before.before.before.loop.p in
     let l : p < length a.t3 = search rules in
-    (search rules, omega (arith, count_next p a.w), search rules, search rules, cc (counts-more a.w a.s.now a.t3 p l))
+    (search rules, omega (arith, count_next p a.w), search rules, search rules, cc (counts_more a.w a.s.now a.t3 p l))
 
 same_length : tie.Need-same-length invariant-loop decreases-loop
 same_length c = search rules

@@ -1,4 +1,4 @@
--- The first i bytes are stored, one more with each turn: the law `fill-next`.
+-- The first i bytes are stored, one more with each turn: the law `fill_next`.
 use Rattle.frontiers.proofs.moving.fill.Tie as tie
 use Prim.Native.Nat.{◌≤◌, ◌-◌}
 use native.Mathlib.Omega.{arith}
@@ -7,7 +7,7 @@ use lib.ListN.{length, replicate}
 use lib.Seq.{sets}
 use borrow.Author.Rules.{rules}
 use Rattle.frontiers.proofs.moving.fill.Statement.{statement}
-use Rattle.frontiers.proofs.moving.MovingSteps.{fill-next}
+use Rattle.frontiers.proofs.moving.MovingSteps.{fill_next}
 
 abbrev invariant-loop : tie.invariant-loop
 invariant-loop s₀ from n byte i₀ s i = (i ≤ n) × (length s ≡ length s₀) × (s ≡ sets s₀ from (replicate i byte))
@@ -33,7 +33,7 @@ loop-less c = search rules
 loop-again : tie.Need-loop-preserved invariant-loop decreases-loop
 loop-again c =
     let a = c.before.before.args in
-    (search rules, search rules, cc (fill-next a.s.now a.from c.before.loop.i a.byte))
+    (search rules, search rules, cc (fill_next a.s.now a.from c.before.loop.i a.byte))
 
 same_length : tie.Need-same-length invariant-loop decreases-loop
 same_length c = search rules

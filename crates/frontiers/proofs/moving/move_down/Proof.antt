@@ -1,4 +1,4 @@
--- The first i bytes are moved, one more with each turn: the law `down-next`.
+-- The first i bytes are moved, one more with each turn: the law `down_next`.
 use Rattle.frontiers.proofs.moving.move_down.Tie as tie
 use Prim.Native.Nat.{◌≤◌, ◌-◌, ℕ, ◌+◌}
 use native.Mathlib.Omega.{arith}
@@ -7,10 +7,10 @@ use mathlib.Core.List.{List}
 use lib.ListN.{length, get_or, set}
 use borrow.Author.Rules.{rules}
 use Rattle.frontiers.proofs.moving.move_down.Statement.{statement}
-use Rattle.frontiers.proofs.moving.MovingSteps.{movedDown, down-next, down-all}
+use Rattle.frontiers.proofs.moving.MovingSteps.{moved_down, down_next, down_all}
 
 abbrev invariant-loop : tie.invariant-loop
-invariant-loop s₀ to n by i₀ s i = (i ≤ n) × (length s ≡ length s₀) × (s ≡ movedDown s₀ to by n i)
+invariant-loop s₀ to n by i₀ s i = (i ≤ n) × (length s ≡ length s₀) × (s ≡ moved_down s₀ to by n i)
 
 abbrev decreases-loop : tie.decreases-loop
 decreases-loop s₀ to n by i₀ s i = n - i
@@ -43,7 +43,7 @@ loop-again : tie.Need-loop-preserved invariant-loop decreases-loop
 loop-again c =
     let a = c.before.before.before.args in
     let l = c.before.before.loop in
-    let next = down-next a.s.now a.to a.by a.n l.i (search rules) (search rules) in
+    let next = down_next a.s.now a.to a.by a.n l.i (search rules) (search rules) in
     (search rules, search rules, ap (λ (x : List ℕ). set x (a.to + l.i) (get_or x (a.to + a.by + l.i) 0)) l.invariant.2 ∙ next)
 
 same_length : tie.Need-same-length invariant-loop decreases-loop
@@ -53,7 +53,7 @@ returns : tie.Need-returns invariant-loop decreases-loop
 returns c =
     let a = c.before.before.args in
     let all : c.before.loop.i ≡ a.n = omega arith in
-    c.before.loop.invariant.2 ∙ ap (movedDown a.s.now a.to a.by a.n) all ∙ down-all a.s.now a.to a.by a.n
+    c.before.loop.invariant.2 ∙ ap (moved_down a.s.now a.to a.by a.n) all ∙ down_all a.s.now a.to a.by a.n
 
 pub move_down_spec : {M : Type 1} → statement M
 move_down_spec =

@@ -8,10 +8,10 @@ use mathlib.Core.Option.{none}
 use lib.ListN.{length, get_or, set}
 use borrow.Author.Rules.{rules}
 use Rattle.frontiers.proofs.moving.move_up.Statement.{statement}
-use Rattle.frontiers.proofs.moving.MovingSteps.{movedUp, up_none, up_next, up-all}
+use Rattle.frontiers.proofs.moving.MovingSteps.{moved_up, up_none, up_next, up_all}
 
 abbrev invariant-loop : tie.invariant-loop
-invariant-loop s₀ from n by i₀ s i = (i ≤ n) × (length s ≡ length s₀) × (s ≡ movedUp s₀ from by n i)
+invariant-loop s₀ from n by i₀ s i = (i ≤ n) × (length s ≡ length s₀) × (s ≡ moved_up s₀ from by n i)
 
 abbrev decreases-loop : tie.decreases-loop
 decreases-loop s₀ from n by i₀ s i = i
@@ -46,7 +46,7 @@ loop-again c =
     let l = c.before.before.loop in
     let one_more : l.i ≡ l.i - 1 + 1 = omega arith in
     let next = up_next a.s.now a.from a.by a.n (l.i - 1) (omega arith) (omega arith) in
-    let here : l.s ≡ movedUp a.s.now a.from a.by a.n (l.i - 1 + 1) = l.invariant.2 ∙ ap (movedUp a.s.now a.from a.by a.n) one_more in
+    let here : l.s ≡ moved_up a.s.now a.from a.by a.n (l.i - 1 + 1) = l.invariant.2 ∙ ap (moved_up a.s.now a.from a.by a.n) one_more in
     (search rules, search rules, ap (λ (x : List ℕ). set x (a.from + a.by + (l.i - 1)) (get_or x (a.from + (l.i - 1)) 0)) here ∙ next)
 
 same_length : tie.Need-same-length invariant-loop decreases-loop
@@ -56,7 +56,7 @@ returns : tie.Need-returns invariant-loop decreases-loop
 returns c =
     let a = c.before.before.args in
     let none : c.before.loop.i ≡ 0 = omega arith in
-    c.before.loop.invariant.2 ∙ ap (movedUp a.s.now a.from a.by a.n) none ∙ up-all a.s.now a.from a.by a.n
+    c.before.loop.invariant.2 ∙ ap (moved_up a.s.now a.from a.by a.n) none ∙ up_all a.s.now a.from a.by a.n
 
 pub move_up_spec : {M : Type 1} → statement M
 move_up_spec =

@@ -2,7 +2,7 @@
 use native.Mathlib.Omega.{arith}
 use mathlib.Core.Path.{◌≡◌}
 use borrow.Author.Rules.{rules}
-use Rattle.frontiers.specs.Bytes.{frontierLength}
+use Rattle.frontiers.specs.Bytes.{frontier_length}
 use Rattle.frontiers.proofs.place.frontier_place.Statement.{statement}
 use Rattle.frontiers.proofs.place.frontier_place.Tie as tie
 
@@ -13,13 +13,13 @@ mul-result-2 : tie.Need-overflow-mul-result-2
 mul-result-2 c = search rules
 
 returns : tie.Need-returns
-unfolding frontierLength
+unfolding frontier_length
 returns c =
     let two : c.before.args.w ≡ 2 = omega arith in
     (rw two, omega arith)
 
 returns-2 : tie.Need-returns-2
-unfolding frontierLength
+unfolding frontier_length
 returns-2 c =
     let four : c.before.args.w ≡ 4 = omega arith in
     (rw four, omega arith)

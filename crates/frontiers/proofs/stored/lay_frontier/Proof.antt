@@ -1,7 +1,7 @@
--- Storing at the start of the tail is storing at its place: the law `lent-tail`.
+-- Storing at the start of the tail is storing at its place: the law `lent_tail`.
 use borrow.Author.Rules.{rules}
-use Rattle.frontiers.specs.Bytes.{frontierBytes}
-use Rattle.frontiers.specs.StoreLaws.{lent-tail}
+use Rattle.frontiers.specs.Bytes.{frontier_bytes}
+use Rattle.frontiers.specs.StoreLaws.{lent_tail}
 use Rattle.frontiers.proofs.stored.lay_frontier.Statement.{statement}
 use Rattle.frontiers.proofs.stored.lay_frontier.Tie as tie
 
@@ -26,7 +26,7 @@ same_length c = search rules
 returns : tie.Need-returns
 returns c =
     let a = c.before.before.before.before.before.before.args in
-    cc (lent-tail a.scratch.now c.before.before.before.before.frontier-place.result (frontierBytes a.w a.f))
+    cc (lent_tail a.scratch.now c.before.before.before.before.frontier-place.result (frontier_bytes a.w a.f))
 
 pub lay-frontier-spec : {M : Type 1} → statement M
 lay-frontier-spec =

@@ -4,7 +4,7 @@ use native.Mathlib.Omega.{arith}
 use mathlib.Core.Path.{◌≡◌, refl}
 use lib.ListN.{length, get_or}
 use borrow.Author.Rules.{rules}
-use Rattle.clocks.specs.stored.CountsLaws.{fill-next}
+use Rattle.clocks.specs.stored.CountsLaws.{fill_next}
 use Rattle.frontiers.specs.StoreLaws.{part_filled}
 use Rattle.frontiers.proofs.stored.read_eight.Statement.{statement}
 use Rattle.frontiers.proofs.stored.read_eight.Tie as tie
@@ -37,7 +37,7 @@ loop-again : tie.Need-loop-preserved invariant-loop decreases-loop
 loop-again c =
     let a = c.before.before.before.args in
     let p = c.before.before.loop.p in
-    (search rules, search rules, fill-next (λ q. get_or a.s.now (a.place + q) 0) 0 c.before.before.loop.bytes p _ (search rules) refl c.before.before.loop.invariant.2)
+    (search rules, search rules, fill_next (λ q. get_or a.s.now (a.place + q) 0) 0 c.before.before.loop.bytes p _ (search rules) refl c.before.before.loop.invariant.2)
 
 returns : tie.Need-returns invariant-loop decreases-loop
 returns c =

@@ -1,11 +1,11 @@
 -- Each part is read from its place.
 use borrow.Author.Rules.{rules}
-use Rattle.frontiers.specs.Bytes.{frontierLength, frontierFrom}
+use Rattle.frontiers.specs.Bytes.{frontier_length, frontier_from}
 use Rattle.frontiers.proofs.stored.read_frontier.Statement.{statement}
 use Rattle.frontiers.proofs.stored.read_frontier.Tie as tie
 
 read-counts-requires : tie.Need-read-counts-requires
-unfolding frontierLength
+unfolding frontier_length
 read-counts-requires c κs = search rules
 
 mul-read-eight : tie.Need-overflow-mul-read-eight
@@ -15,7 +15,7 @@ add-read-eight : tie.Need-overflow-add-read-eight
 add-read-eight c = search rules
 
 read-eight-requires : tie.Need-read-eight-requires
-unfolding frontierLength
+unfolding frontier_length
 read-eight-requires c κs = search rules
 
 mul-read-eight-2 : tie.Need-overflow-mul-read-eight-2
@@ -28,14 +28,14 @@ add-read-eight-3 : tie.Need-overflow-add-read-eight-3
 add-read-eight-3 c = search rules
 
 read-eight-requires-2 : tie.Need-read-eight-requires-2
-unfolding frontierLength
+unfolding frontier_length
 read-eight-requires-2 c κs = search rules
 
 read-values-requires : tie.Need-read-values-requires
 read-values-requires c κs = search rules
 
 returns : tie.Need-returns
-unfolding frontierFrom
+unfolding frontier_from
 returns c = cc
 
 pub read-frontier-spec : {M : Type 1} → statement M

@@ -1,6 +1,6 @@
 -- The values stand behind counts, labels and masks.
 use borrow.Author.Rules.{rules}
-use Rattle.frontiers.specs.Bytes.{frontierLength, frontierFrom}
+use Rattle.frontiers.specs.Bytes.{frontier_length, frontier_from}
 use Rattle.frontiers.proofs.stored.read_values.Statement.{statement}
 use Rattle.frontiers.proofs.stored.read_values.Tie as tie
 
@@ -14,11 +14,11 @@ add-read-u64-2 : tie.Need-overflow-add-read-u64-2
 add-read-u64-2 c = search rules
 
 read-u64-requires : tie.Need-read-u64-requires
-unfolding frontierLength
+unfolding frontier_length
 read-u64-requires c κs = search rules
 
 returns : tie.Need-returns
-unfolding frontierFrom
+unfolding frontier_from
 returns c = search rules
 
 pub read-values-spec : {M : Type 1} → statement M

@@ -3,7 +3,7 @@ use native.Mathlib.Omega.{arith}
 use Prim.Native.Nat.{◌-◌}
 use mathlib.Core.Path.{◌≡◌, refl, sym, ap, ◌∙◌}
 use lib.ListN.{length, length-set}
-use Rattle.line_pieces.proofs.list.ListSteps.{Going, going_start, going-refused, going-last, going-again}
+use Rattle.line_pieces.proofs.list.ListSteps.{Going, going_start, going_refused, going_last, going_again}
 use Rattle.line_pieces.specs.NumberLaws.{inside, number-after}
 use borrow.Author.Rules.{rules}
 use Rattle.line_pieces.proofs.list.read_numbers.Statement.{statement}
@@ -26,7 +26,7 @@ enum-known-found : tie.Need-enum-known-found invariant-loop decreases-loop
 enum-known-found c = search rules
 
 returns : tie.Need-returns invariant-loop decreases-loop
-returns c = sym (going-refused c.before.before.before.before.loop.invariant.1 _ _
+returns c = sym (going_refused c.before.before.before.before.loop.invariant.1 _ _
     (sym c.before.before.before.read_number.ensures ∙ c.before.found.given.1))
 
 enum-known-found-2 : tie.Need-enum-known-found-2 invariant-loop decreases-loop
@@ -36,14 +36,14 @@ keep-requires : tie.Need-keep-requires invariant-loop decreases-loop
 keep-requires c κs = search rules
 
 add-count : tie.Need-overflow-add-count invariant-loop decreases-loop
-add-count c = let g = c.before.before.before.before.before.loop.invariant.1 in omega (arith, g.few, g.count-is)
+add-count c = let g = c.before.before.before.before.before.loop.invariant.1 in omega (arith, g.few, g.count_is)
 
 byte-at-requires : tie.Need-byte-at-requires invariant-loop decreases-loop
 byte-at-requires c κs = search rules
 
 returns-2 : tie.Need-returns-2 invariant-loop decreases-loop
 returns-2 c = rw c.before.before.keep.ensures
-    (sym (going-last c.before.before.before.before.before.before.before.loop.invariant.1 _ _
+    (sym (going_last c.before.before.before.before.before.before.before.loop.invariant.1 _ _
     (sym c.before.before.before.before.before.before.read_number.ensures
     ∙ c.before.before.before.before.found2.given.1) (λ e. c.if1.true (c.before.byte-at.ensures ∙ e))))
 
@@ -77,7 +77,7 @@ loop-again c = let l = c.before.before.before.before.before.before.before.before
     let n : length c.before.before.before.keep.result ≡ 8 =
     ap length c.before.before.before.keep.ensures ∙ length-set l.values _ _ ∙ l.invariant.0 in (
       n,
-      going-again l.invariant.1 c.before.before.before.before.before.before.before.read_number.ensures
+      going_again l.invariant.1 c.before.before.before.before.before.before.before.read_number.ensures
           c.before.before.before.before.before.found2.given.1 c.before.before.before.keep.ensures
           c.before.before.byte-at.ensures c.before.if1.false c.least-behind.ensures,
     )

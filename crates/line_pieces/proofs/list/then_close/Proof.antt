@@ -2,8 +2,8 @@
 use native.Mathlib.Omega.{arith}
 use borrow.Author.Tests.{eq-eqb, ne_eqb, le-leb, lt-leb}
 use Rattle.line_pieces.specs.NumberLaws.{inside}
-use Rattle.line_pieces.specs.Reading.{valueRead}
-use Rattle.line_pieces.specs.NumberList.{thenClose}
+use Rattle.line_pieces.specs.Reading.{value_read}
+use Rattle.line_pieces.specs.NumberList.{then_close}
 use borrow.Author.Rules.{rules}
 use Rattle.line_pieces.proofs.list.then_close.Statement.{statement}
 use Rattle.line_pieces.proofs.list.then_close.Tie as tie
@@ -15,14 +15,14 @@ byte-at-requires : tie.Need-byte-at-requires
 byte-at-requires c κs = search rules
 
 returns : tie.Need-returns
-unfolding valueRead thenClose
+unfolding value_read then_close
 returns c = (
   rw (c.before.before.before.r.given.1, ← c.before.byte-at.ensures, ne_eqb _ _ c.if1.true),
   omega arith,
 )
 
 returns-2 : tie.Need-returns-2
-unfolding valueRead thenClose
+unfolding value_read then_close
 returns-2 c = (
   rw (
     c.before.before.before.before.r.given.1,
@@ -35,7 +35,7 @@ returns-2 c = (
 )
 
 returns-3 : tie.Need-returns-3
-unfolding valueRead thenClose
+unfolding value_read then_close
 returns-3 c = (
   rw (
     c.before.before.before.before.before.r.given.1,
@@ -59,7 +59,7 @@ enum-known-r-2 : tie.Need-enum-known-r-2
 enum-known-r-2 c = search rules
 
 returns-4 : tie.Need-returns-4
-unfolding valueRead thenClose
+unfolding value_read then_close
 returns-4 c = (
   rw (
     c.before.before.before.before.before.r.given.1,
@@ -74,7 +74,7 @@ returns-4 c = (
 )
 
 returns-5 : tie.Need-returns-5
-unfolding valueRead thenClose
+unfolding value_read then_close
 returns-5 c = (rw c.before.r2.given.1, omega arith)
 
 pub then-close-spec : {M : Type 1} → statement M

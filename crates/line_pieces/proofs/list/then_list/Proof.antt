@@ -1,6 +1,6 @@
 -- The byte decides, as the definition says.
 use borrow.Author.Tests.{eq-eqb, ne_eqb}
-use Rattle.line_pieces.specs.NumberList.{thenList}
+use Rattle.line_pieces.specs.NumberList.{then_list}
 use borrow.Author.Rules.{rules}
 use Rattle.line_pieces.proofs.list.then_list.Statement.{statement}
 use Rattle.line_pieces.proofs.list.then_list.Tie as tie
@@ -15,7 +15,7 @@ no-numbers-requires : tie.Need-no-numbers-requires
 no-numbers-requires c κs = search rules
 
 returns : tie.Need-returns
-unfolding thenList
+unfolding then_list
 returns c = rw (
   c.before.before.before.before.r.given.1,
   ← c.before.before.byte-at.ensures,
@@ -33,7 +33,7 @@ no-numbers-requires-2 : tie.Need-no-numbers-requires-2
 no-numbers-requires-2 c κs = search rules
 
 returns-2 : tie.Need-returns-2
-unfolding thenList
+unfolding then_list
 returns-2 c = rw (
   c.before.before.before.before.r.given.1,
   ← c.before.before.byte-at.ensures,
@@ -42,7 +42,7 @@ returns-2 c = rw (
 ) c.read-numbers.ensures
 
 returns-3 : tie.Need-returns-3
-unfolding thenList
+unfolding then_list
 returns-3 c = rw c.before.before.r2.given.1 c.no-numbers2.ensures
 
 pub then-list-spec : {M : Type 1} → statement M

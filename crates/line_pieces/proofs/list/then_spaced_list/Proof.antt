@@ -2,7 +2,7 @@
 use native.Mathlib.Omega.{arith}
 use Rattle.line_pieces.specs.NumberLaws.{inside}
 use borrow.Author.Tests.{eq-eqb, ne_eqb}
-use Rattle.line_pieces.specs.NumberList.{thenSpacedList}
+use Rattle.line_pieces.specs.NumberList.{then_spaced_list}
 use borrow.Author.Rules.{rules}
 use Rattle.line_pieces.proofs.list.then_spaced_list.Statement.{statement}
 use Rattle.line_pieces.proofs.list.then_spaced_list.Tie as tie
@@ -17,7 +17,7 @@ no-numbers-requires : tie.Need-no-numbers-requires
 no-numbers-requires c κs = search rules
 
 returns : tie.Need-returns
-unfolding thenSpacedList
+unfolding then_spaced_list
 returns c = rw (
   c.before.before.before.before.r.given.1,
   ← c.before.before.byte-at.ensures,
@@ -41,7 +41,7 @@ no-numbers-requires-2 : tie.Need-no-numbers-requires-2
 no-numbers-requires-2 c κs = search rules
 
 returns-2 : tie.Need-returns-2
-unfolding thenSpacedList
+unfolding then_spaced_list
 returns-2 c = rw (
   c.before.before.before.before.r.given.1,
   ← c.before.before.byte-at.ensures,
@@ -50,7 +50,7 @@ returns-2 c = rw (
 ) c.read-numbers.ensures
 
 returns-3 : tie.Need-returns-3
-unfolding thenSpacedList
+unfolding then_spaced_list
 returns-3 c = rw c.before.before.r2.given.1 c.no-numbers2.ensures
 
 pub then-spaced-list-spec : {M : Type 1} → statement M

@@ -1,5 +1,5 @@
--- What is read so far and the digits to come make up all the digits, and say the number. Each turn is `digits-next`
--- and `says-next`.
+-- What is read so far and the digits to come make up all the digits, and say the number. Each turn is `digits_next`
+-- and `says_next`.
 use Prim.Native.Nat.{ℕ, ◌+◌, ◌-◌}
 use native.Mathlib.Omega.{arith}
 use mathlib.Core.Path.{◌≡◌, refl, sym, ◌∙◌, ap}
@@ -9,12 +9,12 @@ use lib.ListN.{length, drop, drop_of_length-le}
 use borrow.Author.Tests.{not-true, not-false}
 use Rattle.rules.specs.Text.{byte_at}
 use Rattle.codec.specs.Decimal.{digits, value}
-use Rattle.line_pieces.specs.NumberLaws.{digits-next, digits-end, digit-bounds}
+use Rattle.line_pieces.specs.NumberLaws.{digits_next, digits-end, digit_bounds}
 use borrow.Author.Rules.{rules}
 use Rattle.line_pieces.proofs.number.read_digits.Statement.{statement}
 use Rattle.line_pieces.proofs.number.read_digits.Tie as tie
 use Rattle.line_pieces.specs.Digits.{Says, DigitsRead, grown}
-use Rattle.line_pieces.proofs.number.NumberSteps.{says-next}
+use Rattle.line_pieces.proofs.number.NumberSteps.{says_next}
 
 abbrev invariant-loop : tie.invariant-loop
 invariant-loop line i end₀ v₀ end v =
@@ -49,7 +49,7 @@ returns c = let l = c.before.before.before.before.loop in
     read s _ l.end l.value l.invariant.0 l.invariant.1 e
 
 grown-requires : tie.Need-grown-requires invariant-loop decreases-loop
-grown-requires c κs = digit-bounds _ (sym c.before.is_digit.ensures ∙ not-false _ c.if1.false)
+grown-requires c κs = digit_bounds _ (sym c.before.is_digit.ensures ∙ not-false _ c.if1.false)
 
 add-end : tie.Need-overflow-add-end invariant-loop decreases-loop
 add-end c = search rules
@@ -62,7 +62,7 @@ loop-again c = let l = c.before.before.before.before.before.loop in
     let a = c.before.before.before.before.before.before.before.args in
     let s = a.line.now in
     let e : digits (drop l.end s) ≡ byte_at s l.end ∷ digits (drop (l.end + 1) s) =
-    digits-next s l.end
+    digits_next s l.end
     (rw (← c.before.before.before.byte-at.ensures)
     (sym c.before.before.is_digit.ensures ∙ not-false _ c.before.if1.false))
     in
@@ -70,7 +70,7 @@ loop-again c = let l = c.before.before.before.before.before.loop in
     rw (← c.before.before.before.byte-at.ensures) c.grown.ensures in (
       omega (arith, l.invariant.0, ap length e),
       rw g
-          (says-next l.value (byte_at s l.end) (digits (drop (l.end + 1) s)) _ (rw e at l.invariant.1)),
+          (says_next l.value (byte_at s l.end) (digits (drop (l.end + 1) s)) _ (rw e at l.invariant.1)),
     )
 
 returns-2 : tie.Need-returns-2 invariant-loop decreases-loop

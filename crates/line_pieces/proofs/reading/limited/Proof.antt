@@ -2,14 +2,14 @@
 use Rattle.line_pieces.specs.Reading.{limited}
 use borrow.Author.Tests.{lt-ltb, le-ltb}
 use mathlib.Core.Path.{sym}
-use Rattle.line_pieces.proofs.reading.ReadingSteps.{limited-short}
+use Rattle.line_pieces.proofs.reading.ReadingSteps.{limited_short}
 use borrow.Author.Rules.{rules}
 use Rattle.line_pieces.proofs.reading.limited.Statement.{statement}
 use Rattle.line_pieces.proofs.reading.limited.Tie as tie
 
 returns : tie.Need-returns
 unfolding limited
-returns c = sym (limited-short c.before.args.line.now c.before.args.r c.if1.true)
+returns c = sym (limited_short c.before.args.line.now c.before.args.r c.if1.true)
 
 enum_told : tie.Need-enum-told
 enum_told c = search rules

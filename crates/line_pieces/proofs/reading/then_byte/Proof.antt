@@ -1,5 +1,5 @@
 -- Each return is a case of the definition; a byte that is met stands inside the line, so the next place is a place.
-use Rattle.line_pieces.specs.Reading.{thenByte}
+use Rattle.line_pieces.specs.Reading.{then_byte}
 use native.Mathlib.Omega.{arith}
 use borrow.Author.Tests.{eq-eqb, ne_eqb}
 use Rattle.line_pieces.specs.NumberLaws.{inside}
@@ -14,7 +14,7 @@ byte-at-requires : tie.Need-byte-at-requires
 byte-at-requires c κs = search rules
 
 returns : tie.Need-returns
-unfolding thenByte
+unfolding then_byte
 returns c = rw (c.before.before.before.r.given.1, ← c.before.byte-at.ensures, ne_eqb _ _ c.if1.true)
 
 add-t12 : tie.Need-overflow-add-t12
@@ -28,11 +28,11 @@ enum-known-r-2 : tie.Need-enum-known-r-2
 enum-known-r-2 c = search rules
 
 returns-2 : tie.Need-returns-2
-unfolding thenByte
+unfolding then_byte
 returns-2 c = rw (c.before.before.before.r.given.1, ← c.before.byte-at.ensures, eq-eqb _ _ c.if1.false)
 
 returns-3 : tie.Need-returns-3
-unfolding thenByte
+unfolding then_byte
 returns-3 c = rw c.before.r2.given.1
 
 pub then-byte-spec : {M : Type 1} → statement M

@@ -1,16 +1,16 @@
--- The loop has met the bytes before i: those that are left decide. Each turn is `thenBytes-next`.
+-- The loop has met the bytes before i: those that are left decide. Each turn is `then_bytes_next`.
 use Prim.Native.Nat.{◌≤◌, ◌-◌}
 use mathlib.Core.Path.{◌≡◌, refl, sym, ◌∙◌}
 use lib.ListN.{length, drop}
-use Rattle.line_pieces.specs.Reading.{thenBytes}
-use Rattle.line_pieces.proofs.reading.ReadingSteps.{thenBytes-next, thenBytes-end}
+use Rattle.line_pieces.specs.Reading.{then_bytes}
+use Rattle.line_pieces.proofs.reading.ReadingSteps.{then_bytes_next, then_bytes-end_lem}
 use borrow.Author.Rules.{rules}
 use Rattle.line_pieces.proofs.reading.then_bytes.Statement.{statement}
 use Rattle.line_pieces.proofs.reading.then_bytes.Tie as tie
 
 abbrev invariant-loop : tie.invariant-loop
 invariant-loop line bytes read₀ i₀ read i =
-    (i ≤ length bytes) × (thenBytes line bytes read₀ ≡ thenBytes line (drop i bytes) read)
+    (i ≤ length bytes) × (then_bytes line bytes read₀ ≡ then_bytes line (drop i bytes) read)
 
 abbrev decreases-loop : tie.decreases-loop
 decreases-loop line bytes read₀ i₀ read i = length bytes - i
@@ -35,13 +35,13 @@ loop-again c = let a = c.before.before.before.before.before.before.args in
     let l = c.before.before.before.loop in (
       search rules,
       rw c.then-byte.ensures
-          (l.invariant.1 ∙ thenBytes-next a.line.now a.bytes.now l.i l.read c.before.before.loop-test.true),
+          (l.invariant.1 ∙ then_bytes_next a.line.now a.bytes.now l.i l.read c.before.before.loop-test.true),
     )
 
 returns : tie.Need-returns invariant-loop decreases-loop
 returns c = let a = c.before.before.before.before.args in
     let l = c.before.loop in
-    sym (l.invariant.1 ∙ thenBytes-end a.line.now a.bytes.now l.i l.read c.loop-test.false)
+    sym (l.invariant.1 ∙ then_bytes-end_lem a.line.now a.bytes.now l.i l.read c.loop-test.false)
 
 pub then-bytes-spec : {M : Type 1} → statement M
 then-bytes-spec =

@@ -2,7 +2,7 @@
 use borrow.Author.Rules.{rules}
 use Rattle.line_pieces.proofs.reading.then_last.Statement.{statement}
 use Rattle.line_pieces.proofs.reading.then_last.Tie as tie
-use Rattle.line_pieces.specs.Reading.{thenLast}
+use Rattle.line_pieces.specs.Reading.{then_last}
 
 then-byte-requires : tie.Need-then-byte-requires
 then-byte-requires c κs = search rules
@@ -14,7 +14,7 @@ limited-requires : tie.Need-limited-requires
 limited-requires c κs = search rules
 
 returns : tie.Need-returns
-unfolding thenLast
+unfolding then_last
 returns c = cc
 
 pub then-last-spec : {M : Type 1} → statement M

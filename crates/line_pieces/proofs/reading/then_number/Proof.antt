@@ -1,5 +1,5 @@
 -- A place hands on to the number there, a fault stays.
-use Rattle.line_pieces.specs.Reading.{thenNumber}
+use Rattle.line_pieces.specs.Reading.{then_number}
 use borrow.Author.Rules.{rules}
 use Rattle.line_pieces.proofs.reading.then_number.Statement.{statement}
 use Rattle.line_pieces.proofs.reading.then_number.Tie as tie
@@ -14,11 +14,11 @@ enum-known-r-2 : tie.Need-enum-known-r-2
 enum-known-r-2 c = search rules
 
 returns : tie.Need-returns
-unfolding thenNumber
+unfolding then_number
 returns c = rw c.before.before.r.given.1 c.read_number.ensures
 
 returns-2 : tie.Need-returns-2
-unfolding thenNumber
+unfolding then_number
 returns-2 c = rw c.before.r2.given.1
 
 pub then-number-spec : {M : Type 1} → statement M

@@ -1,5 +1,5 @@
 -- By the two cases of a reading.
-use Rattle.line_pieces.specs.Reading.{valueRead}
+use Rattle.line_pieces.specs.Reading.{value_read}
 use borrow.Author.Rules.{rules}
 use Rattle.line_pieces.proofs.reading.value_of.Statement.{statement}
 use Rattle.line_pieces.proofs.reading.value_of.Tie as tie
@@ -11,11 +11,11 @@ enum_told : tie.Need-enum-told
 enum_told c = search rules
 
 returns : tie.Need-returns
-unfolding valueRead
+unfolding value_read
 returns c = rw c.before.r.given.1
 
 returns-2 : tie.Need-returns-2
-unfolding valueRead
+unfolding value_read
 returns-2 c = rw c.enum_told.given.1
 
 pub value-of-spec : {M : Type 1} → statement M

@@ -1,8 +1,8 @@
--- By the two cases of a reading; the words are those of `words-made`.
+-- By the two cases of a reading; the words are those of `words_made`.
 use mathlib.Core.Path.{◌≡◌}
 use lib.ListN.{length}
-use Rattle.lines.proofs.did.DidSteps.{words-made}
-use Rattle.lines.specs.Lines.{didOf}
+use Rattle.lines.proofs.did.DidSteps.{words_made}
+use Rattle.lines.specs.Lines.{did_of}
 use borrow.Author.Rules.{rules}
 use Rattle.lines.proofs.did.did_of.Statement.{statement}
 use Rattle.lines.proofs.did.did_of.Tie as tie
@@ -38,7 +38,7 @@ enum-known-whole : tie.Need-enum-known-whole
 enum-known-whole c = search rules
 
 returns : tie.Need-returns
-unfolding didOf
+unfolding did_of
 returns c = let clocked = c.before.before in
     let marked = clocked.before.before.before.before in
     let begun = marked.before.before.before.before in
@@ -46,14 +46,14 @@ returns c = let clocked = c.before.before in
     let told = marked.before.before.enum_told.given in
     let l : length a.counts ≡ 8 = search rules in
     rw told.1
-    (words-made a.n a.processes a.counts a.labels _ _ told.0.0 told.0.1.0 _ _ _ _ _ _ begun.requires
+    (words_made a.n a.processes a.counts a.labels _ _ told.0.0 told.0.1.0 _ _ _ _ _ _ begun.requires
     l marked.before.place.ensures marked.word_of.ensures
     clocked.before.before.before.word-of2.ensures clocked.before.before.word-of3.ensures
     clocked.before.word-of4.ensures clocked.word-of5.ensures c.before.place2.ensures
     c.word-of6.ensures)
 
 returns-2 : tie.Need-returns-2
-unfolding didOf
+unfolding did_of
 returns-2 c = rw c.before.whole.given.1
 
 pub did-of-spec : {M : Type 1} → statement M

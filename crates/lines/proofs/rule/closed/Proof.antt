@@ -3,7 +3,7 @@ use Prim.Native.Nat.{◌-◌}
 use native.Mathlib.Omega.{arith}
 use mathlib.Core.Path.{sym, ◌∙◌}
 use borrow.Author.Tests.{eq-eqb, ne_eqb}
-use Rattle.lines.proofs.rule.RuleSteps.{closed-refused, closed-accepted, closed-short}
+use Rattle.lines.proofs.rule.RuleSteps.{closed_refused, closed_accepted, closed_short}
 use borrow.Author.Rules.{rules}
 use Rattle.lines.proofs.rule.closed.Statement.{statement}
 use Rattle.lines.proofs.rule.closed.Tie as tie
@@ -19,7 +19,7 @@ enum_told c = search rules
 
 returns : tie.Need-returns
 returns c = (
-  sym (closed-short c.before.before.before.before.before.args.line.now
+  sym (closed_short c.before.before.before.before.before.args.line.now
       c.before.before.before.before.before.args.k c.if1.true),
   tt,
 )
@@ -32,7 +32,7 @@ byte-at-requires c κs = search rules
 
 returns-2 : tie.Need-returns-2
 returns-2 c = let a = c.before.before.before.before.before.before.before.args in (
-  sym (closed-accepted a.line.now a.k _
+  sym (closed_accepted a.line.now a.k _
       (sym c.before.before.before.before.before.read-text.ensures
       ∙ c.before.before.before.enum_told.given.1)
       ∙ rw (← c.before.byte-at.ensures, ne_eqb _ _ c.if2.true)),
@@ -41,14 +41,14 @@ returns-2 c = let a = c.before.before.before.before.before.before.before.args in
 
 returns-3 : tie.Need-returns-3
 returns-3 c = let a = c.before.before.before.before.before.args in (
-  sym (closed-refused a.line.now a.k _ _
+  sym (closed_refused a.line.now a.k _ _
       (sym c.before.before.before.read-text.ensures ∙ c.before.read.given.1)),
   tt,
 )
 
 returns-4 : tie.Need-returns-4
 returns-4 c = let a = c.before.before.before.before.before.before.before.args in (
-  sym (closed-accepted a.line.now a.k _
+  sym (closed_accepted a.line.now a.k _
       (sym c.before.before.before.before.before.read-text.ensures
       ∙ c.before.before.before.enum_told.given.1) ∙ rw (← c.before.byte-at.ensures, eq-eqb _ _ c.if2.false)),
   (omega (arith, c.before.before.if1.false), omega arith),

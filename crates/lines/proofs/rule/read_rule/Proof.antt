@@ -1,5 +1,5 @@
 -- The head decides first, then the rule and the last byte.
-use Rattle.lines.specs.Lines.{ruleOf, ruleLine}
+use Rattle.lines.specs.Lines.{rule_of, rule_line}
 use borrow.Author.Rules.{rules}
 use Rattle.lines.proofs.rule.read_rule.Statement.{statement}
 use Rattle.lines.proofs.rule.read_rule.Tie as tie
@@ -23,7 +23,7 @@ enum-known-first : tie.Need-enum-known-first
 enum-known-first c = search rules
 
 returns : tie.Need-returns
-unfolding ruleOf ruleLine
+unfolding rule_of rule_line
 returns c = (
   rw (
     ← c.before.before.before.before.head.ensures,
@@ -34,7 +34,7 @@ returns c = (
 )
 
 returns-2 : tie.Need-returns-2
-unfolding ruleOf ruleLine
+unfolding rule_of rule_line
 returns-2 c = (
   rw (
     ← c.before.before.before.before.head.ensures,

@@ -1,6 +1,6 @@
 -- The rule is empty in a line of six bytes or fewer, and else stands between the seventh byte and the last.
 use mathlib.Core.Path.{refl, ◌∙◌}
-use Rattle.lines.proofs.rule.RuleSteps.{text-short, text-long, text-answer}
+use Rattle.lines.proofs.rule.RuleSteps.{text_short, text_long, text_answer}
 use borrow.Author.Rules.{rules}
 use Rattle.lines.proofs.rule.read_text.Statement.{statement}
 use Rattle.lines.proofs.rule.read_text.Tie as tie
@@ -16,8 +16,8 @@ read-rule-requires c κs = search rules
 
 returns : tie.Need-returns
 returns c = let a = c.before.before.before.before.before.before.args in
-    rw (text-short a.line.now c.before.before.before.before.if1.true)
-    (c.before.read-rule.ensures.0 ∙ text-answer _ _ _ refl)
+    rw (text_short a.line.now c.before.before.before.before.if1.true)
+    (c.before.read-rule.ensures.0 ∙ text_answer _ _ _ refl)
 
 sub-end : tie.Need-overflow-sub-end
 sub-end c = search rules
@@ -39,8 +39,8 @@ read-rule-requires-2 c κs = search rules
 
 returns-2 : tie.Need-returns-2
 returns-2 c = let a = c.before.before.before.before.before.before.args in
-    rw (text-long a.line.now _ c.before.before.before.before.if1.false refl)
-    (c.before.read-rule2.ensures.0 ∙ text-answer _ _ _ refl)
+    rw (text_long a.line.now _ c.before.before.before.before.if1.false refl)
+    (c.before.read-rule2.ensures.0 ∙ text_answer _ _ _ refl)
 
 pub read-text-spec : {M : Type 1} → statement M
 read-text-spec =

@@ -1,5 +1,5 @@
 -- The parts are read one after the other, as the definition says.
-use Rattle.lines.proofs.start.StartSteps.{start-made}
+use Rattle.lines.proofs.start.StartSteps.{start_made}
 use borrow.Author.Rules.{rules}
 use Rattle.lines.proofs.start.read_start.Statement.{statement}
 use Rattle.lines.proofs.start.read_start.Tie as tie
@@ -26,7 +26,7 @@ start-of-requires : tie.Need-start-of-requires
 start-of-requires c κs = search rules
 
 returns : tie.Need-returns
-returns c = start-made c.before.before.before.before.before.before.before.before.before.args.line.now
+returns c = start_made c.before.before.before.before.before.before.before.before.before.args.line.now
     c.before.before.before.before.before.before.before.before.before.args.k
     c.before.before.before.before.before.before.head.ensures
     c.before.before.before.before.before.then-spaced-list.ensures

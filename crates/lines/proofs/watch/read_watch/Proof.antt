@@ -1,5 +1,5 @@
 -- The parts are read one after the other, as the definition says.
-use Rattle.lines.specs.Lines.{watchLine}
+use Rattle.lines.specs.Lines.{watch_line}
 use borrow.Author.Rules.{rules}
 use Rattle.lines.proofs.watch.read_watch.Statement.{statement}
 use Rattle.lines.proofs.watch.read_watch.Tie as tie
@@ -30,7 +30,7 @@ watch-of-requires c κs = search rules
 
 -- By rewriting and not by `cc`: of a wrong limit `cc` only says that it met a bound of its own.
 returns : tie.Need-returns
-unfolding watchLine
+unfolding watch_line
 returns c = rw (
   c.watch-of.ensures,
   c.before.then-last.ensures,

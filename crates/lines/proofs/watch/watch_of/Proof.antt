@@ -1,5 +1,5 @@
 -- By the two cases of a reading.
-use Rattle.lines.specs.Lines.{watchOf}
+use Rattle.lines.specs.Lines.{watch_of}
 use borrow.Author.Rules.{rules}
 use Rattle.lines.proofs.watch.watch_of.Statement.{statement}
 use Rattle.lines.proofs.watch.watch_of.Tie as tie
@@ -11,11 +11,11 @@ enum-known-room-2 : tie.Need-enum-known-room-2
 enum-known-room-2 c = search rules
 
 returns : tie.Need-returns
-unfolding watchOf
+unfolding watch_of
 returns c = rw c.before.room.given.1
 
 returns-2 : tie.Need-returns-2
-unfolding watchOf
+unfolding watch_of
 returns-2 c = rw c.before.room2.given.1
 
 pub watch-of-spec : {M : Type 1} → statement M

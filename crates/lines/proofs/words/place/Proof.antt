@@ -1,10 +1,10 @@
--- The values before j are placed. Each turn is `placed-next`.
+-- The values before j are placed. Each turn is `placed_next`.
 use Prim.Native.Nat.{◌≤◌, ◌-◌}
 use native.Mathlib.Omega.{arith}
 use mathlib.Core.Path.{◌≡◌, refl}
 use Rattle.clocks.specs.Counts.{at}
 use Rattle.lines.specs.Words.{placed}
-use Rattle.lines.proofs.words.WordSteps.{placed-next}
+use Rattle.lines.proofs.words.WordSteps.{placed_next}
 use borrow.Author.Rules.{rules}
 use Rattle.lines.proofs.words.place.Statement.{statement}
 use Rattle.lines.proofs.words.place.Tie as tie
@@ -43,7 +43,7 @@ loop-less c = search rules
 loop-again : tie.Need-loop-preserved invariant-loop decreases-loop
 loop-again c = let l = c.before.before.loop in
     let a = c.before.before.before.args in
-    (search rules, rw (placed-next l.j (at a.t2) (at a.t3), ← l.invariant.1) c.keep.ensures)
+    (search rules, rw (placed_next l.j (at a.t2) (at a.t3), ← l.invariant.1) c.keep.ensures)
 
 returns : tie.Need-returns invariant-loop decreases-loop
 returns c = let l = c.before.loop in

@@ -4,14 +4,14 @@ use native.Mathlib.Omega.{arith}
 use mathlib.Core.Path.{◌≡◌, sym}
 use Prim.Native.Nat.{◌≤◌, ◌-◌}
 use lib.ListN.{length, get_or, take, drop}
-use Rattle.lines.specs.Words.{packedWord}
+use Rattle.lines.specs.Words.{packed_word}
 use Rattle.lines.proofs.words.WordSteps.{word_fits, word_next, word_none}
 use borrow.Author.Rules.{rules}
 use Rattle.lines.proofs.words.word_of.Statement.{statement}
 use Rattle.lines.proofs.words.word_of.Tie as tie
 
 abbrev invariant-loop : tie.invariant-loop
-invariant-loop base from to values w₀ i₀ w i = (from ≤ i) × ((i ≤ to) × (w ≡ packedWord base (take (to - i) (drop i values))))
+invariant-loop base from to values w₀ i₀ w i = (from ≤ i) × ((i ≤ to) × (w ≡ packed_word base (take (to - i) (drop i values))))
 
 abbrev decreases-loop : tie.decreases-loop
 decreases-loop base from to values w₀ i₀ w i = i - from

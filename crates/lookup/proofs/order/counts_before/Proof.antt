@@ -1,7 +1,7 @@
 -- At the first difference the counts there decide; without one nothing stands before.
 use mathlib.Core.Path.{sym, ◌∙◌}
 use borrow.Author.Rules.{rules}
-use Rattle.lookup.specs.OrderLaws.{before-drop-other, before-drop-end}
+use Rattle.lookup.specs.OrderLaws.{before-drop_other, before-drop-end}
 use Rattle.lookup.proofs.order.counts_before.Statement.{statement}
 use Rattle.lookup.proofs.order.counts_before.Tie as tie
 
@@ -24,13 +24,13 @@ returns : tie.Need-returns
 returns c =
     let a = c.before.before.args in
     let d = c.before.first-difference in
-    sym (d.ensures.before-there ∙ before-drop-other a.t1 a.t2 d.result (search rules) (search rules) (d.ensures.differs c.if1.true))
+    sym (d.ensures.before_there ∙ before-drop_other a.t1 a.t2 d.result (search rules) (search rules) (d.ensures.differs c.if1.true))
 
 returns-2 : tie.Need-returns-2
 returns-2 c =
     let a = c.before.before.args in
     let d = c.before.first-difference in
-    sym (d.ensures.before-there ∙ before-drop-end a.t1 a.t2 d.result (search rules))
+    sym (d.ensures.before_there ∙ before-drop-end a.t1 a.t2 d.result (search rules))
 
 pub counts-before-spec : {M : Type 1} → statement M
 counts-before-spec =

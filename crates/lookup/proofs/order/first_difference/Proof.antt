@@ -33,7 +33,7 @@ array-read-if1-2 c = search rules
 returns : tie.Need-returns invariant-loop decreases-loop
 returns c =
     let l = c.before.before.loop in
-    record { within = search rules; before-there = l.invariant.3; differs = λ h. c.if1.true }
+    record { within = search rules; before_there = l.invariant.3; differs = λ h. c.if1.true }
 
 add-p : tie.Need-overflow-add-p invariant-loop decreases-loop
 add-p c = search rules
@@ -51,7 +51,7 @@ loop-again c =
 returns-2 : tie.Need-returns-2 invariant-loop decreases-loop
 returns-2 c =
     let l = c.before.loop in
-    record { within = search rules; before-there = l.invariant.3; differs = λ h. absurd (omega arith) }
+    record { within = search rules; before_there = l.invariant.3; differs = λ h. absurd (omega arith) }
 
 pub first-difference-spec : {M : Type 1} → statement M
 first-difference-spec =

@@ -1,9 +1,9 @@
--- Each turn is one of the definition: the law `bisect-step-keys`.
+-- Each turn is one of the definition: the law `bisect_step_keys`.
 use Prim.Native.Nat.{◌/◌, ◌≤◌, ◌-◌, ◌+◌}
 use native.Mathlib.Omega.{arith}
 use mathlib.Core.Path.{◌≡◌, sym, ◌∙◌}
 use borrow.Author.Rules.{rules}
-use Rattle.lookup.proofs.seek.SeekSteps.{bisect-end-keys, bisect-step-keys}
+use Rattle.lookup.proofs.seek.SeekSteps.{bisect-end_keys, bisect_step_keys}
 use Rattle.frontiers.specs.WindowLaws.{place-within}
 use Rattle.lookup.specs.Seek.{bisect, keys_of}
 use Rattle.frontiers.specs.Bytes.{frontiers}
@@ -46,7 +46,7 @@ turn : (c : tie.After-standing-at invariant-loop decreases-loop) (b : Standing) 
 turn c b q =
     let a = c.before.before.before.before.args in
     let l = c.before.before.loop in
-    l.invariant.1 ∙ bisect-step-keys a.w a.s.now a.n a.key l.lo l.hi (search rules) l.invariant.0 b (sym c.standing-at.ensures ∙ q)
+    l.invariant.1 ∙ bisect_step_keys a.w a.s.now a.n a.key l.lo l.hi (search rules) l.invariant.0 b (sym c.standing-at.ensures ∙ q)
 
 enum_told : tie.Need-enum-told invariant-loop decreases-loop
 enum_told c = search rules
@@ -79,7 +79,7 @@ returns-2 : tie.Need-returns-2 invariant-loop decreases-loop
 returns-2 c =
     let a = c.before.before.before.args in
     let l = c.before.loop in
-    sym (l.invariant.1 ∙ bisect-end-keys a.w a.s.now a.n a.key l.lo l.hi (search rules))
+    sym (l.invariant.1 ∙ bisect-end_keys a.w a.s.now a.n a.key l.lo l.hi (search rules))
 
 pub bisect-spec : {M : Type 1} → statement M
 bisect-spec =

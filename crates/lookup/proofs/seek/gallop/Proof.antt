@@ -1,9 +1,9 @@
--- Each turn is one of the definition: the laws `gallop-past-keys` and `gallop-step-keys`.
+-- Each turn is one of the definition: the laws `gallop_past_keys` and `gallop_step_keys`.
 use Prim.Native.Nat.{◌≤◌, ◌<◌, ◌-◌, ◌+◌, ◌*◌}
 use native.Mathlib.Omega.{arith}
 use mathlib.Core.Path.{◌≡◌, sym, ◌∙◌}
 use borrow.Author.Rules.{rules}
-use Rattle.lookup.proofs.seek.SeekSteps.{gallop-past-keys, gallop-step-keys}
+use Rattle.lookup.proofs.seek.SeekSteps.{gallop_past_keys, gallop_step_keys}
 use Rattle.frontiers.specs.WindowLaws.{place-within}
 use Rattle.lookup.specs.Seek.{bisect, gallop, keys_of}
 use Rattle.frontiers.specs.Bytes.{frontiers}
@@ -34,7 +34,7 @@ returns : tie.Need-returns invariant-loop decreases-loop
 returns c =
     let a = c.before.before.before.before.args in
     let l = c.before.before.loop in
-    c.bisect.ensures ∙ sym (l.invariant.3 ∙ gallop-past-keys a.w a.s.now a.n a.key l.lo l.width (search rules) (search rules))
+    c.bisect.ensures ∙ sym (l.invariant.3 ∙ gallop_past_keys a.w a.s.now a.n a.key l.lo l.width (search rules) (search rules))
 
 standing-at-requires : tie.Need-standing-at-requires invariant-loop decreases-loop
 standing-at-requires c κs =
@@ -53,7 +53,7 @@ turn : (c : tie.After-standing-at invariant-loop decreases-loop) (b : Standing) 
 turn c b q =
     let a = c.before.before.before.before.args in
     let l = c.before.before.loop in
-    l.invariant.3 ∙ gallop-step-keys a.w a.s.now a.n a.key l.lo l.width (search rules) (search rules) b (sym c.standing-at.ensures ∙ q)
+    l.invariant.3 ∙ gallop_step_keys a.w a.s.now a.n a.key l.lo l.width (search rules) (search rules) b (sym c.standing-at.ensures ∙ q)
 
 enum_told : tie.Need-enum-told invariant-loop decreases-loop
 enum_told c = search rules

@@ -1,8 +1,8 @@
--- The first test leads as in the definition: the laws `seek-whole-keys` and `seek-step-keys`.
+-- The first test leads as in the definition: the laws `seek_whole_keys` and `seek_step_keys`.
 use native.Mathlib.Omega.{arith}
 use mathlib.Core.Path.{◌≡◌, sym, ◌∙◌}
 use borrow.Author.Rules.{rules}
-use Rattle.lookup.proofs.seek.SeekSteps.{seek-whole-keys, seek-step-keys}
+use Rattle.lookup.proofs.seek.SeekSteps.{seek_whole_keys, seek_step_keys}
 use Rattle.frontiers.specs.WindowLaws.{place-within}
 use Rattle.lookup.specs.Seek.{bisect, gallop, seek, keys_of}
 use Rattle.frontiers.specs.Bytes.{frontiers}
@@ -17,7 +17,7 @@ bisect-requires c κs = search rules
 returns : tie.Need-returns
 returns c =
     let a = c.before.before.before.args in
-    c.bisect.ensures ∙ sym (seek-whole-keys a.w a.s.now a.n a.key a.hint (search rules))
+    c.bisect.ensures ∙ sym (seek_whole_keys a.w a.s.now a.n a.key a.hint (search rules))
 
 standing-at-requires : tie.Need-standing-at-requires
 standing-at-requires c κs =
@@ -33,7 +33,7 @@ turn : (c : tie.After-standing-at) (b : Standing) → c.standing-at.result ≡ b
     ]
 turn c b q =
     let a = c.before.before.before.args in
-    seek-step-keys a.w a.s.now a.n a.key a.hint (search rules) b (sym c.standing-at.ensures ∙ q)
+    seek_step_keys a.w a.s.now a.n a.key a.hint (search rules) b (sym c.standing-at.ensures ∙ q)
 
 enum_told : tie.Need-enum-told
 enum_told c = search rules

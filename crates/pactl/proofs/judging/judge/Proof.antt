@@ -1,18 +1,18 @@
--- The word so far has the bits of the lines before i. Each turn is `judgeFrom-next`.
+-- The word so far has the bits of the lines before i. Each turn is `judge_from_next`.
 use Prim.Native.Nat.{◌^◌, ◌≤◌, ◌<◌, ◌-◌}
 use native.Mathlib.Omega.{arith}
 use mathlib.Core.Path.{◌≡◌, sym, ap, ◌∙◌}
 use borrow.Author.Rules.{rules}
-use Rattle.pactl.specs.JudgeLaws.{judgeFrom-next, judgeFrom-end, withBit-lt}
+use Rattle.pactl.specs.JudgeLaws.{judge_from_next, judge_from-end_lem, with_bit-lt_lem}
 use Rattle.pactl.specs.TableBytes.{line_at, lines_from, lines_of}
-use Rattle.pactl.specs.Judge.{judgeLine, judgeFrom, withBit, judge as judged}
+use Rattle.pactl.specs.Judge.{judge_line, judge_from, with_bit, judge as judged}
 use Rattle.pactl.proofs.judging.judge.Statement.{statement}
 use Rattle.pactl.proofs.judging.judge.Tie as tie
 
 abbrev invariant-loop : tie.invariant-loop
 invariant-loop table lines labels any all preceded v₀ i₀ v i =
     (i ≤ lines) × (v < 2 ^ i)
-    × (judged labels any all preceded (lines_of table lines) ≡ judgeFrom labels any all preceded v i (lines_from table (lines - i) i))
+    × (judged labels any all preceded (lines_of table lines) ≡ judge_from labels any all preceded v i (lines_from table (lines - i) i))
 
 abbrev decreases-loop : tie.decreases-loop
 decreases-loop table lines labels any all preceded v₀ i₀ v i = lines - i
@@ -41,20 +41,20 @@ loop-less c = search rules
 loop-again : tie.Need-loop-preserved invariant-loop decreases-loop
 loop-again c = let a = c.before.before.before.before.before.before.args in
     let l = c.before.before.before.before.loop in
-    let t = judgeLine a.labels l.v a.any a.all a.preceded l.i (line_at a.table.now l.i) in
-    let e : c.with-bit.result ≡ withBit l.v l.i t =
+    let t = judge_line a.labels l.v a.any a.all a.preceded l.i (line_at a.table.now l.i) in
+    let e : c.with-bit.result ≡ with_bit l.v l.i t =
     c.with-bit.ensures
-    ∙ ap (withBit l.v l.i) (c.before.judge-line.ensures ∙ ap (judgeLine a.labels l.v a.any a.all a.preceded l.i) c.before.before.read-line.ensures)
+    ∙ ap (with_bit l.v l.i) (c.before.judge-line.ensures ∙ ap (judge_line a.labels l.v a.any a.all a.preceded l.i) c.before.before.read-line.ensures)
     in (
       search rules,
-      rw e (withBit-lt l.v l.i t l.invariant.1),
-      rw e (l.invariant.2 ∙ judgeFrom-next a.labels a.any a.all a.preceded l.v a.table.now a.lines l.i c.before.before.before.loop-test.true),
+      rw e (with_bit-lt_lem l.v l.i t l.invariant.1),
+      rw e (l.invariant.2 ∙ judge_from_next a.labels a.any a.all a.preceded l.v a.table.now a.lines l.i c.before.before.before.loop-test.true),
     )
 
 returns : tie.Need-returns invariant-loop decreases-loop
 returns c = let a = c.before.before.before.args in
     let l = c.before.loop in
-    sym (l.invariant.2 ∙ judgeFrom-end a.labels a.any a.all a.preceded l.v a.table.now a.lines l.i c.loop-test.false)
+    sym (l.invariant.2 ∙ judge_from-end_lem a.labels a.any a.all a.preceded l.v a.table.now a.lines l.i c.loop-test.false)
 
 pub judge-spec : {M : Type 1} → statement M
 judge-spec =

@@ -1,6 +1,6 @@
 -- The definition, with what `has` answers.
 use borrow.Author.Rules.{rules}
-use Rattle.pactl.specs.Judge.{esJudged}
+use Rattle.pactl.specs.Judge.{es_judged}
 use Rattle.pactl.proofs.judging.judge_es.Statement.{statement}
 use Rattle.pactl.proofs.judging.judge_es.Tie as tie
 
@@ -14,7 +14,7 @@ has-requires-3 : tie.Need-has-requires-3
 has-requires-3 c κs = search rules
 
 returns : tie.Need-returns
-unfolding esJudged
+unfolding es_judged
 returns c = rw (c.before.before.has.ensures, c.before.has2.ensures, c.has3.ensures)
 
 pub judge-es-spec : {M : Type 1} → statement M

@@ -1,6 +1,6 @@
 -- The definition, with what `has` answers.
 use borrow.Author.Rules.{rules}
-use Rattle.pactl.specs.Judge.{notJudged}
+use Rattle.pactl.specs.Judge.{not_judged}
 use Rattle.pactl.proofs.judging.judge_not.Statement.{statement}
 use Rattle.pactl.proofs.judging.judge_not.Tie as tie
 
@@ -8,7 +8,7 @@ has-requires : tie.Need-has-requires
 has-requires c κs = search rules
 
 returns : tie.Need-returns
-unfolding notJudged
+unfolding not_judged
 returns c = cc
 
 pub judge-not-spec : {M : Type 1} → statement M

@@ -4,7 +4,7 @@ use mathlib.Core.Path.{◌≡◌, sym}
 use lib.ListN.{get_or-eq_default, length}
 use borrow.Author.Rules.{rules}
 use Rattle.codec.specs.BitLaws.{bit-zero}
-use Rattle.pactl.specs.Judge.{propositionJudged}
+use Rattle.pactl.specs.Judge.{proposition_judged}
 use Rattle.pactl.proofs.judging.judge_proposition.Statement.{statement}
 use Rattle.pactl.proofs.judging.judge_proposition.Tie as tie
 
@@ -18,11 +18,11 @@ has-requires : tie.Need-has-requires
 has-requires c κs = search rules
 
 returns : tie.Need-returns
-unfolding propositionJudged
+unfolding proposition_judged
 returns c = cc
 
 returns-2 : tie.Need-returns-2
-unfolding propositionJudged
+unfolding proposition_judged
 returns-2 c = let e : length c.before.args.t1 ≡ 8 = search rules in
     rw (get_or-eq_default c.before.args.t1 0 {n = c.before.args.a} (omega arith)) (sym (bit-zero c.before.args.b))
 

@@ -6,15 +6,15 @@ use mathlib.Core.Bool.{Bool, true, false}
 use lib.Pow.{shl_exact, pow_mono}
 use mir.Val.{bool_byte}
 use borrow.Author.Rules.{rules}
-use Rattle.pactl.specs.Judge.{withBit}
-use Rattle.pactl.specs.JudgeLaws.{withBit-lt}
+use Rattle.pactl.specs.Judge.{with_bit}
+use Rattle.pactl.specs.JudgeLaws.{with_bit-lt_lem}
 use Rattle.pactl.proofs.judging.with_bit.Statement.{statement}
 use Rattle.pactl.proofs.judging.with_bit.Tie as tie
 
 -- A truth as a number, shifted to bit i.
-with-shifted : (v i : ℕ) (t : Bool) → i < 64 → v + (bool_byte t * 2 ^ i) % 2 ^ 64 ≡ withBit v i t
-with-shifted v i true l = rw (shl_exact {a = 1} 1 i 64 (omega arith) (omega arith)) (omega arith)
-with-shifted v i false l = omega arith
+with_shifted : (v i : ℕ) (t : Bool) → i < 64 → v + (bool_byte t * 2 ^ i) % 2 ^ 64 ≡ with_bit v i t
+with_shifted v i true l = rw (shl_exact {a = 1} 1 i 64 (omega arith) (omega arith)) (omega arith)
+with_shifted v i false l = omega arith
 
 cast-result : tie.Need-overflow-cast-result
 cast-result c = search rules
@@ -26,10 +26,10 @@ add-result : tie.Need-overflow-add-result
 add-result c =
     let a = c.args in
     let p : 2 ^ (a.i + 1) ≤ 2 ^ 64 = pow_mono {j = 64} (omega arith) in
-    omega (arith, with-shifted a.v a.i a.t (search rules), withBit-lt a.v a.i a.t (search rules))
+    omega (arith, with_shifted a.v a.i a.t (search rules), with_bit-lt_lem a.v a.i a.t (search rules))
 
 returns : tie.Need-returns
-returns c = with-shifted c.args.v c.args.i c.args.t (search rules)
+returns c = with_shifted c.args.v c.args.i c.args.t (search rules)
 
 pub with-bit-spec : {M : Type 1} → statement M
 with-bit-spec = tie.close (tie.spec cast-result shl-result add-result returns)

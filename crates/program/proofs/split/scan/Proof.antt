@@ -5,7 +5,7 @@ use Prim.Native.Nat.{◌≤◌, ◌-◌}
 use mathlib.Core.List.{◌++◌, append-nil}
 use lib.Seq.{take_all, length-take-le}
 use lib.ListN.{length, take, length-set}
-use Rattle.program.proofs.SplitSteps.{Unended, unended-next, feed-here, feed-none, byte-kept, byte-passed}
+use Rattle.program.proofs.SplitSteps.{Unended, unended_next, feed_here, feed_none, byte_kept, byte_passed}
 use borrow.Author.Rules.{rules}
 use Rattle.program.proofs.split.scan.Statement.{statement}
 use Rattle.program.proofs.split.scan.Tie as tie
@@ -38,7 +38,7 @@ same_length c = search rules
 returns : tie.Need-returns invariant-loop decreases-loop
 returns c = let a = c.before.before.before.before.args in
     let l = c.before.before.before.loop in
-    let f = feed-here a.bytes.now l.i (omega arith) c.if1.true l.invariant.3 in
+    let f = feed_here a.bytes.now l.i (omega arith) c.if1.true l.invariant.3 in
     record {
       ended = sym f.0;
       passed = rw (f.0, f.1) (omega (arith, length-take-le l.i a.bytes.now (omega arith)));
@@ -61,8 +61,8 @@ loop-again c = let a = c.before.before.before.before.before.args in
       omega arith,
       simp length-set (omega arith),
       length-set l.line _ _ ∙ l.invariant.2,
-      unended-next a.bytes.now l.i (omega arith) c.before.if1.false l.invariant.3,
-      byte-kept l.line (take a.start a.line.now) a.bytes.now (length a.line.now) l.auto l.i (sym l.invariant.2) (omega arith) l.invariant.4 c.if2.true,
+      unended_next a.bytes.now l.i (omega arith) c.before.if1.false l.invariant.3,
+      byte_kept l.line (take a.start a.line.now) a.bytes.now (length a.line.now) l.auto l.i (sym l.invariant.2) (omega arith) l.invariant.4 c.if2.true,
     )
 
 loop-less-2 : tie.Need-loop-smaller-2 invariant-loop decreases-loop
@@ -74,8 +74,8 @@ loop-again-2 c = let a = c.before.before.before.before.before.args in
       omega arith,
       omega arith,
       l.invariant.2,
-      unended-next a.bytes.now l.i (omega arith) c.before.if1.false l.invariant.3,
-      byte-passed l.line (take a.start a.line.now) a.bytes.now (length a.line.now) l.auto l.i (sym l.invariant.2) (omega arith) l.invariant.4 c.if2.false,
+      unended_next a.bytes.now l.i (omega arith) c.before.if1.false l.invariant.3,
+      byte_passed l.line (take a.start a.line.now) a.bytes.now (length a.line.now) l.auto l.i (sym l.invariant.2) (omega arith) l.invariant.4 c.if2.false,
     )
 
 same-length-2 : tie.Need-same-length-2 invariant-loop decreases-loop
@@ -84,7 +84,7 @@ same-length-2 c = search rules
 returns-2 : tie.Need-returns-2 invariant-loop decreases-loop
 returns-2 c = let a = c.before.before.args in
     let l = c.before.loop in
-    let f = feed-none a.bytes.now l.i (omega arith) l.invariant.3 in
+    let f = feed_none a.bytes.now l.i (omega arith) l.invariant.3 in
     record {
       ended = sym f.0;
       passed = rw (f.0, f.1) (omega (arith, length-take-le l.i a.bytes.now (omega arith)));

@@ -1,6 +1,6 @@
 -- The tests are those of the definition.
 use mathlib.Core.Path.{sym, ◌∙◌}
-use Rattle.program.specs.Stages.{lineRead}
+use Rattle.program.specs.Stages.{line_read}
 use borrow.Author.Tests.{eq-eqb, ne_eqb}
 use borrow.Author.Rules.{rules}
 use Rattle.program.proofs.stages.answer.Statement.{statement}
@@ -10,7 +10,7 @@ watch-line-requires : tie.Need-watch-line-requires
 watch-line-requires c κs = search rules
 
 returns : tie.Need-returns
-unfolding lineRead
+unfolding line_read
 returns c = let r = c.watch-line in
     let test = c.before in
     let start = test.before.before.before.before.before in
@@ -26,7 +26,7 @@ same_length : tie.Need-same-length
 same_length c = search rules
 
 returns-2 : tie.Need-returns-2
-unfolding lineRead
+unfolding line_read
 returns-2 c = let r = c.before.before.rule-line in
     let test = c.before.before.before.before in
     let start = test.before.before.before.before.before.before in
@@ -48,7 +48,7 @@ same-length-4 : tie.Need-same-length-4
 same-length-4 c = search rules
 
 returns-3 : tie.Need-returns-3
-unfolding lineRead
+unfolding line_read
 returns-3 c = let r = c.before.before.before.before.start-line in
     let test = c.before.before.before.before.before.before.before.before in
     let start = test.before.before.before.before.before.before.before in
@@ -64,7 +64,7 @@ same-length-5 : tie.Need-same-length-5
 same-length-5 c = search rules
 
 returns-4 : tie.Need-returns-4
-unfolding lineRead
+unfolding line_read
 returns-4 c = let r = c.before.before.Did-line in
     let test = c.before.before.before.before in
     let start = test.before.before.before.before.before.before.before in

@@ -1,5 +1,5 @@
--- What the call answers is within the parts of a reply word (`offer-fits`).
-use Rattle.program.proofs.StageSteps.{did-refused, did-stands}
+-- What the call answers is within the parts of a reply word (`offer_fits`).
+use Rattle.program.proofs.StageSteps.{did_refused, did_stands}
 use borrow.Author.Rules.{rules}
 use Rattle.program.proofs.stages.did_line.Statement.{statement}
 use Rattle.program.proofs.stages.did_line.Tie as tie
@@ -25,7 +25,7 @@ replied-requires c κs = search rules
 returns : tie.Need-returns
 returns c = let known = c.before.before in
     let a = known.before.before.before.before.before.args in (
-      λ t rule window h. rw (did-refused t a.session rule a.«record».now window h a.line.now _ known.before.before.read-did.ensures _ _ known.read.given.1)
+      λ t rule window h. rw (did_refused t a.session rule a.«record».now window h a.line.now _ known.before.before.read-did.ensures _ _ known.read.given.1)
           (c.refuse.ensures.0 t rule a.«record».now window h),
       c.refuse.ensures.1,
     )
@@ -38,7 +38,7 @@ returns-2 c = let offer = c.before.before.before.watch32-offer in
     let known = c.before.before.before.before.before.before in
     let a = known.before.before.before.before.before.args in
     let q = c.replied.ensures in (
-      λ t rule window h. did-stands t a.session rule a.«record».now window h a.line.now _
+      λ t rule window h. did_stands t a.session rule a.«record».now window h a.line.now _
           known.before.before.read-did.ensures _ _ _ _ _ _ _ _ _ known.read2.given.1 q offer.ensures.0 offer.ensures.1,
       λ n w. record { processes = rw q.processes w.processes; frontiers = rw q.frontiers w.frontiers; text = rw q.text w.text },
     )

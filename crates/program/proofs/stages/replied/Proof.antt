@@ -1,6 +1,6 @@
 -- A refusal is known by its number, which is not 0.
 use mathlib.Core.Path.{refl, ◌∙◌}
-use Rattle.replies.specs.ReplyLaws.{refused-by}
+use Rattle.replies.specs.ReplyLaws.{refused_by}
 use borrow.Author.Rules.{rules}
 use Rattle.program.proofs.stages.replied.Statement.{statement}
 use Rattle.program.proofs.stages.replied.Tie as tie
@@ -18,7 +18,7 @@ returns c =
       processes = refl;
       frontiers = refl;
       text = refl;
-      reply = λ a f e. (d.ensures a f e, c.next-stage.ensures ∙ rw (refused-by a d.result f (d.ensures a f e)));
+      reply = λ a f e. (d.ensures a f e, c.next-stage.ensures ∙ rw (refused_by a d.result f (d.ensures a f e)));
     }
 
 pub replied-spec : {M : Type 1} → statement M

@@ -1,9 +1,9 @@
--- The reader says where the rule stands within its line, and what stands there is the rule's text (`rule-lies`).
+-- The reader says where the rule stands within its line, and what stands there is the rule's text (`rule_lies`).
 use native.Mathlib.Omega.{arith}
 use mathlib.Core.Path.{◌∙◌, subst}
 use lib.ListN.{length}
-use Rattle.program.proofs.StageSteps.{rule-refused, rule-stands}
-use Rattle.program.proofs.KeptRule.{part-fits, Lies, rule-lies}
+use Rattle.program.proofs.StageSteps.{rule_refused, rule_stands}
+use Rattle.program.proofs.KeptRule.{part-fits, Lies, rule_lies}
 use Rattle.lines.specs.Lines.{RuleWithin}
 use borrow.Author.Rules.{rules}
 use Rattle.program.proofs.stages.rule_line.Statement.{statement}
@@ -43,7 +43,7 @@ returns : tie.Need-returns
 returns c = let known = c.before.before in
     let start = known.before.before.before.before.before.before in
     let a = start.args in (
-      λ t bytes window h. rw (rule-refused t a.session a.rule.now bytes window h a.line.now _ known.before.before.read-rule.ensures.0 _ _ known.read.given.1)
+      λ t bytes window h. rw (rule_refused t a.session a.rule.now bytes window h a.line.now _ known.before.before.read-rule.ensures.0 _ _ known.read.given.1)
           (c.refuse.ensures.0 t a.rule.now bytes window h),
       c.refuse.ensures.1 _ start.requires.1,
     )
@@ -59,8 +59,8 @@ returns-2 c = let put = c.before.before.before.put in
     let read = known.before.before.read-rule in
     let told = known.read2.given.1 in
     let w = subst (RuleWithin _) told read.ensures.1 in (
-      λ t bytes window h. rule-stands t a.session a.rule.now bytes window h a.line.now _ read.ensures.0 _ _ _ _ _ c.next-stage.ensures told
-          (put.ensures.1 ∙ subst (Lies _) told (rw read.ensures.0 (rule-lies _ _))),
+      λ t bytes window h. rule_stands t a.session a.rule.now bytes window h a.line.now _ read.ensures.0 _ _ _ _ _ c.next-stage.ensures told
+          (put.ensures.1 ∙ subst (Lies _) told (rw read.ensures.0 (rule_lies _ _))),
       record {
         processes = start.requires.1.processes;
         frontiers = start.requires.1.frontiers;

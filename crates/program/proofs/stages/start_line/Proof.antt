@@ -1,6 +1,6 @@
--- What the call answers is within the parts of a reply word (`open-fits`).
+-- What the call answers is within the parts of a reply word (`open_fits`).
 use mathlib.Core.Path.{sym}
-use Rattle.program.proofs.StageSteps.{start-refused, start-stands}
+use Rattle.program.proofs.StageSteps.{start_refused, start_stands}
 use lib.Seq.{length-take-le}
 use borrow.Author.Rules.{rules}
 use Rattle.program.proofs.stages.start_line.Statement.{statement}
@@ -31,7 +31,7 @@ returns : tie.Need-returns
 returns c = let known = c.before.before in
     let start = known.before.before.before.before.before.before.before in
     let a = start.args in (
-      λ t h. rw (start-refused t a.session a.rule.now a.«record».now a.window.now h a.line.now _ known.before.before.read-start.ensures _ _ known.read.given.1)
+      λ t h. rw (start_refused t a.session a.rule.now a.«record».now a.window.now h a.line.now _ known.before.before.read-start.ensures _ _ known.read.given.1)
           (c.refuse.ensures.0 t a.rule.now a.«record».now a.window.now h),
       c.refuse.ensures.1 _ start.requires,
     )
@@ -48,7 +48,7 @@ returns-2 c = let opened = c.before.before.before.before.before.watch32-open in
     let start = known.before.before.before.before.before.before.before in
     let a = start.args in
     let q = c.replied.ensures in (
-      λ t h. start-stands t a.session a.rule.now a.«record».now a.window.now h a.line.now _ known.before.before.read-start.ensures _ _ _ _ _ known.read2.given.1 q opened.ensures.0 opened.ensures.1.0 opened.ensures.1.1,
+      λ t h. start_stands t a.session a.rule.now a.«record».now a.window.now h a.line.now _ known.before.before.read-start.ensures _ _ _ _ _ known.read2.given.1 q opened.ensures.0 opened.ensures.1.0 opened.ensures.1.1,
       record { processes = rw q.processes start.requires.processes; frontiers = rw q.frontiers start.requires.frontiers; text = rw q.text start.requires.text },
     )
 

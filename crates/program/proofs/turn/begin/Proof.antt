@@ -2,12 +2,12 @@
 use native.Mathlib.Omega.{arith}
 use mathlib.Core.Path.{refl}
 use Rattle.replies.specs.Replies.{parts_of}
-use Rattle.program.specs.Turn.{atFirst}
+use Rattle.program.specs.Turn.{at_first}
 use Rattle.program.proofs.turn.begin.Statement.{statement}
 use Rattle.program.proofs.turn.begin.Tie as tie
 
 returns : tie.Need-returns
-unfolding atFirst parts_of
+unfolding at_first parts_of
 returns c = (
   λ rule bytes window. record {
     replied = refl;

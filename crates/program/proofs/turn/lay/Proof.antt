@@ -1,10 +1,10 @@
--- The text stands at the front of the part that is lent, and so after what is laid: the law `laid-after`.
+-- The text stands at the front of the part that is lent, and so after what is laid: the law `laid_after`.
 use native.Mathlib.Omega.{arith}
 use mathlib.Core.Path.{ap, ◌∙◌}
 use Prim.Native.Nat.{ℕ, ◌≤◌, ◌-◌, ◌+◌}
 use mathlib.Core.List.{List, ◌++◌}
 use lib.ListN.{take}
-use Rattle.program.proofs.TurnSteps.{laid-after}
+use Rattle.program.proofs.TurnSteps.{laid_after}
 use borrow.Author.Rules.{rules}
 use Rattle.program.proofs.turn.lay.Statement.{statement}
 use Rattle.program.proofs.turn.lay.Tie as tie
@@ -39,7 +39,7 @@ returns c =
     let length = a.at + 256 - a.at in (
       omega (arith, short),
       λ b p e.
-          laid-after a.out.now part a.at z.result length (search rules) (search rules)
+          laid_after a.out.now part a.at z.result length (search rules) (search rules)
           ∙ ap (λ (t : List ℕ). take a.at a.out.now ++ t) (z.ensures.1 b p e),
     )
 

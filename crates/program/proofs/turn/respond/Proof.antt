@@ -1,4 +1,4 @@
--- The line's answer is possible with what it leaves (`answer-told`), so its text and what follows it are known; the
+-- The line's answer is possible with what it leaves (`answer_told`), so its text and what follows it are known; the
 -- takes' texts stand after it (`responded`). The room is within the buffers.
 use native.Mathlib.Omega.{arith}
 use mathlib.Core.Path.{◌≡◌, refl, sym, ◌∙◌}
@@ -6,9 +6,9 @@ use Prim.Native.Nat.{◌≤◌}
 use mathlib.Core.List.{◌++◌}
 use lib.ListN.{length, drop}
 use lib.Seq.{length-take-le}
-use Rattle.reply_text.specs.Form.{programWindow}
-use Rattle.program.specs.Turn.{roomBytes, lentPart}
-use Rattle.program.proofs.TurnSteps.{cut_stands, answer-told, responded}
+use Rattle.reply_text.specs.Form.{program_window}
+use Rattle.program.specs.Turn.{room_bytes, lent_part}
+use Rattle.program.proofs.TurnSteps.{cut_stands, answer_told, responded}
 use borrow.Author.Rules.{rules}
 use Rattle.program.proofs.turn.respond.Statement.{statement}
 use Rattle.program.proofs.turn.respond.Tie as tie
@@ -26,14 +26,14 @@ abbrev followed : tie.After-take-all-arg → tie.After-takes
 followed c = c.before
 
 -- The room is within the buffers, and the window is as long as it was.
-room_fits : (c : tie.After-answer) → roomBytes (start c).args.session.room ≤ programWindow
+room_fits : (c : tie.After-answer) → room_bytes (start c).args.session.room ≤ program_window
 room_fits c = omega (arith, (start c).requires.1.1.0.frontiers)
 
-window-long : (c : tie.After-window)
-    → let n = roomBytes (start (answered c)).args.session.room in
+window_long : (c : tie.After-window)
+    → let n = room_bytes (start (answered c)).args.session.room in
     length ((answered c).answer.new.1.1.1.1.0 ++ drop n (start (answered c)).args.window.now)
-    ≡ programWindow
-window-long c =
+    ≡ program_window
+window_long c =
     let a = start (answered c) in
     c.window.given.1 ∙ a.pre.1.1.1.1
 
@@ -63,12 +63,12 @@ takes-requires c κs = search rules
 slice-relend-prefix-take-all : tie.Need-slice-relend-prefix-take-all
 slice-relend-prefix-take-all c =
     let w = lent (followed c) in
-    omega (arith, window-long w, room_fits (answered w))
+    omega (arith, window_long w, room_fits (answered w))
 
 slice-aggregate-take-all : tie.Need-slice-aggregate-take-all
 slice-aggregate-take-all c =
     let w = lent (followed c.before) in
-    sym (length-take-le _ _ (omega (arith, window-long w, room_fits (answered w))))
+    sym (length-take-le _ _ (omega (arith, window_long w, room_fits (answered w))))
 
 slice-relend-prefix-take-all-2 : tie.Need-slice-relend-prefix-take-all-2
 slice-relend-prefix-take-all-2 c =
@@ -123,16 +123,16 @@ returns c =
     let state = a.«record».now in
     let window = a.window.now in
     let part = z.answer.last.1.1.1.1.0 in
-    let n = roomBytes a.session.room in
+    let n = room_bytes a.session.room in
     let inside : n ≤ length window = omega (arith, room_fits z, (start z).pre.1.1.1.1) in
     let long = (lent f).window.given.0 ∙ length-take-le n window inside in
     let laid = f.before.before.before.lay in
     let e = all.take_all.ensures in (
       λ t h.
-          let g = z.answer.ensures.0 (lentPart t) (cut_stands t a.session rule state window h) in
+          let g = z.answer.ensures.0 (lent_part t) (cut_stands t a.session rule state window h) in
           let next = z.answer.result in
           let line = a.line.now in
-          let told = answer-told t a.session next line rule state window _ _ part h g (start z).pre.0 in
+          let told = answer_told t a.session next line rule state window _ _ part h g (start z).pre.0 in
           responded t a.session next line rule state window _ _ part h g a.scratch.now _ _ _ _ _ _ _ _ long
           (laid.ensures.1 _ told g.replied) (f.takes.ensures _ _ told g.replied)
           e.1.0 e.1.1.0 e.1.1.1.0 e.1.1.1.1,

@@ -4,8 +4,8 @@ use native.Mathlib.Omega.{arith}
 use mathlib.Core.Path.{◌≡◌, refl, ◌∙◌}
 use Prim.Native.Nat.{◌≤◌, ◌-◌, ◌+◌, ◌*◌}
 use lib.ListN.{length, take}
-use Rattle.program.specs.Turn.{takesWhile, mostTakes}
-use Rattle.program.proofs.TurnSteps.{not_more, Ahead, ahead-first, ahead_step, ahead-last}
+use Rattle.program.specs.Turn.{takes_while, most_takes}
+use Rattle.program.proofs.TurnSteps.{not_more, Ahead, ahead_first, ahead_step, ahead_last}
 use borrow.Author.Rules.{rules}
 use Rattle.program.proofs.turn.take_all.Statement.{statement}
 use Rattle.program.proofs.turn.take_all.Tie as tie
@@ -14,7 +14,7 @@ abbrev invariant-loop : tie.invariant-loop
 invariant-loop follows k s₀ window₀ scratch₀ out₀ start at₀ left₀ s window scratch out at left =
     (at + left * 256 ≤ length out) × (length s ≡ length s₀) × (length window ≡ length window₀)
     × (length scratch ≡ length scratch₀) × (length out ≡ length out₀)
-    × Ahead (takesWhile mostTakes follows k s₀ window₀ scratch₀) (take start out₀) k left s window scratch (take at out)
+    × Ahead (takes_while most_takes follows k s₀ window₀ scratch₀) (take start out₀) k left s window scratch (take at out)
 
 abbrev decreases-loop : tie.decreases-loop
 decreases-loop follows k s₀ window₀ scratch₀ out₀ start at₀ left₀ s window scratch out at left = left
@@ -34,7 +34,7 @@ turns-requires c κs = search rules
 loop-holds : tie.Need-loop-init invariant-loop decreases-loop
 loop-holds c =
     let a = (start c).args in
-    let few = not_more a.follows mostTakes in
+    let few = not_more a.follows most_takes in
     let left = c.turns.ensures in (
       omega (arith, few, left),
       refl,
@@ -42,7 +42,7 @@ loop-holds c =
       refl,
       refl,
       rw left
-          (ahead-first (take a.start a.out.now) mostTakes a.follows a.k
+          (ahead_first (take a.start a.out.now) most_takes a.follows a.k
           a.«record».now a.window.now a.scratch.now),
     )
 
@@ -96,10 +96,10 @@ returns c =
     let l = c.before.loop in
     let none : l.left ≡ 0 = omega (arith, c.loop-test.false) in
     let a = (start c.before.before).args in
-    let whole = takesWhile mostTakes a.follows a.k a.«record».now a.window.now a.scratch.now in
+    let whole = takes_while most_takes a.follows a.k a.«record».now a.window.now a.scratch.now in
     let before = take a.start a.out.now in
     let laid = take l.at l.out in
-    let z = ahead-last whole before a.k l.«record» l.window l.scratch laid (rw none at l.invariant.5) in
+    let z = ahead_last whole before a.k l.«record» l.window l.scratch laid (rw none at l.invariant.5) in
     (omega (arith, l.invariant.0), (z.0, (z.1, (z.2, z.3))))
 
 pub take_all_spec : {M : Type 1} → statement M

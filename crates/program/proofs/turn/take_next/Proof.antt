@@ -1,15 +1,15 @@
--- What the take answers is possible with the record that it leaves (`take-told`), so its text is known, and whether
+-- What the take answers is possible with the record that it leaves (`take_told`), so its text is known, and whether
 -- another follows.
 use Prim.Native.Nat.{ℕ}
 use mathlib.Core.Path.{sym, subst}
 use mathlib.Core.Bool.{false}
 use mathlib.Core.List.{List}
 use Rattle.codec.specs.Little.{Bytes}
-use Rattle.records.specs.Record.{takenCounts}
-use Rattle.reply_text.specs.Form.{programWidth}
+use Rattle.records.specs.Record.{taken_counts}
+use Rattle.reply_text.specs.Form.{program_width}
 use Rattle.replies.specs.Replies.{Possible}
-use Rattle.call_take.specs.Take.{takeCall}
-use Rattle.program.specs.CallAnswers.{take-told}
+use Rattle.call_take.specs.Take.{take_call}
+use Rattle.program.specs.CallAnswers.{take_told}
 use borrow.Author.Rules.{rules}
 use Rattle.program.proofs.turn.take_next.Statement.{statement}
 use Rattle.program.proofs.turn.take_next.Tie as tie
@@ -48,13 +48,13 @@ returns : tie.Need-returns
 returns c =
     let t = taken c in
     let a = (known t).before.args in
-    let o = takeCall programWidth a.«record».now a.window.now a.scratch.now in
+    let o = take_call program_width a.«record».now a.window.now a.scratch.now in
     let bytes : Bytes a.«record».now = λ i. ((known t).slice-known.given i).fits in
-    let told = take-told programWidth a.«record».now a.window.now a.scratch.now bytes in
+    let told = take_told program_width a.«record».now a.window.now a.scratch.now bytes in
     let left = t.watch32-take.ensures in
     let parts = c.before.before.before.before.before.before.decode.ensures o.answer told.0 left.0 in
-    let possible : Possible false (takenCounts programWidth t.watch32-take.last.0) o.answer =
-    subst (λ (l : List ℕ). Possible false (takenCounts programWidth l) o.answer) (sym left.1.0) told.1 in
+    let possible : Possible false (taken_counts program_width t.watch32-take.last.0) o.answer =
+    subst (λ (l : List ℕ). Possible false (taken_counts program_width l) o.answer) (sym left.1.0) told.1 in
     let laid = c.before.before.before.lay.ensures in
     (laid.0, (laid.1 o.answer possible parts, (c.takes-again.ensures _ o.answer told.1 parts, left.1)))
 

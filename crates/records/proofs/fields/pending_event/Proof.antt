@@ -6,14 +6,14 @@ use mathlib.Core.Path.{refl}
 use lib.ListN.{length}
 use borrow.Author.Rules.{rules}
 use Rattle.records.proofs.fields.pending_event.Statement.{statement}
-use Rattle.records.specs.RecordLaws.{event-within, event-parts}
-use Rattle.records.specs.Record.{eventLength}
+use Rattle.records.specs.RecordLaws.{event-within, event_parts_lem}
+use Rattle.records.specs.Record.{event_length}
 
 pending-place-requires : tie.Need-pending-place-requires
 pending-place-requires c κs = search rules
 
 -- The event ends within the bytes.
-within : (c : tie.After-pending-place) → c.pending-place.result + eventLength c.before.before.args.w ≤ length c.before.before.args.«record».now
+within : (c : tie.After-pending-place) → c.pending-place.result + event_length c.before.before.args.w ≤ length c.before.before.args.«record».now
 within c = let a = c.before.before.args in omega (arith, event-within a.w a.i (search rules))
 
 shared-slice-read-mask : tie.Need-shared-slice-read-mask
@@ -40,7 +40,7 @@ read-eight-requires c κs = omega (arith, within c.before.before)
 returns : tie.Need-returns
 returns c =
     let a = c.before.before.before.before.before.args in
-    event-parts a.w a.i a.«record».now c.before.before.before.pending-place.result _ _ _ c.before.before.before.pending-place.ensures.0 refl c.before.read-counts.ensures c.read-eight.ensures
+    event_parts_lem a.w a.i a.«record».now c.before.before.before.pending-place.result _ _ _ c.before.before.before.pending-place.ensures.0 refl c.before.read-counts.ensures c.read-eight.ensures
 
 pub pending-event-spec : {M : Type 1} → statement M
 pending-event-spec =

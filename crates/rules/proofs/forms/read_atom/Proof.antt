@@ -1,13 +1,13 @@
--- Each return is the definition `atomAt` under the bytes and digits met; the last one closes a form of one line.
+-- Each return is the definition `atom_at` under the bytes and digits met; the last one closes a form of one line.
 use Prim.Native.Nat.{◌+◌}
 use native.Mathlib.Omega.{arith}
 use mathlib.Core.Path.{◌≡◌, sym, ◌∙◌}
-use Rattle.rules.specs.Line.{lineCount, linesAt}
+use Rattle.rules.specs.Line.{line_count, lines_at}
 use Rattle.rules.specs.Formula.{atom}
 use Rattle.rules.specs.Text.{byte_at}
-use Rattle.rules.proofs.LayingSteps.{done_refused, done-close}
-use Rattle.rules.proofs.forms.ReaderSteps.{DigitMet, expect-met, expect-other, digit-met, digit-other}
-use Rattle.rules.specs.Reader.{atomAt}
+use Rattle.rules.proofs.LayingSteps.{done_refused, done_close}
+use Rattle.rules.proofs.forms.ReaderSteps.{DigitMet, expect_met, expect_other, digit_met, digit_other}
+use Rattle.rules.specs.Reader.{atom_at}
 use borrow.Author.Rules.{rules}
 use Rattle.rules.proofs.forms.read_atom.Statement.{statement}
 use Rattle.rules.proofs.forms.read_atom.Tie as tie
@@ -16,23 +16,23 @@ use Rattle.rules.proofs.forms.read_atom.Tie as tie
 abbrev start_first : tie.After-first2 → tie.Start
 start_first c = let e = c.before.before.before in e.before.before.before.before
 
-space-met : (c : tie.Else1) → let a = c.before.before.before.before.args in byte_at a.text.now a.place ≡ 32
-space-met c = sym c.before.byte-at.ensures ∙ c.if1.false
+space_met : (c : tie.Else1) → let a = c.before.before.before.before.args in byte_at a.text.now a.place ≡ 32
+space_met c = sym c.before.byte-at.ensures ∙ c.if1.false
 
-first-met : (c : tie.After-first2) → let a = (start_first c).args in
+first_met : (c : tie.After-first2) → let a = (start_first c).args in
     DigitMet a.text.now (a.place + 1) a.k c.first2.given.0.0
-first-met c = digit-met _ _ _ _ (sym c.before.before.read-digit.ensures ∙ c.first2.given.1)
+first_met c = digit_met _ _ _ _ (sym c.before.before.read-digit.ensures ∙ c.first2.given.1)
 
-second-space-met : (c : tie.Else2) → let a = (start_first c.before.before.before).args in
+second_space_met : (c : tie.Else2) → let a = (start_first c.before.before.before).args in
     byte_at a.text.now (a.place + 2) ≡ 32
-second-space-met c = sym c.before.byte-at2.ensures ∙ c.if2.false
+second_space_met c = sym c.before.byte-at2.ensures ∙ c.if2.false
 
 abbrev first_of : tie.After-second2 → tie.After-first2
 first_of c = let e = c.before.before.before in e.before.before.before
 
-second-met : (c : tie.After-second2) → let a = (start_first (first_of c)).args in
+second_met : (c : tie.After-second2) → let a = (start_first (first_of c)).args in
     DigitMet a.text.now (a.place + 3) 8 c.second2.given.0.0
-second-met c = digit-met _ _ _ _ (sym c.before.before.read-digit2.ensures ∙ c.second2.given.1)
+second_met c = digit_met _ _ _ _ (sym c.before.before.read-digit2.ensures ∙ c.second2.given.1)
 
 byte-at-requires : tie.Need-byte-at-requires
 byte-at-requires c κs = search rules
@@ -41,9 +41,9 @@ cast-if1 : tie.Need-overflow-cast-if1
 cast-if1 c = search rules
 
 returns : tie.Need-returns
-unfolding atomAt
+unfolding atom_at
 returns c = let a = c.before.before.before.before.args in
-    rw (expect-other a.text.now a.place 32 (λ e. c.if1.true (c.before.byte-at.ensures ∙ e)))
+    rw (expect_other a.text.now a.place 32 (λ e. c.if1.true (c.before.byte-at.ensures ∙ e)))
     (done_refused _ _ _ _ _ _)
 
 add-read-digit : tie.Need-overflow-add-read-digit
@@ -74,14 +74,14 @@ add-t24 : tie.Need-overflow-add-t24
 add-t24 c = search rules
 
 returns-2 : tie.Need-returns-2
-unfolding atomAt
+unfolding atom_at
 returns-2 c = let p = c.before.before.before in
     let a = (start_first p).args in
     let s = a.text.now in
     rw (
-      expect-met s a.place 32 (space-met p.before.before.before),
-      (first-met p).step,
-      expect-other s (a.place + 2) 32 (λ e. c.if2.true (c.before.byte-at2.ensures ∙ e)),
+      expect_met s a.place 32 (space_met p.before.before.before),
+      (first_met p).step,
+      expect_other s (a.place + 2) 32 (λ e. c.if2.true (c.before.byte-at2.ensures ∙ e)),
     )
     (done_refused _ _ _ _ _ _)
 
@@ -102,8 +102,8 @@ enum-known-second-2 c = search rules
 
 put-line-requires : tie.Need-put-line-requires
 put-line-requires c κs = let q = c.before.before in
-    let d₁ = first-met (first_of q) in
-    let d₂ = second-met q in
+    let d₁ = first_met (first_of q) in
+    let d₂ = second_met q in
     (search rules, search rules, omega (arith, d₁.ten), omega (arith, d₂.ten))
 
 add-close : tie.Need-overflow-add-close
@@ -113,29 +113,29 @@ close-requires : tie.Need-close-requires
 close-requires c κs = search rules
 
 returns-3 : tie.Need-returns-3
-unfolding atomAt
+unfolding atom_at
 returns-3 c = let e = c.before.before.before.before in
     let a = e.before.before.before.before.args in
     let s = a.text.now in
     let v = c.before.first.given in
     rw (
-      expect-met s a.place 32 (space-met e),
-      digit-other s (a.place + 1) a.k _ (sym c.before.before.before.read-digit.ensures ∙ v.1),
+      expect_met s a.place 32 (space_met e),
+      digit_other s (a.place + 1) a.k _ (sym c.before.before.before.read-digit.ensures ∙ v.1),
     )
     (done_refused _ _ _ _ _ _)
 
 returns-4 : tie.Need-returns-4
-unfolding atomAt
+unfolding atom_at
 returns-4 c = let e = c.before.before.before.before in
     let p = e.before.before.before in
     let a = (start_first p).args in
     let s = a.text.now in
     let v = c.before.second.given in
     rw (
-      expect-met s a.place 32 (space-met p.before.before.before),
-      (first-met p).step,
-      expect-met s (a.place + 2) 32 (second-space-met e),
-      digit-other s (a.place + 3) 8 _ (sym c.before.before.before.read-digit2.ensures ∙ v.1),
+      expect_met s a.place 32 (space_met p.before.before.before),
+      (first_met p).step,
+      expect_met s (a.place + 2) 32 (second_space_met e),
+      digit_other s (a.place + 3) 8 _ (sym c.before.before.before.read-digit2.ensures ∙ v.1),
     )
     (done_refused _ _ _ _ _ _)
 
@@ -143,24 +143,24 @@ same_length : tie.Need-same-length
 same_length c = search rules
 
 returns-5 : tie.Need-returns-5
-unfolding atomAt lineCount linesAt
+unfolding atom_at line_count lines_at
 returns-5 c = let l = c.before.before.before in
     let q = l.before.before.before in
     let e = q.before.before.before in
     let p = e.before.before.before in
     let a = (start_first p).args in
     let s = a.text.now in
-    let d₁ = first-met p in
-    let d₂ = second-met q in
+    let d₁ = first_met p in
+    let d₂ = second_met q in
     rw (
-      expect-met s a.place 32 (space-met p.before.before.before),
+      expect_met s a.place 32 (space_met p.before.before.before),
       d₁.step,
-      expect-met s (a.place + 2) 32 (second-space-met e),
+      expect_met s (a.place + 2) 32 (second_space_met e),
       d₂.step,
       d₁.same,
       d₂.same,
     )
-    (done-close a.laid a.closed a.table.now _ s (a.place + 4) _ (atom _ _) _ c.close.ensures
+    (done_close a.laid a.closed a.table.now _ s (a.place + 4) _ (atom _ _) _ c.close.ensures
     l.put-line.ensures.count l.put-line.ensures.table)
 
 pub read-atom-spec : {M : Type 1} → statement M

@@ -1,7 +1,7 @@
 -- The lines that were laid down are as many as the word counts.
 use native.Mathlib.Omega.{arith}
-use Rattle.rules.proofs.LayingSteps.{done-close}
-use Rattle.rules.specs.Line.{lineCount, linesAt}
+use Rattle.rules.proofs.LayingSteps.{done_close}
+use Rattle.rules.specs.Line.{line_count, lines_at}
 use Rattle.rules.specs.Formula.{constant}
 use Rattle.rules.specs.lines.LineLaws.{length-constant}
 use borrow.Author.Rules.{rules}
@@ -18,11 +18,11 @@ same_length : tie.Need-same-length
 same_length c = search rules
 
 returns : tie.Need-returns
-unfolding lineCount linesAt
+unfolding line_count lines_at
 returns c = let p = c.before.before.before in
     let a = p.before.before.before.before.args in
     let laid = p.lay-constant.ensures in
-    done-close a.laid a.closed a.table.now _ a.text.now a.place _ (constant a.word) _
+    done_close a.laid a.closed a.table.now _ a.text.now a.place _ (constant a.word) _
     c.close.ensures (omega (arith, laid.count, length-constant a.word a.laid)) laid.table
 
 pub read-constant-spec : {M : Type 1} → statement M

@@ -1,6 +1,6 @@
 -- Word by word.
 use borrow.Author.Rules.{rules}
-use Rattle.rules.specs.Laying.{hasTrue}
+use Rattle.rules.specs.Laying.{has_true}
 use Rattle.rules.proofs.laying.has_true.Statement.{statement}
 use Rattle.rules.proofs.laying.has_true.Tie as tie
 
@@ -26,31 +26,31 @@ enum-told-7 : tie.Need-enum-told-7
 enum-told-7 c = search rules
 
 returns : tie.Need-returns
-unfolding hasTrue
+unfolding has_true
 returns c = rw c.enum_told.given.1
 
 returns-2 : tie.Need-returns-2
-unfolding hasTrue
+unfolding has_true
 returns-2 c = rw c.enum-told2.given.1
 
 returns-3 : tie.Need-returns-3
-unfolding hasTrue
+unfolding has_true
 returns-3 c = rw c.enum-told3.given.1
 
 returns-4 : tie.Need-returns-4
-unfolding hasTrue
+unfolding has_true
 returns-4 c = rw c.enum-told4.given.1
 
 returns-5 : tie.Need-returns-5
-unfolding hasTrue
+unfolding has_true
 returns-5 c = rw c.enum-told5.given.1
 
 returns-6 : tie.Need-returns-6
-unfolding hasTrue
+unfolding has_true
 returns-6 c = rw c.enum-told6.given.1
 
 returns-7 : tie.Need-returns-7
-unfolding hasTrue
+unfolding has_true
 returns-7 c = rw c.enum-told7.given.1
 
 pub has-true-spec : {M : Type 1} → statement M

@@ -1,8 +1,8 @@
 -- Word by word: one line, or three.
 use borrow.Author.Rules.{rules}
 use native.Mathlib.Omega.{arith}
-use Rattle.rules.specs.Line.{linesAfter}
-use Rattle.rules.proofs.LayingSteps.{laid-within}
+use Rattle.rules.specs.Line.{lines_after}
+use Rattle.rules.proofs.LayingSteps.{laid_within}
 use Rattle.rules.proofs.laying.lay_after.Statement.{statement}
 use Rattle.rules.proofs.laying.lay_after.Tie as tie
 
@@ -55,39 +55,39 @@ same_length : tie.Need-same-length
 same_length c = search rules
 
 returns : tie.Need-returns
-unfolding linesAfter
+unfolding lines_after
 returns c = let p = c.before.before in
-    rw p.before.before.enum_told.given.1 (laid-within p.put-line.ensures (omega arith))
+    rw p.before.before.enum_told.given.1 (laid_within p.put-line.ensures (omega arith))
 
 same-length-2 : tie.Need-same-length-2
 same-length-2 c = search rules
 
 returns-2 : tie.Need-returns-2
-unfolding linesAfter
+unfolding lines_after
 returns-2 c = let p = c.before.before in
-    rw p.before.before.enum-told2.given.1 (laid-within p.put-line2.ensures (omega arith))
+    rw p.before.before.enum-told2.given.1 (laid_within p.put-line2.ensures (omega arith))
 
 same-length-3 : tie.Need-same-length-3
 same-length-3 c = search rules
 
 returns-3 : tie.Need-returns-3
-unfolding linesAfter
+unfolding lines_after
 returns-3 c = let p = c.before.before in
-    rw p.before.before.enum-told3.given.1 (laid-within p.put-line3.ensures (omega arith))
+    rw p.before.before.enum-told3.given.1 (laid_within p.put-line3.ensures (omega arith))
 
 same-length-4 : tie.Need-same-length-4
 same-length-4 c = search rules
 
 returns-4 : tie.Need-returns-4
-unfolding linesAfter
+unfolding lines_after
 returns-4 c = let p = c.before.before in
-    rw p.before.before.enum-told4.given.1 (laid-within p.put-line4.ensures (omega arith))
+    rw p.before.before.enum-told4.given.1 (laid_within p.put-line4.ensures (omega arith))
 
 same-length-5 : tie.Need-same-length-5
 same-length-5 c = search rules
 
 returns-5 : tie.Need-returns-5
-unfolding linesAfter
+unfolding lines_after
 returns-5 c = let p = c.before.before in
     rw p.before.before.enum-told5.given.1 p.lay-negated.ensures
 
@@ -95,7 +95,7 @@ same-length-6 : tie.Need-same-length-6
 same-length-6 c = search rules
 
 returns-6 : tie.Need-returns-6
-unfolding linesAfter
+unfolding lines_after
 returns-6 c = let p = c.before.before in
     rw p.before.before.enum-told6.given.1 p.lay-negated2.ensures
 
@@ -103,7 +103,7 @@ same-length-7 : tie.Need-same-length-7
 same-length-7 c = search rules
 
 returns-7 : tie.Need-returns-7
-unfolding linesAfter
+unfolding lines_after
 returns-7 c = let p = c.before.before in
     rw p.before.before.enum-told7.given.1 p.lay-negated3.ensures
 

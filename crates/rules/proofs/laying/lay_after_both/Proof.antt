@@ -1,8 +1,8 @@
 -- Word by word: one line, or three.
 use borrow.Author.Rules.{rules}
 use native.Mathlib.Omega.{arith}
-use Rattle.rules.specs.Line.{linesAfterBoth}
-use Rattle.rules.proofs.LayingSteps.{laid-within}
+use Rattle.rules.specs.Line.{lines_after_both}
+use Rattle.rules.proofs.LayingSteps.{laid_within}
 use Rattle.rules.proofs.laying.lay_after_both.Statement.{statement}
 use Rattle.rules.proofs.laying.lay_after_both.Tie as tie
 
@@ -40,31 +40,31 @@ same_length : tie.Need-same-length
 same_length c = search rules
 
 returns : tie.Need-returns
-unfolding linesAfterBoth
+unfolding lines_after_both
 returns c = let p = c.before.before in
-    rw p.before.before.enum_told.given.1 (laid-within p.put-line.ensures (omega arith))
+    rw p.before.before.enum_told.given.1 (laid_within p.put-line.ensures (omega arith))
 
 same-length-2 : tie.Need-same-length-2
 same-length-2 c = search rules
 
 returns-2 : tie.Need-returns-2
-unfolding linesAfterBoth
+unfolding lines_after_both
 returns-2 c = let p = c.before.before in
-    rw p.before.before.enum-told2.given.1 (laid-within p.put-line2.ensures (omega arith))
+    rw p.before.before.enum-told2.given.1 (laid_within p.put-line2.ensures (omega arith))
 
 same-length-3 : tie.Need-same-length-3
 same-length-3 c = search rules
 
 returns-3 : tie.Need-returns-3
-unfolding linesAfterBoth
+unfolding lines_after_both
 returns-3 c = let p = c.before.before in
-    rw p.before.before.enum-told3.given.1 (laid-within p.put-line3.ensures (omega arith))
+    rw p.before.before.enum-told3.given.1 (laid_within p.put-line3.ensures (omega arith))
 
 same-length-4 : tie.Need-same-length-4
 same-length-4 c = search rules
 
 returns-4 : tie.Need-returns-4
-unfolding linesAfterBoth
+unfolding lines_after_both
 returns-4 c = let p = c.before.before in
     rw p.before.before.enum-told4.given.1 p.lay-negated.ensures
 

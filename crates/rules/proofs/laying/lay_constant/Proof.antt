@@ -1,8 +1,8 @@
 -- The lines of true, and for false one more behind them.
 use borrow.Author.Rules.{rules}
 use native.Mathlib.Omega.{arith}
-use Rattle.rules.specs.Line.{constantLines}
-use Rattle.rules.proofs.LayingSteps.{laid_then, laid-within}
+use Rattle.rules.specs.Line.{constant_lines}
+use Rattle.rules.proofs.LayingSteps.{laid_then, laid_within}
 use Rattle.rules.proofs.laying.lay_constant.Statement.{statement}
 use Rattle.rules.proofs.laying.lay_constant.Tie as tie
 
@@ -25,15 +25,15 @@ same_length : tie.Need-same-length
 same_length c = search rules
 
 returns : tie.Need-returns
-unfolding constantLines
+unfolding constant_lines
 returns c = let p = c.before.before.before.before in
-    rw c.enum_told.given.1 (laid-within p.lay-true.ensures (omega arith))
+    rw c.enum_told.given.1 (laid_within p.lay-true.ensures (omega arith))
 
 same-length-2 : tie.Need-same-length-2
 same-length-2 c = search rules
 
 returns-2 : tie.Need-returns-2
-unfolding constantLines
+unfolding constant_lines
 returns-2 c = let p = c.before.before in
     let told = p.before.before in
     rw told.enum-told2.given.1

@@ -3,7 +3,7 @@ use borrow.Author.Rules.{rules}
 use Prim.Native.Nat.{◌+◌}
 use native.Mathlib.Omega.{arith}
 use mathlib.Core.Path.{◌≡◌}
-use Rattle.rules.specs.Line.{trueLines}
+use Rattle.rules.specs.Line.{true_lines}
 use Rattle.rules.proofs.LayingSteps.{laid_then}
 use Rattle.rules.proofs.laying.lay_true.Statement.{statement}
 use Rattle.rules.proofs.laying.lay_true.Tie as tie
@@ -24,7 +24,7 @@ same_length : tie.Need-same-length
 same_length c = search rules
 
 returns : tie.Need-returns
-unfolding trueLines
+unfolding true_lines
 returns c = let p₄ = c.before.before in
     let p₃ = p₄.before.before.before.before in
     let p₂ = p₃.before.before.before.before in

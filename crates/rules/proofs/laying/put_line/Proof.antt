@@ -5,7 +5,7 @@ use native.Mathlib.Numerals.{add-one}
 use native.Mathlib.Omega.{arith}
 use mathlib.Core.Path.{◌≡◌, refl}
 use lib.ListN.{length-set}
-use Rattle.pactl.specs.Table.{tableBytes}
+use Rattle.pactl.specs.Table.{table_bytes}
 use Rattle.rules.specs.Laying.{lay}
 use Rattle.rules.proofs.laying.put_line.Statement.{statement}
 use Rattle.rules.proofs.laying.put_line.Tie as tie
@@ -41,7 +41,7 @@ same_length : tie.Need-same-length
 same_length c = search rules
 
 returns : tie.Need-returns
-unfolding lay tableBytes
+unfolding lay table_bytes
 returns c = let e : 3 * c.args.n + 2 ≡ suc (suc (3 * c.args.n)) = omega arith in
     record { count = refl; few = omega arith; table = rw (e, add-one (3 * c.args.n)) }
 

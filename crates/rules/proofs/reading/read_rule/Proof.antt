@@ -4,9 +4,9 @@ use native.Mathlib.Omega.{arith}
 use mathlib.Core.Path.{◌≡◌, ◌∙◌}
 use lib.ListN.{length}
 use borrow.Author.Rules.{rules}
-use Rattle.rules.specs.Reader.{formAt}
-use Rattle.rules.proofs.FormSteps.{RuleDone, rule-done, fault-done}
-use Rattle.rules.specs.lines.RuleTableLaws.{rule-fault, rule-more, rule-form, rule-length, rule-refused, rule-accepted}
+use Rattle.rules.specs.Reader.{form_at}
+use Rattle.rules.proofs.FormSteps.{RuleDone, rule_done, fault_done}
+use Rattle.rules.specs.lines.RuleTableLaws.{rule_fault, rule_more, rule_form, rule_length, rule_refused, rule_accepted}
 use Rattle.rules.proofs.reading.read_rule.Statement.{statement}
 use Rattle.rules.proofs.reading.read_rule.Tie as tie
 
@@ -14,18 +14,18 @@ use Rattle.rules.proofs.reading.read_rule.Tie as tie
 abbrev start : tie.After-form2 → tie.Start
 start c = let e = c.before.before.before.before in e.before.before.before.before
 
-right-length : (c : tie.After-form2) → length (start c).args.table.now ≡ 192
-right-length c = let r = c.before.before.before in r.before.before.if1.false
+right_length : (c : tie.After-form2) → length (start c).args.table.now ≡ 192
+right_length c = let r = c.before.before.before in r.before.before.if1.false
 
-form-read : (c : tie.After-form2) → let a = (start c).args in
+form_read : (c : tie.After-form2) → let a = (start c).args in
     let v = c.form2.given.0 in
     RuleDone a.text.now a.k c.before.before.before.read-form.new.1.1.1.1.1.1.0 v.0 v.1.0
-form-read c = rule-done _ _ c.before.before.before.read-form.ensures c.form2.given.1
+form_read c = rule_done _ _ c.before.before.before.read-form.ensures c.form2.given.1
 
 returns : tie.Need-returns
 returns c = let a = c.before.before.before.args in
     let s = a.text.now in
-    rule-length s a.k a.table.now c.if1.true
+    rule_length s a.k a.table.now c.if1.true
 
 slice-aggregate-read-form : tie.Need-slice-aggregate-read-form
 slice-aggregate-read-form c = search rules
@@ -42,9 +42,9 @@ enum-known-form-2 c = search rules
 returns-2 : tie.Need-returns-2
 returns-2 c = let f = c.before.before in
     let a = (start f).args in
-    let x = form-read f in
-    rule-refused a.text.now a.k a.table.now 1 _ (right-length f)
-    (rule-more a.text.now a.k _ x.form x.read c.if2.true)
+    let x = form_read f in
+    rule_refused a.text.now a.k a.table.now 1 _ (right_length f)
+    (rule_more a.text.now a.k _ x.form x.read c.if2.true)
 
 slice-aggregate-copy-table : tie.Need-slice-aggregate-copy-table
 slice-aggregate-copy-table c = search rules
@@ -55,7 +55,7 @@ copy-table-requires c κs = search rules
 cast-t23 : tie.Need-overflow-cast-t23
 cast-t23 c = let copied = c.before.before in
     let e = copied.before.before.before in
-    let x = form-read e.before.before in
+    let x = form_read e.before.before in
     omega (arith, x.short, x.count)
 
 returns-3 : tie.Need-returns-3
@@ -64,8 +64,8 @@ returns-3 c = let r = c.before.before.before.before in
     let a = e.before.before.before.args in
     let s = a.text.now in
     let v = c.before.form.given in
-    rule-refused s a.k a.table.now _ _ e.if1.false
-    (rule-fault s a.k _ _ (fault-done 0 0 _ _ (formAt 32 s a.k 0 0) _ _ _ r.read-form.ensures v.1))
+    rule_refused s a.k a.table.now _ _ e.if1.false
+    (rule_fault s a.k _ _ (fault_done 0 0 _ _ (form_at 32 s a.k 0 0) _ _ _ r.read-form.ensures v.1))
 
 same_length : tie.Need-same-length
 same_length c = search rules
@@ -75,9 +75,9 @@ returns-4 c = let copied = c.before.before in
     let e = copied.before.before.before in
     let f = e.before.before in
     let a = (start f).args in
-    let x = form-read f in
-    let whole = rule-form a.text.now a.k _ x.form x.read e.if2.false in
-    rule-accepted a.text.now a.k a.table.now _ _ _ x.form (right-length f) whole x.count
+    let x = form_read f in
+    let whole = rule_form a.text.now a.k _ x.form x.read e.if2.false in
+    rule_accepted a.text.now a.k a.table.now _ _ _ x.form (right_length f) whole x.count
     (copied.copy-table.ensures ∙ x.table)
 
 pub read-rule-spec : {M : Type 1} → statement M

@@ -1,7 +1,7 @@
 -- Each return is the definition at the letter of its arm; the last one, at none of them.
 use mathlib.Core.Path.{sym, ◌∙◌}
 use borrow.Author.Tests.{ne_eqb}
-use Rattle.rules.specs.Reader.{aWordAt}
+use Rattle.rules.specs.Reader.{a_word_at}
 use borrow.Author.Rules.{rules}
 use Rattle.rules.proofs.words.a_word.Statement.{statement}
 use Rattle.rules.proofs.words.a_word.Tie as tie
@@ -22,32 +22,32 @@ rest-requires : tie.Need-rest-requires
 rest-requires c κs = search rules
 
 returns : tie.Need-returns
-unfolding aWordAt
+unfolding a_word_at
 returns c = rw (sym c.before.byte-at.ensures ∙ c.match.keys1)
 
 returns-2 : tie.Need-returns-2
-unfolding aWordAt
+unfolding a_word_at
 returns-2 c = rw (sym c.before.byte-at.ensures ∙ c.match.keys2)
 
 returns-3 : tie.Need-returns-3
-unfolding aWordAt
+unfolding a_word_at
 returns-3 c = rw (sym c.before.byte-at.ensures ∙ c.match.keys3)
 
 returns-4 : tie.Need-returns-4
-unfolding aWordAt
+unfolding a_word_at
 returns-4 c = rw (sym c.before.byte-at.ensures ∙ c.match.keys4)
 
 returns-5 : tie.Need-returns-5
-unfolding aWordAt
+unfolding a_word_at
 returns-5 c = rw (sym c.before.byte-at.ensures ∙ c.match.keys5)
 
 returns-6 : tie.Need-returns-6
-unfolding aWordAt
+unfolding a_word_at
 returns-6 c = let m = c.before.before in
     rw (sym m.before.byte-at.ensures ∙ m.match.keys6) c.rest.ensures
 
 returns-7 : tie.Need-returns-7
-unfolding aWordAt
+unfolding a_word_at
 returns-7 c = let no = c.match.rest in
     rw (
       ← c.before.byte-at.ensures,

@@ -1,4 +1,4 @@
--- The loop has met the letters before j: what is left of the word decides. Each turn is `restAt-next`.
+-- The loop has met the letters before j: what is left of the word decides. Each turn is `rest_at_next`.
 use Prim.Native.Nat.{◌≤◌, ◌-◌, ◌+◌}
 use native.Mathlib.Omega.{arith}
 use mathlib.Core.Bool.{true, false}
@@ -8,7 +8,7 @@ use lib.ListN.{length, get_or, drop}
 use borrow.Author.Tests.{eq-eqb, ne_eqb}
 use borrow.Author.Rules.{rules}
 use Rattle.rules.specs.Text.{byte_at}
-use Rattle.rules.proofs.words.WordSteps.{restAt-next, restAt-end}
+use Rattle.rules.proofs.words.WordSteps.{rest_at_next, rest_at-end_lem}
 use Rattle.rules.specs.Reader.{rest_at}
 use Rattle.rules.proofs.words.rest.Statement.{statement}
 use Rattle.rules.proofs.words.rest.Tie as tie
@@ -46,7 +46,7 @@ returns c = let a = c.before.before.before.before.before.before.before.before.ar
     let g : eqb (byte_at a.text.now (a.i + l.j)) (get_or a.letters.now l.j 0) ≡ false =
     rw (← c.before.before.before.byte-at.ensures, ← c.before.wide.ensures.0) (ne_eqb _ _ c.if1.true)
     in
-    sym (l.invariant.1 ∙ restAt-next a.text.now a.i l.j a.letters.now a.word c.before.before.before.before.loop-test.true ∙ rw g)
+    sym (l.invariant.1 ∙ rest_at_next a.text.now a.i l.j a.letters.now a.word c.before.before.before.before.loop-test.true ∙ rw g)
 
 add-j : tie.Need-overflow-add-j invariant-loop decreases-loop
 add-j c = search rules
@@ -60,12 +60,12 @@ loop-again c = let a = c.before.before.before.before.before.before.before.before
     let g : eqb (byte_at a.text.now (a.i + l.j)) (get_or a.letters.now l.j 0) ≡ true =
     rw (← c.before.before.before.byte-at.ensures, ← c.before.wide.ensures.0) (eq-eqb _ _ c.if1.false)
     in
-    (search rules, (l.invariant.1 ∙ restAt-next a.text.now a.i l.j a.letters.now a.word c.before.before.before.before.loop-test.true ∙ rw g))
+    (search rules, (l.invariant.1 ∙ rest_at_next a.text.now a.i l.j a.letters.now a.word c.before.before.before.before.loop-test.true ∙ rw g))
 
 returns-2 : tie.Need-returns-2 invariant-loop decreases-loop
 returns-2 c = let a = c.before.before.before.before.args in
     let l = c.before.loop in
-    sym (l.invariant.1 ∙ restAt-end a.text.now a.i l.j a.letters.now a.word c.loop-test.false)
+    sym (l.invariant.1 ∙ rest_at-end_lem a.text.now a.i l.j a.letters.now a.word c.loop-test.false)
 
 pub rest-spec : {M : Type 1} → statement M
 rest-spec =

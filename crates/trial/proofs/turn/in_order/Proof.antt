@@ -1,4 +1,4 @@
--- Up to event i none is lower than the one before it: the laws `up_next`, `up-down` and `up-end`.
+-- Up to event i none is lower than the one before it: the laws `up_next`, `up_down` and `up_end`.
 use Rattle.trial.proofs.turn.in_order.Tie as tie
 use Prim.Native.Nat.{ℕ, ◌+◌, ◌-◌, ◌≤◌}
 use native.Mathlib.Omega.{arith}
@@ -6,13 +6,13 @@ use mathlib.Core.Path.{◌≡◌, refl, sym, ap, ◌∙◌}
 use lib.ListN.{drop}
 use borrow.Author.Rules.{rules}
 use Rattle.trial.proofs.turn.in_order.Statement.{statement}
-use Rattle.records.specs.Record.{pendingEvents}
+use Rattle.records.specs.Record.{pending_events}
 use Rattle.trial.specs.TurnLaws.{ascending}
-use Rattle.trial.proofs.TurnSteps.{up-end, up_next, up-down}
+use Rattle.trial.proofs.TurnSteps.{up_end, up_next, up_down}
 
 abbrev invariant-loop : tie.invariant-loop
 invariant-loop s w pending last₀ i₀ last i =
-    (i ≤ pending) × (ascending 0 (pendingEvents w s) ≡ ascending last (drop i (pendingEvents w s)))
+    (i ≤ pending) × (ascending 0 (pending_events w s) ≡ ascending last (drop i (pending_events w s)))
 
 abbrev decreases-loop : tie.decreases-loop
 decreases-loop s w pending last₀ i₀ last i = pending - i
@@ -28,7 +28,7 @@ returns c =
     let read = c.before in
     let a = read.before.before.before.before.args in
     let l = read.before.before.loop in
-    sym (l.invariant.1 ∙ up-down a.w a.«record».now l.last l.i (omega arith) (omega arith))
+    sym (l.invariant.1 ∙ up_down a.w a.«record».now l.last l.i (omega arith) (omega arith))
 
 add-i : tie.Need-overflow-add-i invariant-loop decreases-loop
 add-i c = search rules
@@ -44,7 +44,7 @@ loop-again c =
       search rules,
       l.invariant.1
           ∙ up_next a.w a.«record».now l.last l.i (omega arith) (omega arith)
-          ∙ ap (λ (p : ℕ). ascending p (drop (l.i + 1) (pendingEvents a.w a.«record».now)))
+          ∙ ap (λ (p : ℕ). ascending p (drop (l.i + 1) (pending_events a.w a.«record».now)))
           (sym read.lowest-at.ensures.0),
     )
 
@@ -52,7 +52,7 @@ returns-2 : tie.Need-returns-2 invariant-loop decreases-loop
 returns-2 c =
     let a = c.before.before.before.args in
     let l = c.before.loop in
-    sym (l.invariant.1 ∙ up-end a.w a.«record».now l.last l.i (omega arith))
+    sym (l.invariant.1 ∙ up_end a.w a.«record».now l.last l.i (omega arith))
 
 pub in-order-spec : {M : Type 1} → statement M
 in-order-spec =

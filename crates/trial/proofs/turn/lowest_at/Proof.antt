@@ -8,7 +8,7 @@ use lib.ListN.{get_or}
 use borrow.Author.Rules.{rules}
 use Rattle.trial.proofs.turn.lowest_at.Statement.{statement}
 use Rattle.clocks.specs.Key.{lowest}
-use Rattle.records.specs.Record.{pendingAt}
+use Rattle.records.specs.Record.{pending_at}
 use Rattle.records.specs.RecordLaws.{event-within}
 
 pending-place-requires : tie.Need-pending-place-requires
@@ -23,7 +23,7 @@ lowest-bit-requires : tie.Need-lowest-bit-requires
 lowest-bit-requires c κs = search rules
 
 returns : tie.Need-returns
-unfolding lowest pendingAt
+unfolding lowest pending_at
 returns c =
     let s = c.before.before.before.before.args.«record».now in (
       c.lowest-bit.ensures.0

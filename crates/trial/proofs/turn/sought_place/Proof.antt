@@ -7,15 +7,15 @@ use mathlib.Core.Logic.{⊎_elim}
 use lib.ListN.{get_or}
 use borrow.Author.Rules.{rules}
 use Rattle.trial.proofs.turn.sought_place.Statement.{statement}
-use Rattle.records.specs.Record.{pendingEvents}
+use Rattle.records.specs.Record.{pending_events}
 use Rattle.trial.specs.Trial.{in_turn}
-use Rattle.trial.proofs.TurnSteps.{remaining, sought-first, sought-here, sought-next, sought-pass, sought-over, sought-end}
+use Rattle.trial.proofs.TurnSteps.{remaining, sought-first, sought-here, sought_next, sought_pass, sought_over, sought-end}
 
 abbrev invariant-loop : tie.invariant-loop
 invariant-loop s w pending turn left₀ p₀ i₀ left p i =
     (p ≤ 9)
     × (i ≤ pending)
-    × (get_or (in_turn (pendingEvents w s)) turn 0 ≡ get_or (remaining w s p i) left 0)
+    × (get_or (in_turn (pending_events w s)) turn 0 ≡ get_or (remaining w s p i) left 0)
 
 abbrev decreases-loop : tie.decreases-loop
 decreases-loop s w pending turn left₀ p₀ i₀ left p i = (9 - p) * 33 - i
@@ -39,7 +39,7 @@ loop-again c =
     let l = c.before.before.loop in (
       search rules,
       search rules,
-      l.invariant.2 ∙ sought-over a.w a.«record».now l.p l.i l.left (omega arith),
+      l.invariant.2 ∙ sought_over a.w a.«record».now l.p l.i l.left (omega arith),
     )
 
 lowest-at-requires : tie.Need-lowest-at-requires invariant-loop decreases-loop
@@ -73,10 +73,10 @@ loop-again-2 c =
       search rules,
       l.invariant.2
           ∙ ⊎_elim
-          (λ v. sought-next a.w a.«record».now l.p l.i (omega arith) l.left
+          (λ v. sought_next a.w a.«record».now l.p l.i (omega arith) l.left
           (sym read.lowest-at.ensures.0 ∙ v.0.taken) v.1.left
           ∙ ap (λ (left : ℕ). get_or (remaining a.w a.«record».now l.p (l.i + 1)) left 0) (sym v.2))
-          (λ v. sought-pass a.w a.«record».now l.p l.i (omega arith) l.left
+          (λ v. sought_pass a.w a.«record».now l.p l.i (omega arith) l.left
           (λ q. v.0.left (read.lowest-at.ensures.0 ∙ q))
           ∙ ap (λ (left : ℕ). get_or (remaining a.w a.«record».now l.p (l.i + 1)) left 0) (sym v.1))
           c.if2.branch,

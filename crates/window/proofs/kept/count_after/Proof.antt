@@ -1,4 +1,4 @@
--- Each turn adds what comes of one more frontier, and marks it: the laws `keptAfter-more` and `marked_more`.
+-- Each turn adds what comes of one more frontier, and marks it: the laws `kept_after_more` and `marked_more`.
 use Rattle.std.proofs.Common.{◌≡◌, ℕ, ◌-◌, ◌*◌, ◌≤◌, true, false, List, length, sym, refl, arith, rules}
 use Rattle.window.proofs.kept.count_after.Statement.{statement}
 use Rattle.window.proofs.kept.count_after.Tie as tie
@@ -7,19 +7,19 @@ use Rattle.clocks.specs.Event.{one}
 use Rattle.clocks.specs.Counts.{at}
 use Rattle.clocks.specs.Tested.{ready}
 use Rattle.frontiers.specs.WindowLaws.{place-within}
-use Rattle.frontiers.specs.Bytes.{frontiers, frontierAt}
-use Rattle.window.specs.Step.{stays, enabledAt, keptAfter}
-use Rattle.window.specs.StepCode.{settingWith, staysWith}
-use Rattle.window.proofs.SettingSteps.{keptAfter-none, keptAfter-more}
-use Rattle.window.specs.Prepared.{boundCounts, Counted}
-use Rattle.window.specs.Marks.{Marked, marked-none, marked_more}
+use Rattle.frontiers.specs.Bytes.{frontiers, frontier_at}
+use Rattle.window.specs.Step.{stays, enabled_at, kept_after}
+use Rattle.window.specs.StepCode.{setting_with, stays_with}
+use Rattle.window.proofs.SettingSteps.{kept_after-none_lem, kept_after_more}
+use Rattle.window.specs.Prepared.{bound_counts, Counted}
+use Rattle.window.specs.Marks.{Marked, marked_none, marked_more}
 
 abbrev invariant-loop : tie.invariant-loop
 invariant-loop window marks₀ w n k closed reached low span opens total₀ i₀ marks total i =
     (i ≤ n) × (total ≤ 2 * i) × (length marks ≡ length marks₀)
-    × ((e : Event) (table : List ℕ) (lines : ℕ) → Counted e → low ≡ boundCounts false e → span ≡ boundCounts true e
-    → (total ≡ keptAfter (settingWith k closed table lines e reached) (frontiers w window i))
-    × Marked (settingWith k closed table lines e reached) w window i marks)
+    × ((e : Event) (table : List ℕ) (lines : ℕ) → Counted e → low ≡ bound_counts false e → span ≡ bound_counts true e
+    → (total ≡ kept_after (setting_with k closed table lines e reached) (frontiers w window i))
+    × Marked (setting_with k closed table lines e reached) w window i marks)
 
 abbrev decreases-loop : tie.decreases-loop
 decreases-loop window marks₀ w n k closed reached low span opens total₀ i₀ marks total i = n - i
@@ -43,8 +43,8 @@ loop-holds c =
       search rules,
       search rules,
       refl,
-      λ e table lines m p q. let s = settingWith a.k a.closed table lines e a.reached in
-          (sym (keptAfter-none s a.w a.window.now), marked-none s a.w a.window.now a.marks.now),
+      λ e table lines m p q. let s = setting_with a.k a.closed table lines e a.reached in
+          (sym (kept_after-none_lem s a.w a.window.now), marked_none s a.w a.window.now a.marks.now),
     )
 
 counts-at-requires : tie.Need-counts-at-requires invariant-loop decreases-loop
@@ -89,7 +89,7 @@ loop-less : tie.Need-loop-smaller invariant-loop decreases-loop
 loop-less c = search rules
 
 loop-again : tie.Need-loop-preserved invariant-loop decreases-loop
-unfolding stays enabledAt
+unfolding stays enabled_at
 loop-again c =
     let read = c.before.before.before.before in
     let turn = read.before.before in
@@ -97,8 +97,8 @@ loop-again c =
     let a = (start b).args in
     let asked = (start b).requires in
     let l = turn.loop in
-    let f = frontierAt a.w a.window.now l.i in
-    let here : c.before.before.one-if.result ≡ one (staysWith a.k a.closed a.reached f.counts) =
+    let f = frontier_at a.w a.window.now l.i in
+    let here : c.before.before.one-if.result ≡ one (stays_with a.k a.closed a.reached f.counts) =
     rw (c.before.before.one-if.ensures.0, c.before.before.before.stays.ensures a.k a.closed asked.1.1.0 b.open-ones.ensures, read.counts-at.ensures) in (
       search rules,
       search rules,
@@ -106,8 +106,8 @@ loop-again c =
       λ e table lines m p q. let there : c.one-if2.result ≡ one (ready 8 e (at f.counts)) =
           rw (c.one-if2.ensures.0, c.before.within.ensures e m p q, read.counts-at.ensures) in
           let old = l.invariant.3 e table lines m p q in (
-            rw (here, there, old.0) (omega (arith, keptAfter-more a.k a.closed table lines e a.reached a.w a.window.now l.i)),
-            marked_more (settingWith a.k a.closed table lines e a.reached) a.w a.window.now l.i l.marks _ (omega arith) (rw (here, there)) old.1,
+            rw (here, there, old.0) (omega (arith, kept_after_more a.k a.closed table lines e a.reached a.w a.window.now l.i)),
+            marked_more (setting_with a.k a.closed table lines e a.reached) a.w a.window.now l.i l.marks _ (omega arith) (rw (here, there)) old.1,
           ),
     )
 

@@ -2,7 +2,7 @@
 use Rattle.std.proofs.Common.{◌≡◌, ℕ, ◌-◌, ◌<◌, ◌≤◌, length, get_or, ap, ◌∙◌, rules}
 use Rattle.clocks.specs.Counts.{at}
 use Rattle.clocks.specs.Event.{one, involved, count}
-use Rattle.clocks.specs.stored.CountsLaws.{filled, fill-next}
+use Rattle.clocks.specs.stored.CountsLaws.{filled, fill_next}
 use Rattle.window.specs.Prepared.{bound}
 use Rattle.window.proofs.prepared.bound_counts.Statement.{statement}
 use Rattle.window.proofs.prepared.bound_counts.Tie as tie
@@ -62,7 +62,7 @@ stored c =
 loop-again : tie.Need-loop-preserved invariant-loop decreases-loop
 loop-again c =
     let l = c.before.before.before.before.loop in
-    (search rules, search rules, fill-next _ 0 l.out l.p c.bound-count.result (search rules) (stored c) l.invariant.2)
+    (search rules, search rules, fill_next _ 0 l.out l.p c.bound-count.result (search rules) (stored c) l.invariant.2)
 
 returns : tie.Need-returns invariant-loop decreases-loop
 returns c = filled 8 _ 0 c.before.loop.out (search rules) (λ q l. c.before.loop.invariant.2 q (search rules))

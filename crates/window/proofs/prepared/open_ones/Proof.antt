@@ -1,7 +1,7 @@
 -- Below p the open ones are told.
 use Rattle.std.proofs.Common.{◌≡◌, ℕ, ◌-◌, ◌<◌, ◌≤◌, Bool, false, not, ◌&&◌, ltb, length, get_or, ap, ◌∙◌, arith, rules}
 use Rattle.codec.specs.Bit.{bit}
-use Rattle.clocks.specs.stored.CountsLaws.{filled, fill-next}
+use Rattle.clocks.specs.stored.CountsLaws.{filled, fill_next}
 use Rattle.window.proofs.prepared.open_ones.Statement.{statement}
 use Rattle.window.proofs.prepared.open_ones.Tie as tie
 
@@ -38,7 +38,7 @@ loop-again c =
     let l = c.before.before.before.loop in
     let stored : c.is_open.result ≡ (ltb l.p a.k && not (bit a.closed l.p)) =
     c.is_open.ensures ∙ ap (λ (b : Bool). ltb l.p a.k && not b) c.before.has-bit.ensures in
-    (search rules, search rules, fill-next _ false l.out l.p c.is_open.result (search rules) stored l.invariant.2)
+    (search rules, search rules, fill_next _ false l.out l.p c.is_open.result (search rules) stored l.invariant.2)
 
 returns : tie.Need-returns invariant-loop decreases-loop
 returns c = filled 8 _ false c.before.loop.out (search rules) (λ q l. c.before.loop.invariant.2 q (search rules))

@@ -1,13 +1,13 @@
--- The test of the processes passed, one more each turn: the laws `any-more` and `complete-open`.
+-- The test of the processes passed, one more each turn: the laws `any_more` and `complete_open`.
 use Rattle.std.proofs.Common.{◌≡◌, ℕ, ◌-◌, ◌≤◌, Bool, ◌||◌, sym, ap, ◌∙◌, arith, rules}
-use Rattle.clocks.specs.Bounded.{anyBelow}
-use Rattle.clocks.specs.stored.BoundedTurns.{any_none, any-more}
-use Rattle.window.proofs.PreparedSteps.{completeIn, complete-open}
+use Rattle.clocks.specs.Bounded.{any_below}
+use Rattle.clocks.specs.stored.BoundedTurns.{any_none, any_more}
+use Rattle.window.proofs.PreparedSteps.{complete_in, complete_open}
 use Rattle.window.proofs.prepared.some_complete.Statement.{statement}
 use Rattle.window.proofs.prepared.some_complete.Tie as tie
 
 abbrev invariant-loop : tie.invariant-loop
-invariant-loop opens reached counts some₀ p₀ some p = (p ≤ 8) × (some ≡ anyBelow p (completeIn opens reached counts))
+invariant-loop opens reached counts some₀ p₀ some p = (p ≤ 8) × (some ≡ any_below p (complete_in opens reached counts))
 
 abbrev decreases-loop : tie.decreases-loop
 decreases-loop opens reached counts some₀ p₀ some p = 8 - p
@@ -43,15 +43,15 @@ loop-again : tie.Need-loop-preserved invariant-loop decreases-loop
 loop-again c =
     let a = c.before.before.before.args in
     let l = c.before.before.loop in
-    let t = completeIn a.t1 a.t2 a.t3 in
-    (search rules, ap (λ (b : Bool). b || l.some) c.complete-there.ensures ∙ ap (λ (b : Bool). t l.p || b) l.invariant.1 ∙ any-more l.p t)
+    let t = complete_in a.t1 a.t2 a.t3 in
+    (search rules, ap (λ (b : Bool). b || l.some) c.complete-there.ensures ∙ ap (λ (b : Bool). t l.p || b) l.invariant.1 ∙ any_more l.p t)
 
 returns : tie.Need-returns invariant-loop decreases-loop
 returns c =
     let a = c.before.before.args in
     let l = c.before.loop in
     let all : l.p ≡ 8 = omega arith in
-    λ k closed h e. l.invariant.1 ∙ ap (λ (n : ℕ). anyBelow n (completeIn a.t1 a.t2 a.t3)) all ∙ complete-open k closed a.t1 a.t2 a.t3 h e
+    λ k closed h e. l.invariant.1 ∙ ap (λ (n : ℕ). any_below n (complete_in a.t1 a.t2 a.t3)) all ∙ complete_open k closed a.t1 a.t2 a.t3 h e
 
 pub some-complete-spec : {M : Type 1} → statement M
 some-complete-spec =

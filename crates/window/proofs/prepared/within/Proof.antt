@@ -5,20 +5,20 @@ use Rattle.clocks.specs.Event.{involved, count}
 use Rattle.clocks.specs.Counts.{at}
 use Rattle.clocks.specs.Bounded.{all_below}
 use Rattle.clocks.specs.stored.BoundedTurns.{all_none, all_more}
-use Rattle.clocks.specs.Tested.{readyAt, ready}
-use Rattle.window.specs.Prepared.{boundCounts, Counted}
+use Rattle.clocks.specs.Tested.{ready_at, ready}
+use Rattle.window.specs.Prepared.{bound_counts, Counted}
 use Rattle.window.proofs.prepared.within.Statement.{statement}
 use Rattle.window.proofs.prepared.within.Tie as tie
 use Rattle.window.specs.Lists.{made_at}
 
 -- What the event asks of process p.
 abbrev test : Event → List ℕ → ℕ → Bool
-test e counts p = readyAt (involved e p) (count e p) (at counts p)
+test e counts p = ready_at (involved e p) (count e p) (at counts p)
 
 abbrev invariant-loop : tie.invariant-loop
 invariant-loop low span counts all₀ p₀ all p =
     (p ≤ 8)
-    × ((e : Event) → Counted e → low ≡ boundCounts false e → span ≡ boundCounts true e → all ≡ all_below p (test e counts))
+    × ((e : Event) → Counted e → low ≡ bound_counts false e → span ≡ bound_counts true e → all ≡ all_below p (test e counts))
 
 abbrev decreases-loop : tie.decreases-loop
 decreases-loop low span counts all₀ p₀ all p = 8 - p
@@ -57,7 +57,7 @@ loop-again : tie.Need-loop-preserved invariant-loop decreases-loop
 loop-again c =
     let a = c.before.before.before.args in
     let l = c.before.before.loop in
-    let here : (e : Event) → Counted e → a.t1 ≡ boundCounts false e → a.t2 ≡ boundCounts true e
+    let here : (e : Event) → Counted e → a.t1 ≡ bound_counts false e → a.t2 ≡ bound_counts true e
     → c.between.result ≡ test e a.t3 l.p =
     λ e k m h. c.between.ensures (involved e l.p) (count e l.p) (k l.p (search rules))
     (made_at a.t1 _ 0 l.p m (search rules)) (made_at a.t2 _ 0 l.p h (search rules)) in (

@@ -1,8 +1,8 @@
--- Each part is renewed at the event's processes: the law `advanced-parts`.
+-- Each part is renewed at the event's processes: the law `advanced_parts`.
 use borrow.Author.Rules.{rules}
 use Rattle.window_step.proofs.advance.advanced.Statement.{statement}
 use Rattle.window_step.proofs.advance.advanced.Tie as tie
-use Rattle.window_step.proofs.advance.AdvanceSteps.{advanced-parts}
+use Rattle.window_step.proofs.advance.AdvanceSteps.{advanced_parts}
 
 apply-requires : tie.Need-apply-requires
 apply-requires c κs = search rules
@@ -17,7 +17,7 @@ returns : tie.Need-returns
 returns c = λ s h v. let b = c.before.before.before in
     let a = b.before.before.before.before.args in
     let full = b.before.before.before.before.requires.0 in
-    advanced-parts s a.e a.f c.before.before.apply.result c.before.renewed.result c.renewed2.result h v
+    advanced_parts s a.e a.f c.before.before.apply.result c.before.renewed.result c.renewed2.result h v
     c.before.before.apply.ensures (c.before.renewed.ensures a.e.mask full) (c.renewed2.ensures a.e.mask full)
 
 pub advanced-spec : {M : Type 1} → statement M

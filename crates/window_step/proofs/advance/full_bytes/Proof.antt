@@ -6,11 +6,11 @@ use borrow.Author.Rules.{rules}
 use Rattle.window_step.proofs.advance.full_bytes.Statement.{statement}
 use Rattle.window_step.proofs.advance.full_bytes.Tie as tie
 use Rattle.codec.specs.Bit.{bit}
-use Rattle.clocks.specs.stored.CountsLaws.{filled, fill-next}
-use Rattle.window_step.specs.FullBytes.{fullByte}
+use Rattle.clocks.specs.stored.CountsLaws.{filled, fill_next}
+use Rattle.window_step.specs.FullBytes.{full_byte}
 
 abbrev invariant-loop : tie.invariant-loop
-invariant-loop mask word out₀ p₀ out p = (p ≤ 8) × (length out ≡ 8) × ((q : ℕ) → q < p → get_or out q 0 ≡ fullByte (bit mask q))
+invariant-loop mask word out₀ p₀ out p = (p ≤ 8) × (length out ≡ 8) × ((q : ℕ) → q < p → get_or out q 0 ≡ full_byte (bit mask q))
 
 abbrev decreases-loop : tie.decreases-loop
 decreases-loop mask word out₀ p₀ out p = 8 - p
@@ -39,7 +39,7 @@ loop-less c = search rules
 loop-again : tie.Need-loop-preserved invariant-loop decreases-loop
 loop-again c =
     let l = c.before.before.before.loop in
-    (search rules, search rules, fill-next _ 0 l.out l.p c.full-byte.result (search rules) (c.full-byte.ensures ∙ ap fullByte c.before.has-bit.ensures) l.invariant.2)
+    (search rules, search rules, fill_next _ 0 l.out l.p c.full-byte.result (search rules) (c.full-byte.ensures ∙ ap full_byte c.before.has-bit.ensures) l.invariant.2)
 
 returns : tie.Need-returns invariant-loop decreases-loop
 returns c = filled 8 _ 0 c.before.loop.out (search rules) (λ q l. c.before.loop.invariant.2 q (search rules))

@@ -7,13 +7,13 @@ use Rattle.window_step.proofs.advance.renewed.Statement.{statement}
 use Rattle.window_step.proofs.advance.renewed.Tie as tie
 use mathlib.Core.Bool.{cond}
 use Rattle.codec.specs.Bit.{bit}
-use Rattle.clocks.specs.stored.CountsLaws.{filled, fill-next}
-use Rattle.window_step.specs.FullBytes.{fullBytes}
+use Rattle.clocks.specs.stored.CountsLaws.{filled, fill_next}
+use Rattle.window_step.specs.FullBytes.{full_bytes}
 use Rattle.window.specs.Lists.{made_at}
 
 abbrev invariant-loop : tie.invariant-loop
 invariant-loop full news olds out₀ p₀ out p =
-    (p ≤ 8) × (length out ≡ 8) × ((mask : ℕ) → full ≡ fullBytes mask → (q : ℕ) → q < p → get_or out q 0 ≡ cond (bit mask q) (get_or news q 0) (get_or olds q 0))
+    (p ≤ 8) × (length out ≡ 8) × ((mask : ℕ) → full ≡ full_bytes mask → (q : ℕ) → q < p → get_or out q 0 ≡ cond (bit mask q) (get_or news q 0) (get_or olds q 0))
 
 abbrev decreases-loop : tie.decreases-loop
 decreases-loop full news olds out₀ p₀ out p = 8 - p
@@ -46,7 +46,7 @@ loop-again : tie.Need-loop-preserved invariant-loop decreases-loop
 loop-again c =
     let a = c.before.before.before.args in
     let l = c.before.before.loop in
-    (search rules, search rules, λ mask e. fill-next _ 0 l.out l.p c.chosen.result (search rules) (c.chosen.ensures (bit mask l.p) (made_at a.t1 _ 0 l.p e (search rules))) (l.invariant.2 mask e))
+    (search rules, search rules, λ mask e. fill_next _ 0 l.out l.p c.chosen.result (search rules) (c.chosen.ensures (bit mask l.p) (made_at a.t1 _ 0 l.p e (search rules))) (l.invariant.2 mask e))
 
 returns : tie.Need-returns invariant-loop decreases-loop
 returns c = λ mask e. filled 8 _ 0 c.before.loop.out (search rules) (λ q l. c.before.loop.invariant.2 mask e q (search rules))

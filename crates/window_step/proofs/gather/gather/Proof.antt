@@ -1,4 +1,4 @@
--- Each turn considers one more process: the laws `gathered-more`, `consider-passed`, `consider-missing` and
+-- Each turn considers one more process: the laws `gathered_more`, `consider_passed`, `consider_missing` and
 -- `consider-found`.
 use Prim.Native.Nat.{ℕ, ◌≤◌, ◌-◌, ◌+◌}
 use native.Mathlib.Omega.{arith}
@@ -11,11 +11,11 @@ use borrow.Author.Rules.{rules}
 use Rattle.frontiers.specs.declared.Frontier.{Frontier}
 use Rattle.frontiers.specs.Bytes.{frontiers}
 use Rattle.frontiers.specs.WindowLaws.{place-within, length-frontiers}
-use Rattle.window.specs.Step.{Setting, Gathered, gathered, consider, valuesAt}
-use Rattle.window_step.proofs.GatherSteps.{gathered_none, gathered-more, consider-passed, consider-missing, consider-found, values-at}
+use Rattle.window.specs.Step.{Setting, Gathered, gathered, consider, values_at}
+use Rattle.window_step.proofs.GatherSteps.{gathered_none, gathered_more, consider_passed, consider_missing, consider-found, values_at_lem}
 use Rattle.window_step.proofs.gather.gather.Statement.{statement}
 use Rattle.window_step.proofs.gather.gather.Tie as tie
-use Rattle.window_step.specs.Gathering.{soughtWith}
+use Rattle.window_step.specs.Gathering.{sought_with}
 
 -- What is gathered so far.
 abbrev sofar : ℕ → ℕ → List ℕ → Gathered
@@ -109,21 +109,21 @@ loop-again c =
       ⊎_elim (λ x. ap length x.9 ∙ length-set l.begins l.p (x.2.result + 1) ∙ l.inv.1)
           (⊎_elim (λ x. ap length x.6 ∙ l.inv.1) (λ x. ap length x.3 ∙ l.inv.1))
           c.if1.branch,
-      λ s g h v n o q. let sought : soughtWith a.mask (get_or g.masks l.p 0) l.p ≡ t.result = rw n (sym t.ensures) in
+      λ s g h v n o q. let sought : sought_with a.mask (get_or g.masks l.p 0) l.p ≡ t.result = rw n (sym t.ensures) in
           let old = sofar l.ors l.ands l.begins in
           ⊎_elim
-          (λ x. let e : valuesAt laid x.2.result ≡ x.4.result = values-at a.w a.scratch.now a.m x.2.result x.3.taken ∙ sym x.4.ensures in
+          (λ x. let e : values_at laid x.2.result ≡ x.4.result = values_at_lem a.w a.scratch.now a.m x.2.result x.3.taken ∙ sym x.4.ensures in
           same-gathered (x.7 ∙ x.5.ensures ∙ ap (bit_or l.ors) (sym e)) (x.8 ∙ x.6.ensures ∙ ap (bit_and l.ands) (sym e)) x.9
           ∙ sym (consider-found s a.mask h v laid g l.p old (sought ∙ x.0.taken) x.1.result (rw (n, o) x.1.ensures) x.2.result x.2.ensures
           (rw (length-frontiers a.w a.scratch.now a.m) x.3.taken)))
           (⊎_elim
           (λ x. same-gathered x.4 x.5 x.6
-          ∙ sym (consider-missing s a.mask h v laid g l.p old (sought ∙ x.0.taken) x.1.result (rw (n, o) x.1.ensures) x.2.result x.2.ensures
+          ∙ sym (consider_missing s a.mask h v laid g l.p old (sought ∙ x.0.taken) x.1.result (rw (n, o) x.1.ensures) x.2.result x.2.ensures
           (rw (length-frontiers a.w a.scratch.now a.m) x.3.left)))
-          (λ x. same-gathered x.1 x.2 x.3 ∙ sym (consider-passed s a.mask h v laid g l.p old (sought ∙ x.0.left))))
+          (λ x. same-gathered x.1 x.2 x.3 ∙ sym (consider_passed s a.mask h v laid g l.p old (sought ∙ x.0.left))))
           c.if1.branch
           ∙ ap (consider s laid g l.p) (l.inv.2 s g h v n o q)
-          ∙ sym (gathered-more s laid a.hints g l.p),
+          ∙ sym (gathered_more s laid a.hints g l.p),
     )
 
 returns : tie.Need-returns invariant-loop decreases-loop

@@ -1,4 +1,4 @@
--- One more frontier stands behind those laid down: the law `frontiers-stored`.
+-- One more frontier stands behind those laid down: the law `frontiers_stored`.
 use mathlib.Core.Path.{ap, ◌∙◌}
 use Prim.Native.Nat.{ℕ, ◌≤◌, ◌+◌, ◌*◌}
 use mathlib.Core.List.{List, [], ◌∷◌, ◌++◌}
@@ -6,10 +6,10 @@ use lib.ListN.{length}
 use borrow.Author.Rules.{rules}
 use Rattle.window_step.proofs.lay.lay_staying.Statement.{statement}
 use Rattle.window_step.proofs.lay.lay_staying.Tie as tie
-use Rattle.frontiers.specs.Bytes.{frontierAt, frontiers, frontierLength}
-use Rattle.frontiers.specs.WindowLaws.{frontiers-stored}
+use Rattle.frontiers.specs.Bytes.{frontier_at, frontiers, frontier_length}
+use Rattle.frontiers.specs.WindowLaws.{frontiers_stored}
 use Rattle.frontiers.specs.Shaped.{Shaped}
-use Rattle.window_step.proofs.lay.ShapeSteps.{shaped-at}
+use Rattle.window_step.proofs.lay.ShapeSteps.{shaped_at}
 use Rattle.frontiers.specs.declared.Frontier.{Frontier}
 
 frontier-at-requires : tie.Need-frontier-at-requires
@@ -19,10 +19,10 @@ frontier-at-requires c κs = search rules
 proper : (c : tie.After-frontier-at) → Shaped c.before.before.before.args.w c.frontier-at.result
 proper c =
     let a = c.before.before.before.args in
-    rw c.frontier-at.ensures (shaped-at a.w a.window.now a.i (λ i. (c.before.before.shared-slice-known.given i).fits) (search rules))
+    rw c.frontier-at.ensures (shaped_at a.w a.window.now a.i (λ i. (c.before.before.shared-slice-known.given i).fits) (search rules))
 
 lay-frontier-requires : tie.Need-lay-frontier-requires
-lay-frontier-requires c κs = (search rules, (search rules, (search rules, λ p. (proper c.before).counts-fit p)))
+lay-frontier-requires c κs = (search rules, (search rules, (search rules, λ p. (proper c.before).counts_fit p)))
 
 same_length : tie.Need-same-length
 same_length c = search rules
@@ -31,10 +31,10 @@ returns : tie.Need-returns
 returns c =
     let b = c.before.before.before.before in
     let a = b.before.before.before.args in
-    let f = frontierAt a.w a.window.now a.i in
-    let room : a.m * frontierLength a.w + frontierLength a.w ≤ length a.scratch.now = search rules in
+    let f = frontier_at a.w a.window.now a.i in
+    let room : a.m * frontier_length a.w + frontier_length a.w ≤ length a.scratch.now = search rules in
     ap (λ (bs : List ℕ). frontiers a.w bs (a.m + 1)) c.before.before.lay-frontier.ensures
-    ∙ frontiers-stored a.w a.scratch.now a.m b.frontier-at.result (proper b) room
+    ∙ frontiers_stored a.w a.scratch.now a.m b.frontier-at.result (proper b) room
     ∙ ap (λ (g : Frontier). frontiers a.w a.scratch.now a.m ++ (g ∷ [])) b.frontier-at.ensures
 
 pub lay-staying-spec : {M : Type 1} → statement M

@@ -1,4 +1,4 @@
--- The tests lead as in `freshAt`.
+-- The tests lead as in `fresh_at`.
 use native.Mathlib.Omega.{arith}
 use mathlib.Core.Path.{◌≡◌, sym, ap, ◌∙◌, subst}
 use Prim.Native.Nat.{ℕ}
@@ -13,7 +13,7 @@ use Rattle.clocks.specs.Event.{apply}
 use Rattle.clocks.specs.cuts.EventLaws.{true-T}
 use Rattle.clocks.specs.Counts.{at, list_of}
 use Rattle.clocks.specs.Tested.{ready}
-use Rattle.frontiers.specs.Bytes.{frontierAt}
+use Rattle.frontiers.specs.Bytes.{frontier_at}
 use Rattle.lookup.specs.Order.{before}
 
 -- The start of the walk.
@@ -47,10 +47,10 @@ counts-before-requires c κs = search rules
 returns-3 : tie.Need-returns-3
 returns-3 c =
     let a = (start c.before.before.before).args in
-    let there : c.before.before.apply.result ≡ list_of 8 (apply a.e (at (frontierAt a.w a.window.now a.j).counts)) =
+    let there : c.before.before.apply.result ≡ list_of 8 (apply a.e (at (frontier_at a.w a.window.now a.j).counts)) =
     c.before.before.apply.ensures ∙ ap (λ (counts : List ℕ). list_of 8 (apply a.e (at counts))) c.before.before.before.counts-at.ensures in
     rw (lt-ltb a.j a.n (search rules), lt-ltb a.i a.n (search rules))
-    (c.counts-before.ensures ∙ ap (λ (x : List ℕ). before x c.before.counts-at2.result) there ∙ ap (before (list_of 8 (apply a.e (at (frontierAt a.w a.window.now a.j).counts)))) c.before.counts-at2.ensures)
+    (c.counts-before.ensures ∙ ap (λ (x : List ℕ). before x c.before.counts-at2.result) there ∙ ap (before (list_of 8 (apply a.e (at (frontier_at a.w a.window.now a.j).counts)))) c.before.counts-at2.ensures)
 
 pub fresh-first-spec : {M : Type 1} → statement M
 fresh-first-spec =

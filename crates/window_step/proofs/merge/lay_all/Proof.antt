@@ -1,4 +1,4 @@
--- Each turn lays down the next slot: the laws `laid-staying` and `laid-fresh`.
+-- Each turn lays down the next slot: the laws `laid_staying` and `laid_fresh`.
 use native.Mathlib.Omega.{arith}
 use mathlib.Core.Path.{◌≡◌, refl, sym, ap, ◌∙◌}
 use Prim.Native.Nat.{◌≤◌, ◌<◌, ◌-◌}
@@ -9,10 +9,10 @@ use Rattle.window_step.proofs.merge.lay_all.Tie as tie
 use Rattle.frontiers.specs.Bytes.{frontiers}
 use Rattle.frontiers.specs.WindowLaws.{place-within}
 use Rattle.window_step.specs.Fixed.{setting_of}
-use Rattle.window.specs.Step.{Setting, stays, enabledAt}
+use Rattle.window.specs.Step.{Setting, stays, enabled_at}
 use Rattle.window_step.specs.Laying.{Laying}
-use Rattle.window.specs.Marks.{Marked, Tells, tells-stays, tells-enabled}
-use Rattle.window_step.proofs.merge.MergeSteps.{laying-start, staying-left, leading-left, laid-staying, laid-fresh, laid-all}
+use Rattle.window.specs.Marks.{Marked, Tells, tells_stays, tells_enabled}
+use Rattle.window_step.proofs.merge.MergeSteps.{laying_start, staying_left, leading_left, laid_staying, laid_fresh, laid_all}
 use Rattle.clocks.specs.cuts.EventLaws.{true-T}
 use Rattle.clocks.specs.Counts.{list_of}
 
@@ -36,14 +36,14 @@ begun c = start c.before.before.before
 abbrev turn : tie.After-lay-fresh-arg invariant-loop decreases-loop → tie.In-loop invariant-loop decreases-loop
 turn c = c.before.before.before
 
-abbrev turn-2 : tie.After-lay-staying-arg invariant-loop decreases-loop → tie.In-loop invariant-loop decreases-loop
-turn-2 c = c.before.before.before
+abbrev turn_2 : tie.After-lay-staying-arg invariant-loop decreases-loop → tie.In-loop invariant-loop decreases-loop
+turn_2 c = c.before.before.before
 
 abbrev laid : tie.After-next-marked3 invariant-loop decreases-loop → tie.After-lay-fresh invariant-loop decreases-loop
 laid c = c.before.before.before
 
-abbrev laid-2 : tie.After-next-marked4 invariant-loop decreases-loop → tie.After-lay-staying invariant-loop decreases-loop
-laid-2 c = c.before.before.before
+abbrev laid_2 : tie.After-next-marked4 invariant-loop decreases-loop → tie.After-lay-staying invariant-loop decreases-loop
+laid_2 c = c.before.before.before
 
 -- The step's setting, and its marks.
 abbrev setting : tie.Start invariant-loop decreases-loop → Setting
@@ -52,11 +52,11 @@ setting c = setting_of c.args.fixed c.args.table.now
 marked : (c : tie.Start invariant-loop decreases-loop) → let a = c.args in Marked (setting c) a.fixed.w a.window.now a.fixed.n a.marks.now
 marked c = c.requires.1.1.1.1.1.1.1.1
 
-staying-told : (c : tie.Start invariant-loop decreases-loop) → let a = c.args in Tells 0 (stays (setting c)) a.fixed.w a.window.now a.fixed.n a.marks.now
-staying-told c = tells-stays (setting c) _ _ _ c.args.marks.now (marked c)
+staying_told : (c : tie.Start invariant-loop decreases-loop) → let a = c.args in Tells 0 (stays (setting c)) a.fixed.w a.window.now a.fixed.n a.marks.now
+staying_told c = tells_stays (setting c) _ _ _ c.args.marks.now (marked c)
 
-leading-told : (c : tie.Start invariant-loop decreases-loop) → let a = c.args in Tells 1 (enabledAt (setting c)) a.fixed.w a.window.now a.fixed.n a.marks.now
-leading-told c = tells-enabled (setting c) _ _ _ c.args.marks.now (marked c)
+leading_told : (c : tie.Start invariant-loop decreases-loop) → let a = c.args in Tells 1 (enabled_at (setting c)) a.fixed.w a.window.now a.fixed.n a.marks.now
+leading_told c = tells_enabled (setting c) _ _ _ c.args.marks.now (marked c)
 
 -- ---- The needs
 
@@ -82,23 +82,23 @@ loop-holds c =
       refl,
       first.ensures.0,
       leads.ensures.0,
-      laying-start s refl w window b.args.fixed.n b.args.fixed.kept b.pre.1.1.1.1.1.1.0
-          first.result first.ensures.0 (first.ensures.1.0 (stays s) w window (staying-told b)) (first.ensures.1.1 (stays s) w window (staying-told b))
-          leads.result leads.ensures.0 (leads.ensures.1.0 (enabledAt s) w window (leading-told b)) (leads.ensures.1.1 (enabledAt s) w window (leading-told b)),
+      laying_start s refl w window b.args.fixed.n b.args.fixed.kept b.pre.1.1.1.1.1.1.0
+          first.result first.ensures.0 (first.ensures.1.0 (stays s) w window (staying_told b)) (first.ensures.1.1 (stays s) w window (staying_told b))
+          leads.result leads.ensures.0 (leads.ensures.1.0 (enabled_at s) w window (leading_told b)) (leads.ensures.1.1 (enabled_at s) w window (leading_told b)),
     )
 
 fresh-first-requires : tie.Need-fresh-first-requires invariant-loop decreases-loop
-unfolding enabledAt
-fresh-first-requires c κs = (search rules, (search rules, c.before.loop.invariant.4.leading-here))
+unfolding enabled_at
+fresh-first-requires c κs = (search rules, (search rules, c.before.loop.invariant.4.leading_here))
 
 -- Where a new one comes first, there is one that the event leads on from.
 leading : (c : tie.After-lay-fresh-arg invariant-loop decreases-loop) → (turn c).before.loop.j < (begun (turn c).before).args.fixed.n
 leading c =
     let b = begun (turn c).before in
-    leading-left (setting b) b.args.fixed.event refl refl _ _ _ _ _ _ _ _ _ (turn c).before.loop.invariant.4 (search rules) (sym c.before.before.fresh-first.ensures ∙ c.before.if1.true)
+    leading_left (setting b) b.args.fixed.event refl refl _ _ _ _ _ _ _ _ _ (turn c).before.loop.invariant.4 (search rules) (sym c.before.before.fresh-first.ensures ∙ c.before.if1.true)
 
 lay-fresh-requires : tie.Need-lay-fresh-requires invariant-loop decreases-loop
-unfolding enabledAt
+unfolding enabled_at
 lay-fresh-requires c κs =
     let l = (turn c).before in
     let a = (begun l).args.fixed in
@@ -106,7 +106,7 @@ lay-fresh-requires c κs =
     let here : l.loop.j < a.n = leading c in
     let room = place-within l.loop.m a.kept a.w (search rules) in
     let full = l.before.before.before.full-bytes.ensures in
-    (p.0, (p.1.0, ((omega arith, omega (arith, place-within l.loop.j a.n a.w here)), ((omega arith, omega (arith, room)), (p.1.1.1.1.0, (p.1.1.1.1.1.0, (true-T (l.loop.inv.4.leading-here here), full)))))))
+    (p.0, (p.1.0, ((omega arith, omega (arith, place-within l.loop.j a.n a.w here)), ((omega arith, omega (arith, room)), (p.1.1.1.1.0, (p.1.1.1.1.1.0, (true-T (l.loop.inv.4.leading_here here), full)))))))
 
 add-next-marked : tie.Need-overflow-add-next-marked invariant-loop decreases-loop
 add-next-marked c = let here = leading c.before.before.before in search rules
@@ -136,20 +136,20 @@ loop-again c =
       search rules,
       search rules,
       next.ensures.0,
-      laid-fresh s b.args.fixed.event refl refl w window _ _ _ _ _ _ _ l.loop.inv.4 (search rules) (sym arg.before.before.fresh-first.ensures ∙ arg.before.if1.taken)
+      laid_fresh s b.args.fixed.event refl refl w window _ _ _ _ _ _ _ l.loop.inv.4 (search rules) (sym arg.before.before.fresh-first.ensures ∙ arg.before.if1.taken)
           _ (laid c).lay-fresh.ensures.1 _ (laid c).lay-fresh.ensures.0
-          next.result next.ensures.0 (next.ensures.1.0 (enabledAt s) w window (leading-told b)) (next.ensures.1.1 (enabledAt s) w window (leading-told b)),
+          next.result next.ensures.0 (next.ensures.1.0 (enabled_at s) w window (leading_told b)) (next.ensures.1.1 (enabled_at s) w window (leading_told b)),
     )
 
 -- Where none comes first, there is one that stays.
-remains : (c : tie.After-lay-staying-arg invariant-loop decreases-loop) → (turn-2 c).before.loop.i < (begun (turn-2 c).before).args.fixed.n
+remains : (c : tie.After-lay-staying-arg invariant-loop decreases-loop) → (turn_2 c).before.loop.i < (begun (turn_2 c).before).args.fixed.n
 remains c =
-    let b = begun (turn-2 c).before in
-    staying-left (setting b) b.args.fixed.event refl refl _ _ _ _ _ _ _ _ _ (turn-2 c).before.loop.invariant.4 (search rules) (sym c.before.before.fresh-first.ensures ∙ c.before.if1.false)
+    let b = begun (turn_2 c).before in
+    staying_left (setting b) b.args.fixed.event refl refl _ _ _ _ _ _ _ _ _ (turn_2 c).before.loop.invariant.4 (search rules) (sym c.before.before.fresh-first.ensures ∙ c.before.if1.false)
 
 lay-staying-requires : tie.Need-lay-staying-requires invariant-loop decreases-loop
 lay-staying-requires c κs =
-    let l = (turn-2 c).before in
+    let l = (turn_2 c).before in
     let a = (begun l).args.fixed in
     let p = (begun l).pre in
     let here : l.loop.i < a.n = remains c in
@@ -163,18 +163,18 @@ next-marked-requires-4 : tie.Need-next-marked-requires-4 invariant-loop decrease
 next-marked-requires-4 c κs =
     let arg = c.before.before.before in
     let here = remains arg in
-    (((begun (turn-2 arg).before).pre.1.1.1.1.1.1.1.0, omega arith), omega arith)
+    (((begun (turn_2 arg).before).pre.1.1.1.1.1.1.1.0, omega arith), omega arith)
 
 add-m-2 : tie.Need-overflow-add-m-2 invariant-loop decreases-loop
-add-m-2 c = let room = (begun (turn-2 (laid-2 c).before).before).pre.1.1.1.0.0 in search rules
+add-m-2 c = let room = (begun (turn_2 (laid_2 c).before).before).pre.1.1.1.0.0 in search rules
 
 loop-less-2 : tie.Need-loop-smaller-2 invariant-loop decreases-loop
 loop-less-2 c = search rules
 
 loop-again-2 : tie.Need-loop-preserved-2 invariant-loop decreases-loop
 loop-again-2 c =
-    let arg = (laid-2 c).before in
-    let l = (turn-2 arg).before in
+    let arg = (laid_2 c).before in
+    let l = (turn_2 arg).before in
     let b = begun l in
     let s = setting b in
     let w = b.args.fixed.w in
@@ -184,9 +184,9 @@ loop-again-2 c =
       search rules,
       next.ensures.0,
       search rules,
-      laid-staying s b.args.fixed.event refl refl w window _ _ _ _ _ _ _ l.loop.inv.4 (search rules) (sym arg.before.before.fresh-first.ensures ∙ arg.before.if1.left)
-          _ (laid-2 c).lay-staying.ensures
-          next.result next.ensures.0 (next.ensures.1.0 (stays s) w window (staying-told b)) (next.ensures.1.1 (stays s) w window (staying-told b)),
+      laid_staying s b.args.fixed.event refl refl w window _ _ _ _ _ _ _ l.loop.inv.4 (search rules) (sym arg.before.before.fresh-first.ensures ∙ arg.before.if1.left)
+          _ (laid_2 c).lay-staying.ensures
+          next.result next.ensures.0 (next.ensures.1.0 (stays s) w window (staying_told b)) (next.ensures.1.1 (stays s) w window (staying_told b)),
     )
 
 same_length : tie.Need-same-length invariant-loop decreases-loop
@@ -198,7 +198,7 @@ returns c =
     let b = begun c.before in
     let a = b.args.fixed in
     let all : l.m ≡ a.kept = omega arith in
-    ap (frontiers a.w l.scratch) (sym all) ∙ laid-all (setting b) a.event refl refl _ _ _ _ _ _ _ _ _ l.invariant.4 (omega arith)
+    ap (frontiers a.w l.scratch) (sym all) ∙ laid_all (setting b) a.event refl refl _ _ _ _ _ _ _ _ _ l.invariant.4 (omega arith)
 
 pub lay-all-spec : {M : Type 1} → statement M
 lay-all-spec =

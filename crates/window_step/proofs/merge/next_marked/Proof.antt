@@ -1,4 +1,4 @@
--- Each frontier passed is none of those sought: the law `rest-pass`.
+-- Each frontier passed is none of those sought: the law `rest_pass`.
 use native.Mathlib.Omega.{arith}
 use mathlib.Core.Path.{◌≡◌, refl, sym, ap, ◌∙◌}
 use Prim.Native.Nat.{ℕ, ◌≤◌, ◌<◌, ◌-◌}
@@ -10,7 +10,7 @@ use Rattle.window_step.proofs.merge.next_marked.Tie as tie
 use native.Mathlib.Nat.{le_refl}
 use Rattle.frontiers.specs.declared.Frontier.{Frontier}
 use Rattle.window_step.specs.Laying.{rest_of}
-use Rattle.window_step.proofs.merge.MergeSteps.{rest-pass}
+use Rattle.window_step.proofs.merge.MergeSteps.{rest_pass}
 use Rattle.window.specs.Marks.{Tells}
 
 abbrev invariant-loop : tie.invariant-loop
@@ -46,7 +46,7 @@ loop-again c =
     let a = b.before.before.args in
     let l = b.loop in
     let k : l.next < a.n = omega arith in
-    (search rules, λ t w window T. l.invariant.1 t w window T ∙ rest-pass t w window a.n l.next k (T l.next k ∙ sym c.before.is-marked.ensures ∙ c.if1.false))
+    (search rules, λ t w window T. l.invariant.1 t w window T ∙ rest_pass t w window a.n l.next k (T l.next k ∙ sym c.before.is-marked.ensures ∙ c.if1.false))
 
 returns-2 : tie.Need-returns-2 invariant-loop decreases-loop
 returns-2 c =

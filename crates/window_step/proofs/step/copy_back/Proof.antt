@@ -1,4 +1,4 @@
--- The bytes of the frontiers, then zeros where there were more: the laws `copied-replaced` and `read_back`.
+-- The bytes of the frontiers, then zeros where there were more: the laws `copied_replaced` and `read_back`.
 use Rattle.window_step.proofs.step.copy_back.Tie as tie
 use Prim.Native.Nat.{ℕ, ◌-◌, ◌<◌}
 use native.Mathlib.Omega.{arith}
@@ -7,8 +7,8 @@ use mathlib.Core.List.{List}
 use lib.ListN.{get_or, length, replicate}
 use lib.Seq.{sets}
 use borrow.Author.Rules.{rules}
-use Rattle.frontiers.specs.Bytes.{frontiers, frontierLength}
-use Rattle.frontiers.specs.WindowLaws.{left-within, copied-replaced, read_back}
+use Rattle.frontiers.specs.Bytes.{frontiers, frontier_length}
+use Rattle.frontiers.specs.WindowLaws.{left_within, copied_replaced, read_back}
 use Rattle.window_step.proofs.step.copy_back.Statement.{statement}
 
 -- ---- Places in the walk: the start, where the bytes end, when they are moved, when what is left is cleared
@@ -40,7 +40,7 @@ clear-requires : tie.Need-clear-requires
 clear-requires c κs =
     let a = (start (placed (moved c))).args in
     let asked = (start (placed (moved c))).requires in
-    omega (arith, left-within (frontierLength a.w) a.m a.n (length a.window.now) asked.1.1.0.1 asked.1.0.1)
+    omega (arith, left_within (frontier_length a.w) a.m a.n (length a.window.now) asked.1.1.0.1 asked.1.0.1)
 
 clear-all-requires : tie.Need-clear-all-requires
 clear-all-requires c κs = search rules
@@ -64,7 +64,7 @@ returns c =
     let window =
     b.clear.ensures
     ∙ ap (λ (y : List ℕ). sets y far.result (replicate left.result 0)) move.copy-in.ensures
-    ∙ copied-replaced a.w a.window.now a.scratch.now a.n a.m far.result left.result bytes asked.1.1.1.1 far.ensures.0 left.ensures in
+    ∙ copied_replaced a.w a.window.now a.scratch.now a.n a.m far.result left.result bytes asked.1.1.1.1 far.ensures.0 left.ensures in
     (window, (search rules, ap (λ (y : List ℕ). frontiers a.w y a.m) window ∙ read_back a.w a.window.now a.scratch.now a.n a.m bytes asked.1.1.1.1 asked.1.1.0.1))
 
 pub copy-back-spec : {M : Type 1} → statement M
