@@ -133,8 +133,8 @@ def imported(text):
         if m[2]:
             for it in m[2].split(","):
                 names.update(w.strip() for w in it.split(" as "))
-        if m[3]:
-            modules.add(m[3])
+        if m[3] or not m[2]:
+            modules.add(m[3] or m[1].split(".")[-1])
     return names, modules
 
 

@@ -27,7 +27,7 @@ one_more line d f fs j q n (suc h) l = n h (omega arith)
 
 pub finding : (line i : ℕ) (fs : List Frontier) (d : Frontier) → Finding line i fs d
 unfolding find_from
-finding line i [] d = nowhere refl (λ f m. absurd (Memᴰ.not_nil m))
+finding line i [] d = nowhere refl (λ f m. absurd (Memᴰ.not-nil m))
 finding line i (f ∷ fs) d = go (bit f.values line) refl (finding line (i + 1) fs d)
   where
     go : (b : Bool) → HoldsThere line f b → Finding line (i + 1) fs d → Finding line i (f ∷ fs) d

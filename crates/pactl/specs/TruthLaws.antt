@@ -30,7 +30,7 @@ all_of_i t (x ∷ xs) h = and_i (t x) (all_of t xs) (h x (Memᴰ.head refl)) (al
 
 pub all_of_e : {A : Type 0} (t : A → Bool) (xs : List A) → T (all_of t xs) → (x : A) → Memᴰ x xs → T (t x)
 unfolding all_of
-all_of_e t [] h x m = absurd (Memᴰ.not_nil m)
+all_of_e t [] h x m = absurd (Memᴰ.not-nil m)
 all_of_e t (y ∷ ys) h x m = go (Memᴰ.cases_cons m) (all_of_e t ys (and_r (t y) (all_of t ys) h) x)
   where
     go : (x ≡ y) ⊎ Memᴰ x ys → (Memᴰ x ys → T (t x)) → T (t x)

@@ -172,10 +172,10 @@ module _ (w : ℕ) (pos : 0 < w) (shares : List ℕ) where
   unfolding pool_run own_turns own_take_answers take_answers run
   projected i [] p G R m here opens = record {
     own = [];
-    passed = λ c y. absurd (Memᴰ.not_nil y);
+    passed = λ c y. absurd (Memᴰ.not-nil y);
     place_is = here;
     answers_are = refl;
-    no_offers = λ none mask clock labels y. absurd (Memᴰ.not_nil y);
+    no_offers = λ none mask clock labels y. absurd (Memᴰ.not-nil y);
   }
   projected i (c ∷ cs) p G R m here opens =
       go (eqb c.number i) refl (projected i cs (λ d y. p d (Memᴰ.tail y)))

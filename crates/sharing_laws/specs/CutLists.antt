@@ -55,7 +55,7 @@ headed_in c cuts S e m =
 in_below : (n : ℕ) (cuts : List Cut) (S : Cut) → Memᴰ S (headed_below n cuts)
     → (S 0 < n) × Memᴰ (others S) cuts
 unfolding headed_below
-in_below zero cuts S m = absurd (Memᴰ.not_nil m)
+in_below zero cuts S m = absurd (Memᴰ.not-nil m)
 in_below (suc n) cuts S m =
     ⊎_elim (λ a. let r = in_below n cuts S a in (omega (arith, r.0), r.1))
     (λ b. let r = in_headed n cuts S b in (omega (arith, r.0), r.1))
@@ -138,7 +138,7 @@ all_exactly [] S = (there, λ h. Memᴰ.head (none h))
     none h = fun_ext (λ p. let z : S p ≡ 0 = omega (arith, h p) in z)
 
     there : Memᴰ S (zeros ∷ []) → UpTo [] S
-    there m p = ⊎_elim (λ e. rw e (omega arith)) (λ n. absurd (Memᴰ.not_nil n)) (Memᴰ.cases_cons m)
+    there m p = ⊎_elim (λ e. rw e (omega arith)) (λ n. absurd (Memᴰ.not-nil n)) (Memᴰ.cases_cons m)
 all_exactly (c ∷ cs) S = (
   λ m.
       let r = in_below (suc c) (all_cuts cs) S m in
@@ -155,7 +155,7 @@ length-all (c ∷ cs) = length_below (suc c) (all_cuts cs) ∙ ap (λ (n : ℕ).
 
 sorted_all : (n : ℕ) (cs : List ℕ) → length cs ≤ n → Sorted n (all_cuts cs)
 unfolding all_cuts
-sorted_all n [] l = (λ R m. absurd (Memᴰ.not_nil m), tt)
+sorted_all n [] l = (λ R m. absurd (Memᴰ.not-nil m), tt)
 sorted_all zero (c ∷ cs) l = absurd (omega arith)
 sorted_all (suc n) (c ∷ cs) l = sorted_below n (suc c) (all_cuts cs) (sorted_all n cs (le_of_suc-le-suc l))
 
@@ -170,7 +170,7 @@ reaching (c ∷ cs) = headed_below c (reaching cs) ++ map (headed c) (all_cuts c
 
 pub reaching_exactly : (cs : List ℕ) (S : Cut) → Memᴰ S (reaching cs) ↔ (UpTo cs S × Reaches cs S)
 unfolding reaching
-reaching_exactly [] S = (λ m. absurd (Memᴰ.not_nil m), λ h. absurd (omega (arith, h.1.1)))
+reaching_exactly [] S = (λ m. absurd (Memᴰ.not-nil m), λ h. absurd (omega (arith, h.1.1)))
 reaching_exactly (c ∷ cs) S =
     let rest = reaching_exactly cs (others S) in
     (there rest.0, back rest.1)

@@ -171,7 +171,7 @@ back_taken f (suc k) p l = go (ℕ_discrete p k) (back_taken f k p)
 
 back_alone : (f : ℕ → ℕ) (k : ℕ) → k ≤ 8 → AllAlone (day_back f k)
 unfolding day_back
-back_alone f zero few e m = absurd (Memᴰ.not_nil m)
+back_alone f zero few e m = absurd (Memᴰ.not-nil m)
 back_alone f (suc p) few e m = past_alone p (f p) (omega arith) (day_back f p) (back_alone f p (omega arith)) e m
 
 back_history : (k : ℕ) → k ≤ 8 → (f : ℕ → ℕ) (m : ℕ) → m ≤ k → History k Known (day_back f m)
@@ -209,7 +209,7 @@ length-day f (suc k) =
 pub day_member : (f : ℕ → ℕ) (k : ℕ) (e : Event) → Memᴰ e (day f k)
     → (p : ℕ) × (i : ℕ) × (p < k) × (i < f p) × (e ≡ single p (suc i))
 unfolding day singles
-day_member f zero e m = absurd (Memᴰ.not_nil m)
+day_member f zero e m = absurd (Memᴰ.not-nil m)
 day_member f (suc k) e m =
     ⊎_elim (λ a. let r = day_member f k e a in (r.0, r.1, omega (arith, r.2), r.3, r.4))
     (λ b.

@@ -76,8 +76,8 @@ module _ (w : ℕ) (s : List ℕ) (valid : Event → Bool) (allowed : ℕ) (fs :
   pub outcome : (i : ℕ) (seen : Bool) (es : List Event) → Outcome w s valid allowed fs i seen es d
   unfolding walked
   outcome i seen [] =
-      none_decides seen refl (λ e m. absurd (Memᴰ.not_nil m))
-      ((λ t. inl t), ⊎_elim (λ t. t) (λ x. absurd (Memᴰ.not_nil x.1)))
+      none_decides seen refl (λ e m. absurd (Memᴰ.not-nil m))
+      ((λ t. inl t), ⊎_elim (λ t. t) (λ x. absurd (Memᴰ.not-nil x.1)))
   outcome i seen (e ∷ es) =
       go (ready_in w s e) refl (valid e) refl (fits (setting_in w s e) allowed fs) refl (λ b. outcome (i + 1) b es)
     where

@@ -105,7 +105,7 @@ length-turn i (e ∷ es) =
 
 places_below : (p i : ℕ) (es : List Event) (j : ℕ) → Memᴰ j (places_of p i es) → j < i + length es
 unfolding places_of
-places_below p i [] j m = absurd (mathlib.Core.List.Memᴰ.not_nil m)
+places_below p i [] j m = absurd (mathlib.Core.List.Memᴰ.not-nil m)
 places_below p i (e ∷ es) j m = go (eqb (lowest e) p) refl (places_below p (i + 1) es j)
   where
     go : (b : Bool) → eqb (lowest e) p ≡ b → (Memᴰ j (places_of p (i + 1) es) → j < i + 1 + length es)
@@ -117,7 +117,7 @@ places_below p i (e ∷ es) j m = go (eqb (lowest e) p) refl (places_below p (i 
 
 pub turn_below : (n p i : ℕ) (es : List Event) (j : ℕ) → Memᴰ j (places_from n p i es) → j < i + length es
 unfolding places_from
-turn_below zero p i es j m = absurd (mathlib.Core.List.Memᴰ.not_nil m)
+turn_below zero p i es j m = absurd (mathlib.Core.List.Memᴰ.not-nil m)
 turn_below (suc n) p i es j m =
     ⊎_elim (places_below p i es j) (turn_below n (p + 1) i es j) (mathlib.Core.List.Memᴰ.append_cases (places_of p i es) m)
 

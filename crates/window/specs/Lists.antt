@@ -13,7 +13,7 @@ use Rattle.clocks.specs.stored.CountsLaws.{get_d_list_of}
 module _ {A : Type 0} where
   pub filtered_e : (t : A → Bool) (xs : List A) (x : A) → Memᴰ x (filtered t xs) → Memᴰ x xs × T (t x)
   unfolding filtered
-  filtered_e t [] x m = absurd (Memᴰ.not_nil m)
+  filtered_e t [] x m = absurd (Memᴰ.not-nil m)
   filtered_e t (y ∷ ys) x m = go (t y) refl (filtered_e t ys x) m
     where
       go : (b : Bool) → t y ≡ b → (Memᴰ x (filtered t ys) → Memᴰ x ys × T (t x)) → Memᴰ x (cond b (y ∷ filtered t ys) (filtered t ys)) → Memᴰ x (y ∷ ys) × T (t x)
@@ -22,7 +22,7 @@ module _ {A : Type 0} where
 
   pub filtered_i : (t : A → Bool) (xs : List A) (x : A) → Memᴰ x xs → T (t x) → Memᴰ x (filtered t xs)
   unfolding filtered
-  filtered_i t [] x m h = absurd (Memᴰ.not_nil m)
+  filtered_i t [] x m h = absurd (Memᴰ.not-nil m)
   filtered_i t (y ∷ ys) x m h = go (t y) refl (Memᴰ.cases_cons m) (λ k. filtered_i t ys x k h)
     where
       go : (b : Bool) → t y ≡ b → (x ≡ y) ⊎ Memᴰ x ys → (Memᴰ x ys → Memᴰ x (filtered t ys)) → Memᴰ x (cond b (y ∷ filtered t ys) (filtered t ys))
@@ -72,11 +72,11 @@ get_d_mapped f (x ∷ xs) zero d e l = refl
 get_d_mapped f (x ∷ xs) (suc i) d e l = get_d_mapped f xs i d e (omega arith)
 
 pub mapped_e : {A B : Type 0} (f : A → B) (xs : List A) (z : B) → Memᴰ z (map f xs) → (x : A) × Memᴰ x xs × (z ≡ f x)
-mapped_e f [] z m = absurd (Memᴰ.not_nil m)
+mapped_e f [] z m = absurd (Memᴰ.not-nil m)
 mapped_e {A} f (x ∷ xs) z m = ⊎_elim (λ q. (x, Memᴰ.head refl, q)) (λ k. let w = mapped_e f xs z k in (w.0, Memᴰ.tail w.1, w.2)) (Memᴰ.cases_cons m)
 
 pub mapped_i : {A B : Type 0} (f : A → B) (xs : List A) (x : A) → Memᴰ x xs → Memᴰ (f x) (map f xs)
-mapped_i f [] x m = absurd (Memᴰ.not_nil m)
+mapped_i f [] x m = absurd (Memᴰ.not-nil m)
 mapped_i f (y ∷ ys) x m = ⊎_elim (λ q. Memᴰ.head (ap f q)) (λ k. Memᴰ.tail (mapped_i f ys x k)) (Memᴰ.cases_cons m)
 
 -- What was made for process p.

@@ -35,7 +35,7 @@ module _ {A : Type 0} (key : A → List ℕ) where
       → (ys : List A) (z : A) → Memᴰ z (x ∷ xs) ⊎ Memᴰ z ys → Memᴰ z (merge_into key x rest ys)
   unfolding merge_into
   into_has x xs rest r [] z (inl m) = ⊎_elim Memᴰ.head (λ k. Memᴰ.tail (r [] z (inl k))) (Memᴰ.cases_cons m)
-  into_has x xs rest r [] z (inr m) = absurd (Memᴰ.not_nil m)
+  into_has x xs rest r [] z (inr m) = absurd (Memᴰ.not-nil m)
   into_has x xs rest r (y ∷ ys) z m = go (before (key y) (key x)) m (into_has x xs rest r ys z)
     where
       go : (b : Bool) → Memᴰ z (x ∷ xs) ⊎ Memᴰ z (y ∷ ys) → (Memᴰ z (x ∷ xs) ⊎ Memᴰ z ys → Memᴰ z (merge_into key x rest ys))
@@ -47,7 +47,7 @@ module _ {A : Type 0} (key : A → List ℕ) where
 
   pub merge_i : (xs ys : List A) (z : A) → Memᴰ z xs ⊎ Memᴰ z ys → Memᴰ z (merge key xs ys)
   unfolding merge
-  merge_i [] ys z (inl m) = absurd (Memᴰ.not_nil m)
+  merge_i [] ys z (inl m) = absurd (Memᴰ.not-nil m)
   merge_i [] ys z (inr m) = m
   merge_i (x ∷ xs) ys z m = into_has x xs (merge key xs) (merge_i xs) ys z m
 
@@ -61,7 +61,7 @@ module _ {A : Type 0} (key : A → List ℕ) where
       → ((ys : List A) → SortedBy key ys → Apart xs ys → SortedBy key (rest ys))
       → (ys : List A) → SortedBy key ys → Apart (x ∷ xs) ys → SortedBy key (merge_into key x rest ys)
   unfolding merge_into
-  into_sorted x xs h rest r s [] o a = ((λ z m. ⊎_elim (h z) (λ k. absurd (Memᴰ.not_nil k)) (r [] z m)), s [] tt (λ u v m n. absurd (Memᴰ.not_nil n)))
+  into_sorted x xs h rest r s [] o a = ((λ z m. ⊎_elim (h z) (λ k. absurd (Memᴰ.not-nil k)) (r [] z m)), s [] tt (λ u v m n. absurd (Memᴰ.not-nil n)))
   into_sorted x xs h rest r s (y ∷ ys) o a =
       go (before (key y) (key x)) refl (into_sorted x xs h rest r s ys o.1 (λ u v m n. a u v m (Memᴰ.tail n)))
     where

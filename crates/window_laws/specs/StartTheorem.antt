@@ -36,7 +36,7 @@ module _ (W : World) (valid : List Event → Event → Type 0) (P : Proper W val
 
   -- no event leads anywhere
   alone : (S : Cut) → (S' : Cut) → Leads M S' S → ⊥
-  alone S S' l = Memᴰ.not_nil l.among
+  alone S S' l = Memᴰ.not-nil l.among
 
   only_zeros : (S : Cut) → Consistent [] S → S ≡ zeros
   unfolding taken
@@ -66,7 +66,7 @@ module _ (W : World) (valid : List Event → Event → Type 0) (P : Proper W val
   start_represents = record {
     cuts = zeros ∷ [];
     are = ap (λ (f : Frontier). f ∷ []) start_is;
-    sorted = ((λ R m. absurd (Memᴰ.not_nil m)), tt);
+    sorted = ((λ R m. absurd (Memᴰ.not-nil m)), tt);
     kept = λ S m. rw (Memᴰ.eq_of_singleton m) (record { consistent = zeros-consistent []; kept = inr (unfold taken in refl) });
     complete = λ S k. Memᴰ.head (only_zeros S k.consistent);
   }

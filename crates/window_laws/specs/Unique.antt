@@ -20,8 +20,8 @@ use Rattle.lookup.specs.OrderLaws.{before_irrefl, before_trans}
 
 pub sorted_unique : {A : Type 0} (key : A → List ℕ) (xs ys : List A) → SortedBy key xs → SortedBy key ys → ((z : A) → Memᴰ z xs → Memᴰ z ys) → ((z : A) → Memᴰ z ys → Memᴰ z xs) → xs ≡ ys
 sorted_unique key [] [] s t f g = refl
-sorted_unique key [] (y ∷ ys) s t f g = absurd (Memᴰ.not_nil (g y (Memᴰ.head refl)))
-sorted_unique key (x ∷ xs) [] s t f g = absurd (Memᴰ.not_nil (f x (Memᴰ.head refl)))
+sorted_unique key [] (y ∷ ys) s t f g = absurd (Memᴰ.not-nil (g y (Memᴰ.head refl)))
+sorted_unique key (x ∷ xs) [] s t f g = absurd (Memᴰ.not-nil (f x (Memᴰ.head refl)))
 sorted_unique {A} key (x ∷ xs) (y ∷ ys) s t f g =
     ap₂ ◌∷◌ same (sorted_unique key xs ys s.1 t.1 (tails x y xs ys s same f) (tails y x ys xs t (sym same) g))
   where

@@ -39,11 +39,11 @@ module _ (W : World) (valid : List Event → Event → Type 0) (ts : List Event)
   some_frontier = go R.cuts (R.complete (taken ts) largest_kept) R.are
     where
       go : (Ss : List Cut) → Memᴰ (taken ts) Ss → fs ≡ map (frontier_of W ts) Ss → 0 < length fs
-      go [] m q = absurd (Memᴰ.not_nil m)
+      go [] m q = absurd (Memᴰ.not-nil m)
       go (S ∷ Ss) m q = rw q (omega arith)
 
   last_cut : (Ss : List Cut) → Sorted W.stored Ss → ((S : Cut) → Memᴰ S Ss → Consistent ts S) → Memᴰ (taken ts) Ss → (d : Frontier) → get_or (map (frontier_of W ts) Ss) (length Ss - 1) d ≡ frontier_of W ts (taken ts)
-  last_cut [] s k m d = absurd (Memᴰ.not_nil m)
+  last_cut [] s k m d = absurd (Memᴰ.not-nil m)
   last_cut (S ∷ []) s k m d = ap (frontier_of W ts) (sym (Memᴰ.eq_of_singleton m))
   last_cut (S ∷ Q ∷ Ss) s k m d = ⊎_elim
       (λ q. absurd (none_behind Q (k Q (Memᴰ.tail (Memᴰ.head refl))) (subst⁻¹ (λ (C : Cut). T (before (list_of W.stored C) (list_of W.stored Q))) q (s.0 Q (Memᴰ.head refl)))))

@@ -31,7 +31,7 @@ clock_same ts us p n h q = rw h
 -- ---- within the taken counts
 pub count-within : (ts : List Event) → Causal ts → (f : Event) → In f ts → (q : ℕ) → count f q ≤ taken ts q
 unfolding taken apply
-count-within [] c f m q = absurd (Memᴰ.not_nil m)
+count-within [] c f m q = absurd (Memᴰ.not-nil m)
 count-within (e ∷ ts) c f m q = go (Memᴰ.cases_cons m) (λ k. count-within ts c.1 f k q)
   where
     go : (f ≡ e) ⊎ In f ts → (In f ts → count f q ≤ taken ts q) → count f q ≤ taken (e ∷ ts) q
@@ -61,7 +61,7 @@ count-number (e ∷ ts) c p n f h = go (after e ts p n) (λ k. count-number ts c
     go (old s) r = r (sym s ∙ h)
 
 pub number_of : (ts : List Event) → Causal ts → (f : Event) → In f ts → (p : ℕ) → involved f p ≡ true → event ts p (count f p) ≡ some f
-number_of [] c f m p b = absurd (Memᴰ.not_nil m)
+number_of [] c f m p b = absurd (Memᴰ.not-nil m)
 number_of (e ∷ ts) c f m p b = go (Memᴰ.cases_cons m) (λ k. number_of ts c.1 f k p b)
   where
     go : (f ≡ e) ⊎ In f ts → (In f ts → event ts p (count f p) ≡ some f) → event (e ∷ ts) p (count f p) ≡ some f
@@ -75,7 +75,7 @@ pub count_positive : (ts : List Event) → Causal ts → (f : Event) → In f ts
 count_positive ts c f m p b = (event_numbered ts p (count f p) f (number_of ts c f m p b)).first
 
 pub in_occupied : (ts : List Event) → Causal ts → (f : Event) → In f ts → (p : ℕ) × (involved f p ≡ true)
-in_occupied [] c f m = absurd (Memᴰ.not_nil m)
+in_occupied [] c f m = absurd (Memᴰ.not-nil m)
 in_occupied (e ∷ ts) c f m = go (Memᴰ.cases_cons m) (λ k. in_occupied ts c.1 f k)
   where
     go : (f ≡ e) ⊎ In f ts → (In f ts → (p : ℕ) × (involved f p ≡ true)) → (p : ℕ) × (involved f p ≡ true)

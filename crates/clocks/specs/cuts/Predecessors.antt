@@ -77,7 +77,7 @@ module _ (n : ℕ) (valid : List Event → Event → Type 0) (r : ClockRule n va
   -- ---- through the list
   listed_e : (fs : List Event) → ((f : Event) → In f fs → In f ts) → (S' : Cut) → Memᴰ S' (through n ts fs S) → Precedes ts S' S
   unfolding through
-  listed_e [] w S' m = absurd (Memᴰ.not_nil m)
+  listed_e [] w S' m = absurd (Memᴰ.not-nil m)
   listed_e (f ∷ fs) w S' m = go (either (leads_to n f S && consistent n ts (less f S))) (listed_e fs (λ g k. w g (Memᴰ.tail k)) S')
     where
       test : Bool
@@ -96,7 +96,7 @@ module _ (n : ℕ) (valid : List Event → Event → Type 0) (r : ClockRule n va
 
   listed_i : (fs : List Event) (f : Event) → In f fs → T (leads_to n f S) → T (consistent n ts (less f S)) → Memᴰ (less f S) (through n ts fs S)
   unfolding through
-  listed_i [] f m t c = absurd (Memᴰ.not_nil m)
+  listed_i [] f m t c = absurd (Memᴰ.not-nil m)
   listed_i (g ∷ fs) f m t c = go (Memᴰ.cases_cons m) (either (leads_to n g S && consistent n ts (less g S))) (λ k. listed_i fs f k t c)
     where
       test : Bool

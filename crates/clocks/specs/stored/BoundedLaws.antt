@@ -76,7 +76,7 @@ any_e (suc n) t h = go (or_e (t n) (any_below n t) h) (any_e n t)
 -- ---- in a list
 pub any_of_i : {A : Type 0} (t : A → Bool) (xs : List A) (x : A) → Memᴰ x xs → T (t x) → T (any_of t xs)
 unfolding any_of
-any_of_i t [] x m h = absurd (Memᴰ.not_nil m)
+any_of_i t [] x m h = absurd (Memᴰ.not-nil m)
 any_of_i t (y ∷ ys) x m h = go (Memᴰ.cases_cons m) (λ k. any_of_i t ys x k h)
   where
     go : (x ≡ y) ⊎ Memᴰ x ys → (Memᴰ x ys → T (any_of t ys)) → T (t y || any_of t ys)

@@ -28,7 +28,7 @@ involved_below n e w p b = go (dec_lt p n)
     go (no l) = absurd (true≢false (sym b ∙ w.below p (omega arith)))
 
 pub in_takeable : (n : ℕ) (valid : List Event → Event → Type 0) (ts : List Event) → History n valid ts → (f : Event) → In f ts → WellFormed n f
-in_takeable n valid [] h f m = absurd (Memᴰ.not_nil m)
+in_takeable n valid [] h f m = absurd (Memᴰ.not-nil m)
 in_takeable n valid (e ∷ ts) h f m = go (Memᴰ.cases_cons m) (in_takeable n valid ts h.1 f)
   where
     go : (f ≡ e) ⊎ In f ts → (In f ts → WellFormed n f) → WellFormed n f

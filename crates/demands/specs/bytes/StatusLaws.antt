@@ -113,5 +113,5 @@ sized_first w k ls few short h = record {
   counts_fit = λ p. pow_256_pos w;
   clocks_fit = λ p q. pow_256_pos w;
   few = lit≤ tt;
-  storable = λ e m. absurd (Memᴰ.not_nil m);
+  storable = λ e m. absurd (Memᴰ.not-nil m);
 }

@@ -8,8 +8,8 @@ module _ {A : Type 0} where
   -- an element before a place stands at a lower one
   pub member_take : (xs : List A) (j : ℕ) (d x : A) → Memᴰ x (take j xs)
       → (i : ℕ) × (i < j) × (i < length xs) × (get_or xs i d ≡ x)
-  member_take xs zero d x m = absurd (Memᴰ.not_nil m)
-  member_take [] (suc j) d x m = absurd (Memᴰ.not_nil m)
+  member_take xs zero d x m = absurd (Memᴰ.not-nil m)
+  member_take [] (suc j) d x m = absurd (Memᴰ.not-nil m)
   member_take (y ∷ xs) (suc j) d x m = ⊎_elim (λ q. (0, omega arith, omega arith, sym q))
       (λ n. let r = member_take xs j d x n in (suc r.0, suc-le-suc r.1, suc-le-suc r.2, r.3))
       (Memᴰ.cases_cons m)

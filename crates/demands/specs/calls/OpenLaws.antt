@@ -171,7 +171,7 @@ module _ (w : ℕ) (text : List ℕ) (k : ℕ) (labels window : List ℕ) (some_
   pub opened_long : length (window_bytes w (length window) (start_frontier 8 labels table ∷ [])) ≡ length window
   opened_long =
       length-window_bytes w (length window) (start_frontier 8 labels table ∷ [])
-      (all_shaped w [] tt (λ e m. absurd (Memᴰ.not_nil m)) k 0 table (at labels) opened_rule.short bytes
+      (all_shaped w [] tt (λ e m. absurd (Memᴰ.not-nil m)) k 0 table (at labels) opened_rule.short bytes
       (start_frontier 8 labels table ∷ []) opened_start) one_frontier
 
   pub opened_right : WatchRight w k table (at labels) W
@@ -189,20 +189,20 @@ module _ (w : ℕ) (text : List ℕ) (k : ℕ) (labels window : List ℕ) (some_
     represents = opened_start;
     right = record {
       by_rule = tt;
-      formed = λ e m. absurd (Memᴰ.not_nil m);
-      untaken = λ e m. absurd (Memᴰ.not_nil m);
-      was_ready = λ e m. absurd (Memᴰ.not_nil m);
+      formed = λ e m. absurd (Memᴰ.not-nil m);
+      untaken = λ e m. absurd (Memᴰ.not-nil m);
+      was_ready = λ e m. absurd (Memᴰ.not-nil m);
       eight = λ e.
-          ⊎_elim (λ m. absurd (Memᴰ.not_nil m))
-          (⊎_elim (λ m. absurd (Memᴰ.not_nil m)) (λ m. absurd (Memᴰ.not_nil m)));
+          ⊎_elim (λ m. absurd (Memᴰ.not-nil m))
+          (⊎_elim (λ m. absurd (Memᴰ.not-nil m)) (λ m. absurd (Memᴰ.not-nil m)));
     };
     ordered = tt;
     clear = tt;
-    faultless = λ e. ⊎_elim (λ m. absurd (Memᴰ.not_nil m)) (λ m. absurd (Memᴰ.not_nil m));
-    storable = λ e. ⊎_elim (λ m. absurd (Memᴰ.not_nil m)) (λ m. absurd (Memᴰ.not_nil m));
+    faultless = λ e. ⊎_elim (λ m. absurd (Memᴰ.not-nil m)) (λ m. absurd (Memᴰ.not-nil m));
+    storable = λ e. ⊎_elim (λ m. absurd (Memᴰ.not-nil m)) (λ m. absurd (Memᴰ.not-nil m));
     many = omega arith;
     closed_below = pow_pos k;
-    names_open = λ e m. absurd (Memᴰ.not_nil m);
+    names_open = λ e m. absurd (Memᴰ.not-nil m);
   }
     where
       no_counts : ◌≡◌ {A = Cut} (λ p. 0) (taken [])

@@ -38,7 +38,7 @@ insert-here e f fs b = rw b
 -- an event whose key is no pending one's goes in in order
 pub insert_ordered : (e : Event) (fs : List Event) → Ordered fs
     → ((f : Event) → Memᴰ f fs → key_of f ≡ key_of e → ⊥) → Ordered (insert_at (place_among e fs) e fs)
-insert_ordered e [] o h = unfold place_among insert_at in ((λ f m. absurd (Memᴰ.not_nil m)), tt)
+insert_ordered e [] o h = unfold place_among insert_at in ((λ f m. absurd (Memᴰ.not-nil m)), tt)
 insert_ordered e (f ∷ fs) o h =
     go (key_before (key_of f) (key_of e)) refl (insert_ordered e fs o.1 (λ g m. h g (Memᴰ.tail m)))
   where
@@ -93,8 +93,8 @@ ordered_ascends es o = ascends_from 0 es (λ f m. omega arith) o
 pub ordered_unique : (xs ys : List Event) → Ordered xs → Ordered ys
     → ((z : Event) → Memᴰ z xs ↔ Memᴰ z ys) → xs ≡ ys
 ordered_unique [] [] s t h = refl
-ordered_unique [] (y ∷ ys) s t h = absurd (Memᴰ.not_nil ((h y).1 (Memᴰ.head refl)))
-ordered_unique (x ∷ xs) [] s t h = absurd (Memᴰ.not_nil ((h x).0 (Memᴰ.head refl)))
+ordered_unique [] (y ∷ ys) s t h = absurd (Memᴰ.not-nil ((h y).1 (Memᴰ.head refl)))
+ordered_unique (x ∷ xs) [] s t h = absurd (Memᴰ.not-nil ((h x).0 (Memᴰ.head refl)))
 ordered_unique (x ∷ xs) (y ∷ ys) s t h =
     ap₂ ◌∷◌ same (ordered_unique xs ys s.1 t.1
     (λ z. (tails x y xs ys s same (λ u. (h u).0) z, tails y x ys xs t (sym same) (λ u. (h u).1) z)))
@@ -123,7 +123,7 @@ clash_sym e f n p a b q = n p b a (sym q)
 -- ... at two places, and so two that differ
 pub clear_apart : (es : List Event) → Clear es → (e f : Event) → Memᴰ e es → Memᴰ f es → (f ≡ e → ⊥)
     → NoClash e f
-clear_apart [] c e f m n d = absurd (Memᴰ.not_nil m)
+clear_apart [] c e f m n d = absurd (Memᴰ.not-nil m)
 clear_apart (g ∷ es) c e f m n d = go (Memᴰ.cases_cons m) (Memᴰ.cases_cons n) (clear_apart es c.1 e f)
   where
     go : (e ≡ g) ⊎ Memᴰ e es → (f ≡ g) ⊎ Memᴰ f es

@@ -59,7 +59,7 @@ opened_as w pos text k labels eight s window a f i r = go (open_case w text k la
         let x : turned_back n j ≡ state a.0 a.1 a.2 = sym (ap (λ (o : Opened). o.answer) q) ∙ a.3 in
         let z : ◌≡◌ {A = ℕ} 0 1 = cc in absurd (omega arith)
     go (opens g j h6 h5 h9 h q) =
-        let x = sound_run w pos text k labels eight s window a [] (λ c m. absurd (Memᴰ.not_nil m)) in
+        let x = sound_run w pos text k labels eight s window a [] (λ c m. absurd (Memᴰ.not-nil m)) in
         let b : formed x.1 x.0 ≡ formed i f = sym x.2 ∙ r in
         let c : formed j g ≡ formed i f = sym h ∙ r in
         let e : x.0 ≡ f = cc in
@@ -80,7 +80,7 @@ opened_as w pos text k labels eight s window a f i r = go (open_case w text k la
 
 pub both_forms_alike : BothFormsAlike
 both_forms_alike v w pos pos' text k labels eight s window s' window' room l l' a a' cs ds p q same =
-    let x = sound_run v pos text k labels eight s window a [] (λ c m. absurd (Memᴰ.not_nil m)) in
+    let x = sound_run v pos text k labels eight s window a [] (λ c m. absurd (Memᴰ.not-nil m)) in
     let y = opened_as v pos text k labels eight s window a x.0 x.1 x.2 in
     let z = opened_as w pos' text k labels eight s' window' a' x.0 x.1 x.2 in
     let Y : Watch = opened (open_call v text k labels s window) in

@@ -42,7 +42,7 @@ pub written_sound : (text : List ℕ) (k : ℕ) (labels : List ℕ) → EightByt
     → Written text k labels w Z → SoundAsRead w text k labels Z
 unfolding run
 written_sound text k labels eight _ _ (opens w pos s window a) =
-    sound_run w pos text k labels eight s window a [] (λ c m. absurd (Memᴰ.not_nil m))
+    sound_run w pos text k labels eight s window a [] (λ c m. absurd (Memᴰ.not-nil m))
 written_sound text k labels eight _ _ (calls w W x c p) =
     let r = written_sound text k labels eight w W x in
     (r.0, r.1, r.2, after_sound w k r.0 (at labels) W c p r.3)

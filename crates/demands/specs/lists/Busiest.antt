@@ -99,15 +99,15 @@ module _ (k n : ℕ) (d : Day k n) where
   day_right : Kept_right k Valid day_ledger
   day_right = record {
     by_rule = day_history k d.eight_processes (share k n);
-    formed = λ e m. absurd (Memᴰ.not_nil m);
-    untaken = λ e m. absurd (Memᴰ.not_nil m);
-    was_ready = λ e m. absurd (Memᴰ.not_nil m);
+    formed = λ e m. absurd (Memᴰ.not-nil m);
+    untaken = λ e m. absurd (Memᴰ.not-nil m);
+    was_ready = λ e m. absurd (Memᴰ.not-nil m);
     eight = λ e m.
-        ⊎_elim (day-eight e) (⊎_elim (λ z. absurd (Memᴰ.not_nil z)) (λ z. absurd (Memᴰ.not_nil z))) m;
+        ⊎_elim (day-eight e) (⊎_elim (λ z. absurd (Memᴰ.not-nil z)) (λ z. absurd (Memᴰ.not-nil z))) m;
   }
 
   day_quiet : Settled day_ledger
-  day_quiet e m = absurd (Memᴰ.not_nil m)
+  day_quiet e m = absurd (Memᴰ.not-nil m)
 
 occurs_reverse : (e : Event) (es : List Event) → occurrences e (reverse es) ≡ occurrences e es
 unfolding occurrences
@@ -175,7 +175,7 @@ module _ (w k : ℕ) (f : Formula) (start : Cut) (Z : Watch) (S : Sound w k f st
         → (Z.ledger.pending ≡ []) × (kept_count Z.bytes ≡ m)
     unfolding occurrences
     settled_kept h quiet = (
-      no_members Z.ledger.pending (λ e i. Memᴰ.not_nil ((pending e).1 i)),
+      no_members Z.ledger.pending (λ e i. Memᴰ.not-nil ((pending e).1 i)),
       same_kept (record { there = both.back; back = both.there }),
     )
       where

@@ -284,17 +284,17 @@ module _ (w k : ℕ) (f : Formula) (start : Cut) (v : ℕ) (wide : 2 ≤ v) (n :
 pub day_meets_no_36 : DayMeetsNo36
 unfolding run
 day_meets_no_36 v wide k n events m given w pos text labels eight s window a cs p calls =
-    let x = sound_run w pos text k labels eight s window a [] (λ c i. absurd (Memᴰ.not_nil i)) in
+    let x = sound_run w pos text k labels eight s window a [] (λ c i. absurd (Memᴰ.not-nil i)) in
     run-day w k x.0 (at labels) v wide n events m given (length window) cs calls p
     (opened (open_call w text k labels s window))
     (record {
       sound = x.3;
       none = refl;
-      came = λ e i. absurd (Memᴰ.not_nil i);
+      came = λ e i. absurd (Memᴰ.not-nil i);
       lent = open_long w pos text k labels eight s window;
       no_36 = λ i.
           ⊎_elim
           (λ q. let y : turned_back 36 0 ≡ state a.0 a.1 a.2 = q ∙ a.3 in
           let z : ◌≡◌ {A = ℕ} 0 1 = cc in omega arith)
-          Memᴰ.not_nil (Memᴰ.cases_cons i);
+          Memᴰ.not-nil (Memᴰ.cases_cons i);
     })

@@ -55,7 +55,7 @@ at-zeros (suc n) (suc q) = at-zeros n q
 -- An event of a history whose labels are all 0 is without fault.
 history_faultless : (k : ℕ) (ts : List Event) → History k Valid ts → (e : Event) → In e ts
     → ((p : ℕ) → at e.labels p ≡ 0) → Faultless k e
-history_faultless k [] h e m z = absurd (Memᴰ.not_nil m)
+history_faultless k [] h e m z = absurd (Memᴰ.not-nil m)
 history_faultless k (x ∷ ts) h e m z =
     ⊎_elim
     (λ q. rw q (record {
@@ -130,7 +130,7 @@ day_is_taken v wide k n events m given w wider text labels eight s window a room
     let day = day_is_listed v wide k n events m given in
     let fine = listed_sendable v wide k n events m given w wider in
     let o = open_call w text k labels s window in
-    let x = sound_run w (omega arith) text k labels eight s window a [] (λ c i. absurd (Memᴰ.not_nil i)) in
+    let x = sound_run w (omega arith) text k labels eight s window a [] (λ c i. absurd (Memᴰ.not-nil i)) in
     let f = x.0 in
     let T = (all_took w k f (at labels) d.some_process d.eight_processes room
     (omega (arith, given_some v k n events m given)) few n (omega (arith, value v k n events m given)) scratch even

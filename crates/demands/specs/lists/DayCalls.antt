@@ -167,7 +167,7 @@ module _ (w k : ℕ) (f : Formula) (start : Cut) (room : ℕ) (some : 1 ≤ room
       later = [];
       pending_are = ap (λ (L : Ledger). L.pending) offered;
       ready = rw offered past.0.ready;
-      passed = λ x m. absurd (Memᴰ.not_nil m);
+      passed = λ x m. absurd (Memᴰ.not-nil m);
     };
     true_clock = rw offered past.0.true_clock;
     kept_are = rw offered (alone_number k S.rule.some_process S.rule.eight_processes (e ∷ ts) past alone);
@@ -221,7 +221,7 @@ module _ (w k : ℕ) (f : Formula) (start : Cut) (some_process : 0 < k) (eight_p
 -- All of these calls are such as the machine passes.
 pub all_passed : (w k : ℕ) (scratch : List ℕ) (es : List Event) → ((x : Event) → Memᴰ x es → Sendable w k x)
     → (more : ℕ) → AllPassed w (day_calls more scratch es)
-all_passed w k scratch [] fine more c m = absurd (Memᴰ.not_nil m)
+all_passed w k scratch [] fine more c m = absurd (Memᴰ.not-nil m)
 all_passed w k scratch (e ∷ es) fine more c m =
     ⊎_elim (λ q. rw q (offer_passes w k e (fine e (Memᴰ.head refl))))
     (λ i.

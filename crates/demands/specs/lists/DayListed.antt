@@ -105,7 +105,7 @@ module _ {A : Type 0} where
         λ m.
             ⊎_elim (λ i. Memᴰ.tail (rest.1 i))
             (λ i.
-            ⊎_elim (λ e. Memᴰ.head e) (λ z. absurd (Memᴰ.not_nil z)) (Memᴰ.cases_cons i))
+            ⊎_elim (λ e. Memᴰ.head e) (λ z. absurd (Memᴰ.not-nil z)) (Memᴰ.cases_cons i))
             (Memᴰ.append_cases (reverse ys) (rw (reverse-cons y ys) at m)),
       )
 

@@ -26,7 +26,7 @@ use Rattle.demands.specs.Watching.{Eight, Kept_right}
 -- ---- occurrences and members
 pub occurs_i : (e : Event) (fs : List Event) → Memᴰ e fs → 0 < occurrences e fs
 unfolding occurrences
-occurs_i e [] m = absurd (Memᴰ.not_nil m)
+occurs_i e [] m = absurd (Memᴰ.not-nil m)
 occurs_i e (f ∷ fs) m = ⊎_elim
     (λ (q : e ≡ f). let b : same_event e f ≡ true = T_true (same_event e f) (rw q (same_refl f)) in rw b (omega arith))
     (λ k. omega (arith, occurs_i e fs k))
@@ -131,7 +131,7 @@ module _ (k : ℕ) (valid : List Event → Event → Type 0) (r : ClockRule k va
             inr (inr (occurs_e e M.falsified x (λ f n. N.eight f (inr (inr n))) left))
 
     taken-there : (us ts : List Event) → L.history ≡ us ++ ts → (f : Event) → In f ts → In f M.history
-    taken-there us [] g f m = absurd (Memᴰ.not_nil m)
+    taken-there us [] g f m = absurd (Memᴰ.not-nil m)
     taken-there us (e ∷ ts) g f m = go (taken-there (us ++ (e ∷ [])) ts (g ∙ sym (append_snoc us e ts)))
       where
         past : History k valid (e ∷ ts)

@@ -145,6 +145,6 @@ module _ (w k : ℕ) (table : List Line) (start : Cut) (R : Rule w k table start
 pub earlier_lists_stand : EarlierListsStand
 unfolding run
 earlier_lists_stand w pos text k labels eight s window a cs p n =
-    let x = sound_run w pos text k labels eight s window a [] (λ c m. absurd (Memᴰ.not_nil m)) in
+    let x = sound_run w pos text k labels eight s window a [] (λ c m. absurd (Memᴰ.not-nil m)) in
     same-run w k (lines_at 0 x.0) (at labels) x.3.rule cs (opened (open_call w text k labels s window))
     x.3.right p n
