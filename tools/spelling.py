@@ -105,7 +105,7 @@ class Names:
         self.known = {snake(it) for it in self.definitions} | self.definitions | LIBRARY
 
         # A law that would have a definition's name gets `_lem`.
-        camel = {snake(it) for it in self.declared if re.match(r"[a-z][^-]*[A-Z]", it)}
+        camel = {snake(it) for it in self.declared if re.match(r"[a-z][^-]*[A-Z][^-]*$", it)}
         self.meet = {it for it in self.declared if "-" in it and it not in self.fields and self.spelled(it) in camel}
 
     def new(self, token):

@@ -11,9 +11,9 @@ use lib.Seq.{sets, get_or-set_other}
 use Rattle.codec.specs.Little.{bytes_of, put}
 use Rattle.codec.specs.SetsLaws.{sets-append, get_d_sets-after}
 use Rattle.clocks.specs.Counts.{list_of}
-use Rattle.clocks.specs.stored.CountsLaws.{list_of-same_lem}
+use Rattle.clocks.specs.stored.CountsLaws.{list_of-same}
 use Rattle.frontiers.specs.Bytes.{count_bytes}
-use Rattle.frontiers.specs.BytesLaws.{count-within, bytes_of_zero, count_bytes-zeros_lem}
+use Rattle.frontiers.specs.BytesLaws.{count-within, bytes_of_zero, count_bytes-zeros}
 use Rattle.records.specs.Record.{event_length, event_bytes}
 use Rattle.call_busiest.specs.Busiest.{single}
 use Rattle.call_busiest.specs.BusiestCode.{Blank}
@@ -46,12 +46,12 @@ unfolding count_bytes list_of
 one-count w zero p n l = absurd (omega arith)
 one-count w (suc m) zero n l =
     let rest : list_of m (λ q. cond (eqb (suc q) 0) n 0) ≡ list_of m (λ q. 0) =
-    list_of-same_lem m _ _ (λ q k. rw (eqb-suc-zero q)) in
+    list_of-same m _ _ (λ q k. rw (eqb-suc-zero q)) in
     let less : suc m - 1 ≡ m = omega arith in
-    rw (rest, count_bytes-zeros_lem w m, less, zero-mul)
+    rw (rest, count_bytes-zeros w m, less, zero-mul)
 one-count w (suc m) (suc p) n l =
     let rest : list_of m (λ q. cond (eqb (suc q) (suc p)) n 0) ≡ list_of m (λ q. cond (eqb q p) n 0) =
-    list_of-same_lem m _ _ (λ q k. rw (eqb-suc-suc q p)) in
+    list_of-same m _ _ (λ q k. rw (eqb-suc-suc q p)) in
     let less : suc m - suc (suc p) ≡ m - suc p = omega arith in
     let far : suc p * w ≡ w + p * w = omega (arith, suc-mul p w) in
     rw (eqb-zero-suc p, rest, less, far, bytes_of_zero w, one-count w m p n (le_of_suc-le-suc l))

@@ -12,7 +12,7 @@ use Rattle.codec.specs.Little.{Bytes}
 use Rattle.codec.specs.SetsLaws.{sets-append, part-sets-after}
 use Rattle.frontiers.specs.declared.Frontier.{Frontier}
 use Rattle.frontiers.specs.Bytes.{frontier_length, frontier_bytes, frontier_at, frontiers, framed, replaced}
-use Rattle.frontiers.specs.BytesLaws.{frontier_from-alike_lem, frontier_bytes_from}
+use Rattle.frontiers.specs.BytesLaws.{frontier_from-alike, frontier_bytes_from}
 use Rattle.frontiers.specs.WindowLaws.{length-framed, framed-append, frontiers_more, length-frontiers, shaped_frontiers}
 use Rattle.window.specs.Step.{filtered}
 use Rattle.window.specs.Lists.{filtered_e, filtered-append, length-filtered}
@@ -80,7 +80,7 @@ module _ (t : Frontier → Bool) (w : ℕ) (s : List ℕ) where
     same_here : frontier_at w (laid i) i ≡ frontier_at w s i
     unfolding frontier_at
     same_here =
-        frontier_from-alike_lem w (laid i) (i * frontier_length w) s (i * frontier_length w)
+        frontier_from-alike w (laid i) (i * frontier_length w) s (i * frontier_length w)
         (λ o n l. part-sets-after s 0 (framed w (among i)) (i * frontier_length w + o) n (omega (arith, laid_before)))
 
     bytes_here : take (frontier_length w) (drop (i * frontier_length w) (laid i)) ≡ frontier_bytes w (frontier_at w s i)

@@ -14,10 +14,10 @@ use Rattle.codec.specs.SetsLaws.{sets-append}
 use Rattle.codec.specs.PutLaws.{number-drop}
 use Rattle.clocks.specs.Bounded.{any_below}
 use Rattle.clocks.specs.Counts.{at, list_of}
-use Rattle.clocks.specs.stored.CountsLaws.{at-list_of, list_of-same_lem}
+use Rattle.clocks.specs.stored.CountsLaws.{at-list_of, list_of-same}
 use Rattle.clocks.specs.stored.BoundedTurns.{any_none, any-false_i, any-false_e}
 use Rattle.frontiers.specs.Bytes.{count_bytes}
-use Rattle.frontiers.specs.BytesLaws.{length-count_bytes, count_bytes-append_lem}
+use Rattle.frontiers.specs.BytesLaws.{length-count_bytes, count_bytes-append}
 use Rattle.call_move.specs.PartLaws.{length-counts_from}
 use Rattle.call_move.specs.CountLaws.{fits_e, counts_below}
 use Rattle.codec.specs.LittleLaws.{pow_256_pos}
@@ -64,7 +64,7 @@ pub eight_read : (v : ℕ) (s : List ℕ) (place : ℕ)
     → list_of 8 (λ p. number s (place + p * v) v) ≡ counts_from v 8 (drop place s)
 unfolding counts_from
 eight_read v s place =
-    list_of-same_lem 8 (λ p. number s (place + p * v) v) (λ p. number (drop place s) (p * v) v)
+    list_of-same 8 (λ p. number s (place + p * v) v) (λ p. number (drop place s) (p * v) v)
     (λ p l. sym (number-drop s place (p * v) v))
 
 -- Eight more are looked at.
@@ -128,7 +128,7 @@ counts-first : (v n : ℕ) (s : List ℕ) → counts_from v (suc n) s ≡ number
 unfolding counts_from list_of
 counts-first v n s =
     let next : list_of n (λ i. number s (suc i * v) v) ≡ list_of n (λ i. number (drop v s) (i * v) v) =
-    list_of-same_lem n (λ i. number s (suc i * v) v) (λ i. number (drop v s) (i * v) v)
+    list_of-same n (λ i. number s (suc i * v) v) (λ i. number (drop v s) (i * v) v)
     (λ i l. let far : suc i * v ≡ v + i * v = omega (arith, suc-mul i v) in rw far (sym (number-drop s v (i * v) v))) in
     rw (zero-mul, next)
 
@@ -172,6 +172,6 @@ written_more v w i s place t to =
       ← drop-drop (8 * i * v) place s,
       far,
       counts-add v (8 * i) 8 d,
-      count_bytes-append_lem w (counts_from v (8 * i) d) (counts_from v 8 (drop (8 * i * v) d)),
+      count_bytes-append w (counts_from v (8 * i) d) (counts_from v 8 (drop (8 * i * v) d)),
     )
     seam

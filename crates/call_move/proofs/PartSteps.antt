@@ -12,7 +12,7 @@ use Rattle.frontiers.specs.BytesLaws.{length-count_bytes}
 use Rattle.call_move.specs.Parts.{Part}
 use Rattle.call_move.specs.PartLengths.{length_of}
 use Rattle.call_move.specs.Move.{counts_from, moved, some_too_large}
-use Rattle.call_move.specs.PartLaws.{moved-append, some_too_large-append_lem, length-counts_from, length_moved}
+use Rattle.call_move.specs.PartLaws.{moved-append, some_too_large-append, length-counts_from, length_moved}
 
 pub length-counts : (v w n : ℕ) (s : List ℕ) → length (count_bytes w (counts_from v n s)) ≡ n * w
 length-counts v w n s =
@@ -28,7 +28,7 @@ module _ (v w : ℕ) (ps qs : List Part) (s : List ℕ) (place : ℕ) where
       → (some_too_large v w qs (drop place s) || some_too_large v w ps s) ≡ some_too_large v w (ps ++ qs) s
   parts_looked e =
       or_comm (some_too_large v w qs (drop place s)) (some_too_large v w ps s)
-      ∙ rw e (sym (some_too_large-append_lem v w ps qs s))
+      ∙ rw e (sym (some_too_large-append v w ps qs s))
 
   pub parts_written : (t : List ℕ) (to : ℕ) → place ≡ length_of v ps → to ≡ length_of w ps → place ≤ length s
       → sets (sets t 0 (moved v w ps s)) to (moved v w qs (drop place s)) ≡ sets t 0 (moved v w (ps ++ qs) s)

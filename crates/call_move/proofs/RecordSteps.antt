@@ -14,7 +14,7 @@ use Rattle.call_move.specs.Parts.{Part, many_of, event_parts, record_parts}
 use Rattle.call_move.specs.PartLengths.{part_length, length_of}
 use Rattle.call_move.specs.Move.{counts_from, moved, some_too_large}
 use Rattle.call_move.specs.MoveCode.{any_too_large, front_parts, parts_to}
-use Rattle.call_move.specs.PartLaws.{length_of-append_lem, length_of-repeated_lem, length-event_parts, repeated_more, some_too_large-append_lem}
+use Rattle.call_move.specs.PartLaws.{length_of-append, length_of-repeated, length-event_parts, repeated_more, some_too_large-append}
 use Rattle.call_move.specs.PlaceLaws.{none_in_each}
 use Rattle.call_move.proofs.PartSteps.{length-counts, stored_behind, parts_looked, parts_written}
 
@@ -23,7 +23,7 @@ use Rattle.call_move.proofs.PartSteps.{length-counts, stored_behind, parts_looke
 pub parts_place : (w i : ℕ) → pending_place w i ≡ length_of w (parts_to i)
 unfolding length_of part_length front_parts parts_to
 parts_place w i =
-    rw (length_of-append_lem w front_parts (many_of i event_parts), length_of-repeated_lem w i event_parts, length-event_parts w)
+    rw (length_of-append w front_parts (many_of i event_parts), length_of-repeated w i event_parts, length-event_parts w)
     (omega arith)
 
 parts_next : (i : ℕ) → parts_to (i + 1) ≡ parts_to i ++ event_parts
@@ -65,7 +65,7 @@ pub front_fits : (v w : ℕ) (s : List ℕ) → some_too_large v w record_parts 
 unfolding parts_to
 front_fits v w s h =
     (or-false_e (some_too_large v w front_parts s) _
-    (sym (some_too_large-append_lem v w front_parts (many_of 32 event_parts) s)
+    (sym (some_too_large-append v w front_parts (many_of 32 event_parts) s)
     ∙ ap (λ (l : List Part). some_too_large v w l s) parts_all ∙ h)).0
 
 pub event-fits : (v w i : ℕ) (s : List ℕ) (place : ℕ) → place ≡ pending_place v i → i < 32

@@ -8,7 +8,7 @@ use Rattle.codec.specs.Little.{number, Bytes}
 use Rattle.codec.specs.LittleLaws.{Bytes-drop}
 use Rattle.codec.specs.PutLaws.{number_lt}
 use Rattle.clocks.specs.Counts.{at}
-use Rattle.clocks.specs.stored.CountsLaws.{filled, at-list_of, at_beyond, list_of-same_lem}
+use Rattle.clocks.specs.stored.CountsLaws.{filled, at-list_of, at_beyond, list_of-same}
 use Rattle.clocks.specs.stored.BoundedTurns.{any-false_i, any-false_e}
 use Rattle.clocks.specs.stored.BoundedLaws.{or-false_e}
 use Rattle.frontiers.specs.Bytes.{count_bytes}
@@ -71,7 +71,7 @@ pub counts-written : (v n : ℕ) (s : List ℕ) → Bytes s → n * v ≤ length
 unfolding counts_from
 counts-written v n s b h =
     ap (count_bytes v)
-    (list_of-same_lem n (λ i. number s (i * v) v) (λ i. number s (0 + i * v) v) (λ i l. rw zero-add))
+    (list_of-same n (λ i. number s (i * v) v) (λ i. number s (0 + i * v) v) (λ i l. rw zero-add))
     ∙ count_bytes_numbers v s b n 0 (rw zero-add h)
 
 pub at-counts_from : (v n : ℕ) (s : List ℕ) (i : ℕ) → i < n → at (counts_from v n s) i ≡ number s (i * v) v

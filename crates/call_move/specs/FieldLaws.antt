@@ -10,7 +10,7 @@ use Rattle.pactl.specs.Line.{line}
 use Rattle.pactl.specs.TableBytes.{line_at, lines_of}
 use Rattle.pactl.specs.TableBytesLaws.{get_d_lines_of, length-lines_from}
 use Rattle.clocks.specs.Counts.{list_of}
-use Rattle.clocks.specs.stored.CountsLaws.{list_of-same_lem}
+use Rattle.clocks.specs.stored.CountsLaws.{list_of-same}
 use Rattle.frontiers.specs.Bytes.{frontier_length, frontier_from, frontier_at}
 use Rattle.records.specs.Record.{clocks_place, table_place, pending_place, record_length, line_total, kept_count, taken_counts, last_clocks, table_lines, pending_at}
 use Rattle.records.specs.RecordLaws.{event_parts_lem}
@@ -59,16 +59,16 @@ module _ (v w : ℕ) (s : List ℕ) (long : length s ≡ record_length v) (fits 
   taken-same : taken_counts w t ≡ taken_counts v s
   unfolding taken_counts
   taken-same =
-      list_of-same_lem 8 (λ p. number t (8 + p * w) w) (λ p. number s (8 + p * v) v)
+      list_of-same 8 (λ p. number t (8 + p * w) w) (λ p. number s (8 + p * v) v)
       (λ p l. number_at v w record_parts 8 8 8 s enough (taken_stands v w) fits p l)
 
   clocks_same : last_clocks w t ≡ last_clocks v s
   unfolding last_clocks
   clocks_same =
-      list_of-same_lem 8 (λ p. list_of 8 (λ q. number t (clocks_place w + p * (8 * w) + q * w) w))
+      list_of-same 8 (λ p. list_of 8 (λ q. number t (clocks_place w + p * (8 * w) + q * w) w))
       (λ p. list_of 8 (λ q. number s (clocks_place v + p * (8 * v) + q * v) v))
       (λ p l.
-      list_of-same_lem 8 (λ q. number t (clocks_place w + p * (8 * w) + q * w) w)
+      list_of-same 8 (λ q. number t (clocks_place w + p * (8 * w) + q * w) w)
       (λ q. number s (clocks_place v + p * (8 * v) + q * v) v)
       (λ q m.
       rw (place w p q, place v p q)
@@ -110,7 +110,7 @@ module _ (v w : ℕ) (s : List ℕ) (long : length s ≡ record_length v) (fits 
 
         clock_same : clock ≡ list_of 8 (λ p. number t (pending_place w i + 8 + p * w) w)
         clock_same =
-            list_of-same_lem 8 (λ p. number s (pending_place v i + 8 + p * v) v)
+            list_of-same 8 (λ p. number s (pending_place v i + 8 + p * v) v)
             (λ p. number t (pending_place w i + 8 + p * w) w)
             (λ p k.
             sym (number_at v w record_parts 8 (pending_place v i + 8) (pending_place w i + 8) s enough
@@ -164,7 +164,7 @@ module _ (v w n : ℕ) (s : List ℕ) (long : length s ≡ n * frontier_length v
 
   counts-alike : list_of 8 (λ p. number u (to + p * w) w) ≡ list_of 8 (λ p. number s (from + p * v) v)
   counts-alike =
-      list_of-same_lem 8 (λ p. number u (to + p * w) w) (λ p. number s (from + p * v) v)
+      list_of-same 8 (λ p. number u (to + p * w) w) (λ p. number s (from + p * v) v)
       (λ p k. number_at v w (window_parts n) 8 from to s enough-frontiers (counts_stand v w n i l) fits p k)
 
   pub frontier_moved : frontier_at w u i ≡ frontier_at v s i

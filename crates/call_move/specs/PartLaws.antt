@@ -12,16 +12,16 @@ use Rattle.call_move.specs.Move.{counts_from, moved, some_too_large}
 
 -- ---- Lengths
 
-pub length_of-append_lem : (w : ℕ) (ps qs : List Part) → length_of w (ps ++ qs) ≡ length_of w ps + length_of w qs
+pub length_of-append : (w : ℕ) (ps qs : List Part) → length_of w (ps ++ qs) ≡ length_of w ps + length_of w qs
 unfolding length_of
-length_of-append_lem w [] qs = omega arith
-length_of-append_lem w (p ∷ ps) qs = rw (length_of-append_lem w ps qs) (omega arith)
+length_of-append w [] qs = omega arith
+length_of-append w (p ∷ ps) qs = rw (length_of-append w ps qs) (omega arith)
 
-pub length_of-repeated_lem : (w n : ℕ) (ps : List Part) → length_of w (many_of n ps) ≡ n * length_of w ps
+pub length_of-repeated : (w n : ℕ) (ps : List Part) → length_of w (many_of n ps) ≡ n * length_of w ps
 unfolding length_of many_of
-length_of-repeated_lem w zero ps = sym (zero-mul (length_of w ps))
-length_of-repeated_lem w (suc n) ps =
-    rw (length_of-append_lem w ps (many_of n ps), length_of-repeated_lem w n ps, suc-mul) (omega arith)
+length_of-repeated w zero ps = sym (zero-mul (length_of w ps))
+length_of-repeated w (suc n) ps =
+    rw (length_of-append w ps (many_of n ps), length_of-repeated w n ps, suc-mul) (omega arith)
 
 pub length-event_parts : (w : ℕ) → length_of w event_parts ≡ event_length w
 unfolding length_of part_length
@@ -29,14 +29,14 @@ length-event_parts w = omega arith
 
 pub length-record_parts : (w : ℕ) → length_of w record_parts ≡ record_length w
 unfolding length_of part_length
-length-record_parts w = rw (length_of-repeated_lem w 32 event_parts, length-event_parts w) (omega arith)
+length-record_parts w = rw (length_of-repeated w 32 event_parts, length-event_parts w) (omega arith)
 
 pub length-frontier_parts : (w : ℕ) → length_of w frontier_parts ≡ frontier_length w
 unfolding length_of part_length frontier_length
 length-frontier_parts w = omega arith
 
 pub length-window_parts : (w n : ℕ) → length_of w (window_parts n) ≡ n * frontier_length w
-length-window_parts w n = rw (length_of-repeated_lem w n frontier_parts, length-frontier_parts w)
+length-window_parts w n = rw (length_of-repeated w n frontier_parts, length-frontier_parts w)
 
 -- ---- One more at the end
 
@@ -62,14 +62,14 @@ moved-append v w (plain n ∷ ps) qs s =
 moved-append v w (counts n ∷ ps) qs s =
     rw (moved-append v w ps qs (drop (n * v) s), drop-drop (length_of v ps) (n * v) s, append_assoc)
 
-pub some_too_large-append_lem : (v w : ℕ) (ps qs : List Part) (s : List ℕ)
+pub some_too_large-append : (v w : ℕ) (ps qs : List Part) (s : List ℕ)
     → some_too_large v w (ps ++ qs) s ≡ (some_too_large v w ps s || some_too_large v w qs (drop (length_of v ps) s))
 unfolding some_too_large length_of part_length
-some_too_large-append_lem v w [] qs s = refl
-some_too_large-append_lem v w (plain n ∷ ps) qs s =
-    rw (some_too_large-append_lem v w ps qs (drop n s), drop-drop (length_of v ps) n s)
-some_too_large-append_lem v w (counts n ∷ ps) qs s =
-    rw (some_too_large-append_lem v w ps qs (drop (n * v) s), drop-drop (length_of v ps) (n * v) s, or_assoc)
+some_too_large-append v w [] qs s = refl
+some_too_large-append v w (plain n ∷ ps) qs s =
+    rw (some_too_large-append v w ps qs (drop n s), drop-drop (length_of v ps) n s)
+some_too_large-append v w (counts n ∷ ps) qs s =
+    rw (some_too_large-append v w ps qs (drop (n * v) s), drop-drop (length_of v ps) (n * v) s, or_assoc)
 
 -- ---- The length of what is moved
 

@@ -7,7 +7,7 @@ use Rattle.frontiers.specs.ListLaws.{part-alike}
 use Rattle.clocks.specs.stored.BoundedLaws.{or-false_e}
 use Rattle.call_move.specs.Parts.{Part, plain, counts, many_of}
 use Rattle.call_move.specs.PartLengths.{part_length, length_of}
-use Rattle.call_move.specs.PartLaws.{length_of-append_lem, moved-append, some_too_large-append_lem, length_moved}
+use Rattle.call_move.specs.PartLaws.{length_of-append, moved-append, some_too_large-append, length_moved}
 use Rattle.call_move.specs.CountLaws.{counts_fit}
 use Rattle.call_move.specs.BackLaws.{number-again}
 use Rattle.call_move.specs.Move.{moved, some_too_large}
@@ -30,7 +30,7 @@ module _ (v w : ℕ) (ps qs : List Part) (s : List ℕ) where
   pub fit_behind : some_too_large v w (ps ++ qs) s ≡ false → some_too_large v w qs (drop (length_of v ps) s) ≡ false
   fit_behind f =
       (or-false_e (some_too_large v w ps s) (some_too_large v w qs (drop (length_of v ps) s))
-      (sym (some_too_large-append_lem v w ps qs s) ∙ f)).1
+      (sym (some_too_large-append v w ps qs s) ∙ f)).1
 
 -- Where no count is too large, none is in number i of the things of one kind.
 pub none_in_each : (v w : ℕ) (ps qs : List Part) (s : List ℕ) (n i : ℕ) → i < n
@@ -45,7 +45,7 @@ none_in_each v w ps qs s n i l h =
     ap (λ (m : ℕ). ps ++ many_of m qs) all ∙ ap (λ (l : List Part). ps ++ l) (repeated_apart i (n - suc i) qs)
     ∙ sym (append_assoc ps (many_of i qs) (qs ++ rest)) in
     (or-false_e (some_too_large v w qs tail) (some_too_large v w rest (drop (length_of v qs) tail))
-    (sym (some_too_large-append_lem v w qs rest tail)
+    (sym (some_too_large-append v w qs rest tail)
     ∙ fit_behind v w front (qs ++ rest) s (subst (λ (l : List Part). some_too_large v w l s ≡ false) apart h))
     ).0
 
@@ -54,7 +54,7 @@ module _ (v w : ℕ) (ps : List Part) (n : ℕ) (qs : List Part) (s : List ℕ)
     (h : length_of v (ps ++ (plain n ∷ qs)) ≤ length s) where
   enough : length_of v ps + n ≤ length s
   unfolding length_of part_length
-  enough = omega (arith, length_of-append_lem v ps (plain n ∷ qs))
+  enough = omega (arith, length_of-append v ps (plain n ∷ qs))
 
   there : drop (length_of w ps) (moved v w (ps ++ (plain n ∷ qs)) s)
       ≡ take n (drop (length_of v ps) s) ++ moved v w qs (drop n (drop (length_of v ps) s))
@@ -101,7 +101,7 @@ pub number-moved : (v w : ℕ) (ps : List Part) (n : ℕ) (qs : List Part) (s : 
 unfolding moved
 number-moved v w ps n qs s h f i l =
     let fit = (counts_fit v w n qs (drop (length_of v ps) s) (fit_behind v w ps (counts n ∷ qs) s f)).0 in
-    let enough : length_of v ps ≤ length s = omega (arith, length_of-append_lem v ps (counts n ∷ qs)) in
+    let enough : length_of v ps ≤ length s = omega (arith, length_of-append v ps (counts n ∷ qs)) in
     sym (number-drop (moved v w (ps ++ (counts n ∷ qs)) s) (length_of w ps) (i * w) w)
     ∙ ap (λ (x : List ℕ). number x (i * w) w) (behind v w ps (counts n ∷ qs) s enough)
     ∙ number-again v w n (drop (length_of v ps) s) (moved v w qs (drop (n * v) (drop (length_of v ps) s))) fit i l

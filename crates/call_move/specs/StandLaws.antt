@@ -8,7 +8,7 @@ use Rattle.frontiers.specs.Bytes.{frontier_length}
 use Rattle.records.specs.Record.{clocks_place, table_place, pending_place}
 use Rattle.call_move.specs.Parts.{Part, plain, counts, many_of, event_parts, record_parts, frontier_parts, window_parts}
 use Rattle.call_move.specs.PartLengths.{part_length, length_of}
-use Rattle.call_move.specs.PartLaws.{length_of-append_lem, length_of-repeated_lem, length-event_parts, length-frontier_parts}
+use Rattle.call_move.specs.PartLaws.{length_of-append, length_of-repeated, length-event_parts, length-frontier_parts}
 use Rattle.call_move.specs.PlaceLaws.{repeated_apart, Stands, stands_at}
 
 -- What stands before the pending events.
@@ -64,9 +64,9 @@ module _ (v w : ℕ) where
             ≡ length_of u first + i * length_of u kind + length_of u earlier
         place u =
             rw (
-              length_of-append_lem u first (many_of i kind ++ earlier),
-              length_of-append_lem u (many_of i kind) earlier,
-              length_of-repeated_lem u i kind,
+              length_of-append u first (many_of i kind ++ earlier),
+              length_of-append u (many_of i kind) earlier,
+              length_of-repeated u i kind,
             )
             (omega arith)
 

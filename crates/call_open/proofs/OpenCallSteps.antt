@@ -9,12 +9,12 @@ use lib.ListN.{length}
 use borrow.Author.Tests.{eq-eqb}
 use Rattle.rules.specs.reading.ReaderAccepts.{accepted}
 use Rattle.frontiers.specs.Bytes.{frontier_length}
-use Rattle.rules.specs.lines.RuleTableLaws.{length-table_of, lines_of-table_of_lem}
+use Rattle.rules.specs.lines.RuleTableLaws.{length-table_of, lines_of-table_of}
 use Rattle.rules.specs.Line.{line_count, lines_at}
 use Rattle.pactl.specs.TableBytes.{lines_of}
 use Rattle.rules.specs.declared.RuleRead.TheVariants.{Accepted, Refused}
 use Rattle.rules.specs.RuleTable.{table_of, answer_of, table_after, rule_answer, rule_table}
-use Rattle.rules.specs.reading.ReaderLaws.{form_at-formed_lem}
+use Rattle.rules.specs.reading.ReaderLaws.{form_at-formed}
 use Rattle.rules.specs.Formula.{Formula}
 use Rattle.rules.specs.reading.PlaceLaws.{fault_place}
 use Rattle.rules.specs.lines.LineLaws.{line_count_pos}
@@ -58,7 +58,7 @@ module _ (text : List ℕ) (k : ℕ) (lent : List ℕ) (long : length lent ≡ 1
     where
       go : (r : Reading) → read_rule text k ≡ r → Accepted lines ≡ answer_of r → table ≡ table_after r lent → Read text k lines table
       go (formed j f) q h u =
-          let x = form_at-formed_lem text k 32 0 0 j f (accepted text k j f q).start in
+          let x = form_at-formed text k 32 0 0 j f (accepted text k j f q).start in
           record { place = j; form = f; read = q; count = cc; short = omega (arith, x.short); bytes = u }
       go (faulty m j) q h u = let z : ◌≡◌ {A = ℕ} 0 1 = cc in absurd (omega arith)
 
@@ -105,5 +105,5 @@ module _ (w : ℕ) (text : List ℕ) (k : ℕ) (labels s window : List ℕ) wher
   open_accepted h lent long lines table e t =
       let d = read_accepted text k lent long lines table e t in
       let whole : open_call w text k labels s window ≡ open_table w (lines_at 0 d.form) k labels (length window) = open_reads h ∙ ap (open_read w k labels s window) d.read in
-      let same : lines_of table lines ≡ lines_at 0 d.form = ap₂ (λ (bytes : List ℕ) (n : ℕ). lines_of bytes n) d.bytes d.count ∙ lines_of-table_of_lem d.form in
+      let same : lines_of table lines ≡ lines_at 0 d.form = ap₂ (λ (bytes : List ℕ) (n : ℕ). lines_of bytes n) d.bytes d.count ∙ lines_of-table_of d.form in
       (omega (arith, line_count_pos d.form, d.count), omega (arith, d.short, d.count), ap length d.bytes ∙ length-table_of d.form d.short, ap (λ (ls : List Line). open_table w ls k labels (length window)) same ∙ sym whole)

@@ -7,8 +7,8 @@ use Rattle.codec.specs.LittleLaws.{pow_256_pos}
 use Rattle.codec.specs.PutLaws.{number-drop}
 use Rattle.clocks.specs.Counts.{at, list_of}
 use Rattle.clocks.specs.Refusal.{bad_start}
-use Rattle.clocks.specs.stored.CountsLaws.{length-list_of, list_of-same_lem, at-list_of, at_beyond}
-use Rattle.frontiers.specs.BytesLaws.{count_bytes-zeros_lem, number-count_bytes}
+use Rattle.clocks.specs.stored.CountsLaws.{length-list_of, list_of-same, at-list_of, at_beyond}
+use Rattle.frontiers.specs.BytesLaws.{count_bytes-zeros, number-count_bytes}
 use Rattle.pactl.specs.declared.Line.{Line}
 use Rattle.pactl.specs.Table.{table_bytes}
 use Rattle.rules.specs.Fault.{Fault}
@@ -31,7 +31,7 @@ none p = 0
 -- Counts read from zeros.
 zeros_read : (w : ℕ) (rest : List ℕ) (p : ℕ) → p < 72 → number (replicate (72 * w) 0 ++ rest) (p * w) w ≡ 0
 zeros_read w rest p l =
-    rw (← count_bytes-zeros_lem w 72)
+    rw (← count_bytes-zeros w 72)
     (number-count_bytes w (list_of 72 none) rest (λ q. fit q (dec_lt q 72)) p (rw (length-list_of 72 none) l)
     ∙ at-list_of 72 none p l)
   where
@@ -46,7 +46,7 @@ eight-zeros = refl
 pub first_taken : (w k : ℕ) (table : List Line) → taken_counts w (first_record w k table) ≡ replicate 8 0
 unfolding taken_counts first_record bytes_of
 first_taken w k table =
-    list_of-same_lem 8 _ none (λ p l.
+    list_of-same 8 _ none (λ p l.
     sym (number-drop (first_record w k table) 8 (p * w) w)
     ∙ ap (λ (u : List ℕ). number u (p * w) w) after ∙ zeros_read w rest p (omega arith))
     ∙ eight-zeros

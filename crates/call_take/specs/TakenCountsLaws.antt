@@ -11,7 +11,7 @@ use Rattle.codec.specs.SetsLaws.{take-sets, part-sets, part-sets-before, part-se
 use Rattle.clocks.specs.declared.Event.{Event}
 use Rattle.clocks.specs.Event.{Cut, involved, count, apply}
 use Rattle.clocks.specs.Counts.{at, list_of}
-use Rattle.clocks.specs.stored.CountsLaws.{length-list_of, list_of-same_lem, at-list_of, at_beyond}
+use Rattle.clocks.specs.stored.CountsLaws.{length-list_of, list_of-same, at-list_of, at_beyond}
 use Rattle.clocks.specs.stored.StepCountLaws.{apply-ready}
 use Rattle.frontiers.specs.Bytes.{count_bytes}
 use Rattle.frontiers.specs.BytesLaws.{count-within, length-count_bytes, number-count_bytes}
@@ -31,7 +31,7 @@ moved_up w s i =
 -- The removal leaves the taken counts, and the length.
 pub removed-taken : (w : ℕ) (s : List ℕ) (i : ℕ) → taken_counts w (removed w s i) ≡ taken_counts w s
 unfolding taken_counts removed
-removed-taken w s i = list_of-same_lem 8 _ _ λ p l.
+removed-taken w s i = list_of-same 8 _ _ λ p l.
     let moved = sets s (pending_place w i) (moved_up w s i) in
     number-alike _ s (8 + p * w) w
     (part-sets-after moved 2 ((pending_count s - 1) ∷ []) (8 + p * w) w (omega arith)
@@ -64,7 +64,7 @@ clocks_leave w (suc p) s e = go (involved e p) ∙ clocks_leave w p s e
 taken-alike : (w : ℕ) (s t : List ℕ) → take (clocks_place w) s ≡ take (clocks_place w) t
     → taken_counts w s ≡ taken_counts w t
 unfolding taken_counts
-taken-alike w s t e = list_of-same_lem 8 _ _ λ p l.
+taken-alike w s t e = list_of-same 8 _ _ λ p l.
     here s p l ∙ ap (λ (u : List ℕ). number u (8 + p * w) w) e ∙ sym (here t p l)
   where
     here : (u : List ℕ) (p : ℕ) → p < 8 → number u (8 + p * w) w ≡ number (take (clocks_place w) u) (8 + p * w) w
@@ -76,7 +76,7 @@ taken-alike w s t e = list_of-same_lem 8 _ _ λ p l.
 taken_stored : (w : ℕ) (s : List ℕ) (f : Cut) → clocks_place w ≤ length s → ((p : ℕ) → p < 8 → f p < 256 ^ w)
     → taken_counts w (sets s taken_place (count_bytes w (list_of 8 f))) ≡ list_of 8 f
 unfolding taken_counts
-taken_stored w s f long small = list_of-same_lem 8 _ f λ p l.
+taken_stored w s f long small = list_of-same 8 _ f λ p l.
     sym (number_middle t 8 (8 * w) (p * w) w (count-within p 8 w l))
     ∙ ap (λ (u : List ℕ). number u (p * w) w) part
     ∙ number-count_bytes w cs [] (λ q. fit q (dec_lt q 8)) p (rw (length-list_of 8 f) l)

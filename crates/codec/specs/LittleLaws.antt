@@ -23,49 +23,49 @@ Bytes-bytes_of (suc n) v zero = omega arith
 Bytes-bytes_of (suc n) v (suc i) = Bytes-bytes_of n (v / 256) i
 
 -- A number comes back from its bytes, without what the width does not hold.
-pub value_of-bytes_of-mod_lem : (n v : ℕ) → value_of (bytes_of n v) ≡ v % 256 ^ n
+pub value_of-bytes_of-mod : (n v : ℕ) → value_of (bytes_of n v) ≡ v % 256 ^ n
 unfolding bytes_of value_of
-value_of-bytes_of-mod_lem zero v = sym (mod-one v)
-value_of-bytes_of-mod_lem (suc n) v =
-    rw (pow-suc, mod-mul v (pow_256_pos n) (lit< tt), value_of-bytes_of-mod_lem n (v / 256)) (omega arith)
+value_of-bytes_of-mod zero v = sym (mod-one v)
+value_of-bytes_of-mod (suc n) v =
+    rw (pow-suc, mod-mul v (pow_256_pos n) (lit< tt), value_of-bytes_of-mod n (v / 256)) (omega arith)
 
-pub value_of-bytes_of_lem : (n v : ℕ) → v < 256 ^ n → value_of (bytes_of n v) ≡ v
-value_of-bytes_of_lem n v h = value_of-bytes_of-mod_lem n v ∙ mod-eq_of_lt h
+pub value_of-bytes_of : (n v : ℕ) → v < 256 ^ n → value_of (bytes_of n v) ≡ v
+value_of-bytes_of n v h = value_of-bytes_of-mod n v ∙ mod-eq_of_lt h
 
 -- Bytes come back from their number.
-pub bytes_of-value_of_lem : (bs : List ℕ) → Bytes bs → bytes_of (length bs) (value_of bs) ≡ bs
+pub bytes_of-value_of : (bs : List ℕ) → Bytes bs → bytes_of (length bs) (value_of bs) ≡ bs
 unfolding bytes_of value_of
-bytes_of-value_of_lem [] h = refl
-bytes_of-value_of_lem (b ∷ bs) h =
+bytes_of-value_of [] h = refl
+bytes_of-value_of (b ∷ bs) h =
     let h₀ : b < 256 = h 0 in
     let low : (b + 256 * value_of bs) % 256 ≡ b = omega arith in
     let high : (b + 256 * value_of bs) / 256 ≡ value_of bs = omega arith in
-    rw (low, high, bytes_of-value_of_lem bs (λ i. h (suc i)))
+    rw (low, high, bytes_of-value_of bs (λ i. h (suc i)))
 
 -- What the width does not hold makes no difference to the bytes.
 pub bytes_of_mod : (n v : ℕ) → bytes_of n (v % 256 ^ n) ≡ bytes_of n v
 bytes_of_mod n v =
-    rw (length-bytes_of n v, value_of-bytes_of-mod_lem n v) at (bytes_of-value_of_lem (bytes_of n v) (Bytes-bytes_of n v))
+    rw (length-bytes_of n v, value_of-bytes_of-mod n v) at (bytes_of-value_of (bytes_of n v) (Bytes-bytes_of n v))
 
 -- Bytes are below what their width holds.
-pub value_of-lt_lem : (bs : List ℕ) → Bytes bs → value_of bs < 256 ^ length bs
+pub value_of-lt : (bs : List ℕ) → Bytes bs → value_of bs < 256 ^ length bs
 unfolding value_of
-value_of-lt_lem [] h = lit< tt
-value_of-lt_lem (b ∷ bs) h =
+value_of-lt [] h = lit< tt
+value_of-lt (b ∷ bs) h =
     let h₀ : b < 256 = h 0 in
-    rw pow-suc (omega (arith, value_of-lt_lem bs (λ i. h (suc i))))
+    rw pow-suc (omega (arith, value_of-lt bs (λ i. h (suc i))))
 
 -- Two runs of bytes, one after the other.
-pub value_of-append_lem : (xs ys : List ℕ) → value_of (xs ++ ys) ≡ value_of xs + 256 ^ length xs * value_of ys
+pub value_of-append : (xs ys : List ℕ) → value_of (xs ++ ys) ≡ value_of xs + 256 ^ length xs * value_of ys
 unfolding value_of
-value_of-append_lem [] ys = omega arith
-value_of-append_lem (x ∷ xs) ys =
-    rw (pow-succ', mul_assoc 256 (256 ^ length xs) (value_of ys), value_of-append_lem xs ys) (omega arith)
+value_of-append [] ys = omega arith
+value_of-append (x ∷ xs) ys =
+    rw (pow-succ', mul_assoc 256 (256 ^ length xs) (value_of ys), value_of-append xs ys) (omega arith)
 
-pub bytes_of-add_lem : (m n v : ℕ) → bytes_of (m + n) v ≡ bytes_of m v ++ bytes_of n (v / 256 ^ m)
+pub bytes_of-add : (m n v : ℕ) → bytes_of (m + n) v ≡ bytes_of m v ++ bytes_of n (v / 256 ^ m)
 unfolding bytes_of
-bytes_of-add_lem zero n v = rw (zero-add, div-one)
-bytes_of-add_lem (suc m) n v = rw (suc-add, pow-succ', ← div-div-eq-div-mul v 256 (256 ^ m), bytes_of-add_lem m n (v / 256))
+bytes_of-add zero n v = rw (zero-add, div-one)
+bytes_of-add (suc m) n v = rw (suc-add, pow-succ', ← div-div-eq-div-mul v 256 (256 ^ m), bytes_of-add m n (v / 256))
 
 -- Parts of a list of bytes, and bytes stored in it, are bytes.
 pub Bytes-drop : (n : ℕ) (s : List ℕ) → Bytes s → Bytes (drop n s)

@@ -5,7 +5,7 @@ use Rattle.std.proofs.Math.Nat.{pow-succ', pow-le-pow_right}
 use Rattle.std.proofs.lemmas.List.Edits.{sets}
 use Rattle.std.proofs.Math.Seq.{take-nil, drop-nil, length-sets}
 use Rattle.codec.specs.Little.{bytes_of, value_of, number, put, Bytes}
-use Rattle.codec.specs.LittleLaws.{length-bytes_of, Bytes-bytes_of, value_of-bytes_of-mod_lem, bytes_of-value_of_lem, bytes_of_mod, value_of-lt_lem, bytes_of-add_lem, Bytes-drop, Bytes-take, Bytes-sets}
+use Rattle.codec.specs.LittleLaws.{length-bytes_of, Bytes-bytes_of, value_of-bytes_of-mod, bytes_of-value_of, bytes_of_mod, value_of-lt, bytes_of-add, Bytes-drop, Bytes-take, Bytes-sets}
 use Rattle.codec.specs.SetsLaws.{sets-append, sets_same, sets_comm, sets-sets, sets-tail, sets_middle, take-drop, take-sets, drop-sets, get_d_sets_before, get_d_sets-after, part-sets, part-sets-before, part-sets-after}
 
 -- ---- One number
@@ -21,7 +21,7 @@ Bytes-put s at n v h = Bytes-sets s at (bytes_of n v) h (Bytes-bytes_of n v)
 pub number_lt : (s : List ℕ) (at n : ℕ) → Bytes s → number s at n < 256 ^ n
 unfolding number
 number_lt s at n h =
-    lt_of_lt_of_le (value_of-lt_lem (take n (drop at s)) (Bytes-take n (drop at s) (Bytes-drop at s h)))
+    lt_of_lt_of_le (value_of-lt (take n (drop at s)) (Bytes-take n (drop at s) (Bytes-drop at s h)))
     (pow-le-pow_right (lit< tt) (simp length-take (omega arith)))
 
 -- A number of one byte is that byte.
@@ -42,22 +42,22 @@ unfolding number put
 number-put-mod s at n v h =
     let stored : take n (drop at (sets s at (bytes_of n v))) ≡ bytes_of n v =
     rw (length-bytes_of n v) at (part-sets s at (bytes_of n v) (rw (length-bytes_of n v) h)) in
-    ap value_of stored ∙ value_of-bytes_of-mod_lem n v
+    ap value_of stored ∙ value_of-bytes_of-mod n v
 
 pub number-put-same : (s : List ℕ) (at n v : ℕ) → at + n ≤ length s → v < 256 ^ n → number (put s at n v) at n ≡ v
 number-put-same s at n v h l = number-put-mod s at n v h ∙ mod-eq_of_lt l
 
 -- The bytes of the number that is there are what is there, and stored again they change nothing.
-pub bytes_of-number_lem : (s : List ℕ) (at n : ℕ) → Bytes s → at + n ≤ length s → bytes_of n (number s at n) ≡ take n (drop at s)
+pub bytes_of-number : (s : List ℕ) (at n : ℕ) → Bytes s → at + n ≤ length s → bytes_of n (number s at n) ≡ take n (drop at s)
 unfolding number
-bytes_of-number_lem s at n b h =
+bytes_of-number s at n b h =
     let part : List ℕ = take n (drop at s) in
     let width : length part ≡ n = length-take-le n (drop at s) (simp length-drop (omega arith)) in
-    rw width at (bytes_of-value_of_lem part (Bytes-take n (drop at s) (Bytes-drop at s b)))
+    rw width at (bytes_of-value_of part (Bytes-take n (drop at s) (Bytes-drop at s b)))
 
 pub put-number : (s : List ℕ) (at n : ℕ) → Bytes s → at + n ≤ length s → put s at n (number s at n) ≡ s
 unfolding put
-put-number s at n b h = ap (sets s at) (bytes_of-number_lem s at n b h) ∙ sets_same s at n
+put-number s at n b h = ap (sets s at) (bytes_of-number s at n b h) ∙ sets_same s at n
 
 -- ---- The rest is left
 
@@ -87,22 +87,22 @@ number-put-after s at n v at' n' h = ap value_of (part-sets-after s at (bytes_of
 
 -- ---- Two numbers
 
-value_of-take-add_lem : (m n : ℕ) (l : List ℕ) → value_of (take (m + n) l) ≡ value_of (take m l) + 256 ^ m * value_of (take n (drop m l))
+value_of-take-add : (m n : ℕ) (l : List ℕ) → value_of (take (m + n) l) ≡ value_of (take m l) + 256 ^ m * value_of (take n (drop m l))
 unfolding value_of
-value_of-take-add_lem zero n l = rw (zero-add n) (omega arith)
-value_of-take-add_lem (suc m) n [] = rw (take-nil n, take-nil (suc m + n), mul-zero) (omega arith)
-value_of-take-add_lem (suc m) n (x ∷ xs) =
-    rw (suc-add, pow-succ', mul_assoc 256 (256 ^ m) (value_of (take n (drop m xs)))) (omega (arith, value_of-take-add_lem m n xs))
+value_of-take-add zero n l = rw (zero-add n) (omega arith)
+value_of-take-add (suc m) n [] = rw (take-nil n, take-nil (suc m + n), mul-zero) (omega arith)
+value_of-take-add (suc m) n (x ∷ xs) =
+    rw (suc-add, pow-succ', mul_assoc 256 (256 ^ m) (value_of (take n (drop m xs)))) (omega (arith, value_of-take-add m n xs))
 
 -- A wide number is two narrower ones side by side.
 pub number-add : (s : List ℕ) (at m n : ℕ) → number s at (m + n) ≡ number s at m + 256 ^ m * number s (at + m) n
 unfolding number
-number-add s at m n = rw (← drop-drop m at s) (value_of-take-add_lem m n (drop at s))
+number-add s at m n = rw (← drop-drop m at s) (value_of-take-add m n (drop at s))
 
 pub put-add : (s : List ℕ) (at m n v : ℕ) → put s at (m + n) v ≡ put (put s at m (v % 256 ^ m)) (at + m) n (v / 256 ^ m)
 unfolding put
 put-add s at m n v =
-    rw (bytes_of_mod m v, bytes_of-add_lem m n v)
+    rw (bytes_of_mod m v, bytes_of-add m n v)
     (sym (rw (length-bytes_of m v) at (sets-append s at (bytes_of m v) (bytes_of n (v / 256 ^ m)))))
 
 -- Numbers in places apart may be stored in either order; of two in one place the later stays.

@@ -6,11 +6,11 @@ use Rattle.std.proofs.Math.Decide.{dec_lt}
 use Rattle.std.proofs.lemmas.List.{replicate-append-replicate}
 use Rattle.std.proofs.Math.Seq.{drop-append_seam}
 use Rattle.codec.specs.Little.{bytes_of, number, Bytes, value_of}
-use Rattle.codec.specs.LittleLaws.{length-bytes_of, value_of-bytes_of_lem, Bytes-drop, Bytes-take, pow_256_pos}
+use Rattle.codec.specs.LittleLaws.{length-bytes_of, value_of-bytes_of, Bytes-drop, Bytes-take, pow_256_pos}
 use Rattle.codec.specs.SetsLaws.{take-drop}
 use Rattle.clocks.specs.Counts.{at, list_of}
-use Rattle.codec.specs.PutLaws.{bytes_of-number_lem, number-drop, number_lt}
-use Rattle.clocks.specs.stored.CountsLaws.{list_of-same_lem, length-list_of, at-list_of, at_beyond, filled}
+use Rattle.codec.specs.PutLaws.{bytes_of-number, number-drop, number_lt}
+use Rattle.clocks.specs.stored.CountsLaws.{list_of-same, length-list_of, at-list_of, at_beyond, filled}
 use Rattle.frontiers.specs.Bytes.{count_bytes, frontier_length, frontier_bytes, frontier_from}
 use Rattle.frontiers.specs.declared.Frontier.{Frontier}
 use Rattle.frontiers.specs.Shaped.{Shaped}
@@ -34,14 +34,14 @@ length-count_bytes w [] = sym (zero-mul w)
 length-count_bytes w (c ∷ cs) =
     rw (length-append, length-bytes_of w c, length-count_bytes w cs, suc-mul) (omega arith)
 
-pub count_bytes-append_lem : (w : ℕ) (cs ds : List ℕ) → count_bytes w (cs ++ ds) ≡ count_bytes w cs ++ count_bytes w ds
+pub count_bytes-append : (w : ℕ) (cs ds : List ℕ) → count_bytes w (cs ++ ds) ≡ count_bytes w cs ++ count_bytes w ds
 unfolding count_bytes
-count_bytes-append_lem w [] ds = refl
-count_bytes-append_lem w (c ∷ cs) ds = rw (count_bytes-append_lem w cs ds, append_assoc)
+count_bytes-append w [] ds = refl
+count_bytes-append w (c ∷ cs) ds = rw (count_bytes-append w cs ds, append_assoc)
 
-pub count_bytes-one_lem : (w c : ℕ) → count_bytes w (c ∷ []) ≡ bytes_of w c
+pub count_bytes-one : (w c : ℕ) → count_bytes w (c ∷ []) ≡ bytes_of w c
 unfolding count_bytes
-count_bytes-one_lem w c = append-nil (bytes_of w c)
+count_bytes-one w c = append-nil (bytes_of w c)
 
 -- The bytes of zeros are zeros.
 pub bytes_of_zero : (w : ℕ) → bytes_of w 0 ≡ replicate w 0
@@ -49,12 +49,12 @@ unfolding bytes_of
 bytes_of_zero zero = refl
 bytes_of_zero (suc w) = ap (λ (l : List ℕ). 0 ∷ l) (bytes_of_zero w)
 
-pub count_bytes-zeros_lem : (w n : ℕ) → count_bytes w (list_of n (λ p. 0)) ≡ replicate (n * w) 0
+pub count_bytes-zeros : (w n : ℕ) → count_bytes w (list_of n (λ p. 0)) ≡ replicate (n * w) 0
 unfolding count_bytes list_of
-count_bytes-zeros_lem w zero = rw zero-mul
-count_bytes-zeros_lem w (suc n) =
+count_bytes-zeros w zero = rw zero-mul
+count_bytes-zeros w (suc n) =
     let far : suc n * w ≡ w + n * w = omega (arith, suc-mul n w) in
-    rw (far, bytes_of_zero w, count_bytes-zeros_lem w n) (replicate-append-replicate w (n * w) 0)
+    rw (far, bytes_of_zero w, count_bytes-zeros w n) (replicate-append-replicate w (n * w) 0)
 
 -- A count is read from its place among the bytes of counts.
 pub number-count_bytes : (w : ℕ) (cs rest : List ℕ) → ((p : ℕ) → at cs p < 256 ^ w) → (p : ℕ) → p < length cs
@@ -62,7 +62,7 @@ pub number-count_bytes : (w : ℕ) (cs rest : List ℕ) → ((p : ℕ) → at cs
 unfolding count_bytes number
 number-count_bytes w [] rest h p l = absurd (omega arith)
 number-count_bytes w (c ∷ cs) rest h zero l =
-    rw (zero-mul, append_assoc, take_at (bytes_of w c) (count_bytes w cs ++ rest) w (length-bytes_of w c)) (value_of-bytes_of_lem w c (h 0))
+    rw (zero-mul, append_assoc, take_at (bytes_of w c) (count_bytes w cs ++ rest) w (length-bytes_of w c)) (value_of-bytes_of w c (h 0))
 number-count_bytes w (c ∷ cs) rest h (suc p) l =
     let far : suc p * w ≡ w + p * w = omega (arith, suc-mul p w) in
     let tail : drop w (bytes_of w c ++ (count_bytes w cs ++ rest)) ≡ count_bytes w cs ++ rest = drop_at (bytes_of w c) _ w (length-bytes_of w c) in
@@ -78,8 +78,8 @@ count_bytes_numbers w s b (suc n) a h =
     let far : suc n * w ≡ w + n * w = omega (arith, suc-mul n w) in
     let first : a + 0 * w ≡ a = omega (arith, zero-mul w) in
     let next : list_of n (λ p. number s (a + suc p * w) w) ≡ list_of n (λ p. number s (a + w + p * w) w) =
-    list_of-same_lem n _ _ (λ p l. ap (λ (x : ℕ). number s x w) (omega (arith, suc-mul p w))) in
-    rw (first, far, take-add w (n * w) (drop a s), drop-drop w a s, next, count_bytes_numbers w s b n (a + w) (omega arith), bytes_of-number_lem s a w b (omega arith))
+    list_of-same n _ _ (λ p l. ap (λ (x : ℕ). number s x w) (omega (arith, suc-mul p w))) in
+    rw (first, far, take-add w (n * w) (drop a s), drop-drop w a s, next, count_bytes_numbers w s b n (a + w) (omega arith), bytes_of-number s a w b (omega arith))
 
 -- ---- One frontier
 
@@ -99,24 +99,24 @@ frontier_same f g c l m v =
     whole f ∙ rw (c, l, m, v) (sym (whole g))
 
 -- Where the bytes are the same, so is the frontier.
-pub frontier_from-alike_lem : (w : ℕ) (s : List ℕ) (a : ℕ) (t : List ℕ) (b : ℕ)
+pub frontier_from-alike : (w : ℕ) (s : List ℕ) (a : ℕ) (t : List ℕ) (b : ℕ)
     → ((o n : ℕ) → o + n ≤ frontier_length w → take n (drop (a + o) s) ≡ take n (drop (b + o) t)) → frontier_from w s a ≡ frontier_from w t b
 unfolding frontier_from frontier_length number
-frontier_from-alike_lem w s a t b h =
+frontier_from-alike w s a t b h =
     frontier_same (frontier_from w s a) (frontier_from w t b)
-    (list_of-same_lem 8 (λ p. number s (a + p * w) w) (λ p. number t (b + p * w) w) (λ p l. ap value_of (h (p * w) w (omega (arith, count-within p 8 w l)))))
+    (list_of-same 8 (λ p. number s (a + p * w) w) (λ p. number t (b + p * w) w) (λ p l. ap value_of (h (p * w) w (omega (arith, count-within p 8 w l)))))
     (h (8 * w) 8 (omega arith))
     (rw (add_assoc a (8 * w) 8, add_assoc b (8 * w) 8) (h (8 * w + 8) 8 (omega arith)))
     (rw (add_assoc a (8 * w) 16, add_assoc b (8 * w) 16) (ap value_of (h (8 * w + 16) 8 (omega arith))))
 
 -- A frontier read in the tail of a list is the one at that place of the whole;
-pub frontier_from-drop_lem : (w : ℕ) (s : List ℕ) (a b : ℕ) → frontier_from w (drop a s) b ≡ frontier_from w s (a + b)
-frontier_from-drop_lem w s a b = frontier_from-alike_lem w (drop a s) b s (a + b) (λ o n l. rw (drop-drop (b + o) a s, add_assoc a b o))
+pub frontier_from-drop : (w : ℕ) (s : List ℕ) (a b : ℕ) → frontier_from w (drop a s) b ≡ frontier_from w s (a + b)
+frontier_from-drop w s a b = frontier_from-alike w (drop a s) b s (a + b) (λ o n l. rw (drop-drop (b + o) a s, add_assoc a b o))
 
 -- it is read from its own bytes only.
-pub frontier_from-part_lem : (w : ℕ) (s : List ℕ) (a : ℕ) → frontier_from w (take (frontier_length w) (drop a s)) 0 ≡ frontier_from w s a
-frontier_from-part_lem w s a =
-    frontier_from-alike_lem w (take (frontier_length w) (drop a s)) 0 s a
+pub frontier_from-part : (w : ℕ) (s : List ℕ) (a : ℕ) → frontier_from w (take (frontier_length w) (drop a s)) 0 ≡ frontier_from w s a
+frontier_from-part w s a =
+    frontier_from-alike w (take (frontier_length w) (drop a s)) 0 s a
     (λ o n l. rw zero-add (part-part s a (frontier_length w) o n l))
 
 -- A frontier comes back from its bytes, whatever stands behind them;
@@ -130,7 +130,7 @@ frontier_from_front w f h rest =
     (rw (zero-add, after-counts) (take_at f.labels _ 8 h.eight_labels))
     (rw (zero-add, ← drop-drop 8 (8 * w) s, after-counts, after_labels) (take_at f.masks _ 8 h.eight_masks))
     (rw (zero-add, sixteen, ← drop-drop 8 (8 * w + 8) s, ← drop-drop 8 (8 * w) s, after-counts, after_labels, after_masks, take_at (bytes_of 8 f.values) rest 8 (length-bytes_of 8 f.values))
-    (value_of-bytes_of_lem 8 f.values h.values_fit)))
+    (value_of-bytes_of 8 f.values h.values_fit)))
   where
     behind : List ℕ
     behind = f.labels ++ (f.masks ++ (bytes_of 8 f.values ++ rest))
@@ -157,7 +157,7 @@ frontier_from_front w f h rest =
 pub frontier_from_bytes : (w : ℕ) (f : Frontier) → Shaped w f → (before after : List ℕ)
     → frontier_from w (before ++ (frontier_bytes w f ++ after)) (length before) ≡ f
 frontier_from_bytes w f h before after =
-    rw (← add-zero (length before), ← frontier_from-drop_lem w (before ++ (frontier_bytes w f ++ after)) (length before) 0, drop-append_seam before (frontier_bytes w f ++ after))
+    rw (← add-zero (length before), ← frontier_from-drop w (before ++ (frontier_bytes w f ++ after)) (length before) 0, drop-append_seam before (frontier_bytes w f ++ after))
     (frontier_from_front w f h after)
 
 -- Bytes come back from the frontier that they are,
@@ -165,7 +165,7 @@ pub frontier_bytes_from : (w : ℕ) (s : List ℕ) (a : ℕ) → Bytes s → a +
     → frontier_bytes w (frontier_from w s a) ≡ take (frontier_length w) (drop a s)
 unfolding frontier_from frontier_bytes frontier_length
 frontier_bytes_from w s a b h =
-    rw (count_bytes_numbers w s b 8 a (omega arith), bytes_of-number_lem s (a + 8 * w + 16) 8 b (omega arith))
+    rw (count_bytes_numbers w s b 8 a (omega arith), bytes_of-number s (a + 8 * w + 16) 8 b (omega arith))
     (sym (join_four s a (8 * w)))
   where
     join_four : (s : List ℕ) (a n : ℕ) → take (n + 24) (drop a s) ≡ take n (drop a s) ++ take 8 (drop (a + n) s) ++ take 8 (drop (a + n + 8) s) ++ take 8 (drop (a + n + 16) s)

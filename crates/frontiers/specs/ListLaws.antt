@@ -14,6 +14,7 @@ module _ {A : Type 0} where
   place_member (x ∷ xs) (suc i) d l = Memᴰ.tail (place_member xs i d (le_of_suc-le-suc l))
 
   pub member_place : (xs : List A) (x d : A) → Memᴰ x xs → (i : ℕ) × (i < length xs) × (get_or xs i d ≡ x)
+  member_place [] x d m = elim m [ ]
   member_place (y ∷ ys) x d (Memᴰ.head e) = (0, omega arith, sym e)
   member_place (y ∷ ys) x d (Memᴰ.tail m) = let r = member_place ys x d m in (suc r.0, suc-le-suc r.1, r.2)
 

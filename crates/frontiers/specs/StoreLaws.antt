@@ -5,7 +5,7 @@ use Rattle.std.proofs.lemmas.List.Edits.{sets}
 use Rattle.codec.specs.Little.{bytes_of, put}
 use Rattle.codec.specs.SetsLaws.{sets-append, sets-tail}
 use Rattle.clocks.specs.Counts.{at}
-use Rattle.frontiers.specs.BytesLaws.{length-count_bytes, count_bytes-append_lem, count_bytes-one_lem}
+use Rattle.frontiers.specs.BytesLaws.{length-count_bytes, count_bytes-append, count_bytes-one}
 use Rattle.frontiers.specs.Bytes.{count_bytes, frontier_bytes}
 use Rattle.frontiers.specs.declared.Frontier.{Frontier}
 
@@ -35,7 +35,7 @@ counts_more w s cs p l =
     zero-add (length front) ∙ length-count_bytes w (take p cs) ∙ ap (λ (n : ℕ). n * w) (length-take-le p cs (omega arith)) in
     let seam : sets (sets s 0 front) (p * w) (bytes_of w (get_or cs p 0)) ≡ sets s 0 (front ++ bytes_of w (get_or cs p 0)) =
     rw long at (sets-append s 0 front (bytes_of w (get_or cs p 0))) in
-    rw (add-one, take-suc cs p 0 l, count_bytes-append_lem w (take p cs) (get_or cs p 0 ∷ []), count_bytes-one_lem w (get_or cs p 0)) seam
+    rw (add-one, take-suc cs p 0 l, count_bytes-append w (take p cs) (get_or cs p 0 ∷ []), count_bytes-one w (get_or cs p 0)) seam
 
 -- The four parts of a frontier, stored one behind the other.
 pub stored_four : (w : ℕ) (s : List ℕ) (f : Frontier) → length f.counts ≡ 8 → length f.labels ≡ 8 → length f.masks ≡ 8

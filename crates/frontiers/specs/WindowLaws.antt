@@ -10,10 +10,10 @@ use Rattle.std.proofs.Math.Seq.{drop-append-add, length-take-le}
 use Rattle.codec.specs.Little.{Bytes, number}
 use Rattle.clocks.specs.Counts.{list_of, at}
 use Rattle.codec.specs.SetsLaws.{take-sets, part-sets, sets-append}
-use Rattle.clocks.specs.stored.CountsLaws.{length-list_of, get_d_list_of, filled, list_of-same_lem}
+use Rattle.clocks.specs.stored.CountsLaws.{length-list_of, get_d_list_of, filled, list_of-same}
 use Rattle.frontiers.specs.declared.Frontier.{Frontier}
 use Rattle.frontiers.specs.Shaped.{Shaped, AllShaped}
-use Rattle.frontiers.specs.BytesLaws.{count-within, length-frontier_bytes, frontier_from-drop_lem, frontier_from_bytes, frontier_from-alike_lem, frontier_bytes_from, shaped_from}
+use Rattle.frontiers.specs.BytesLaws.{count-within, length-frontier_bytes, frontier_from-drop, frontier_from_bytes, frontier_from-alike, frontier_bytes_from, shaped_from}
 use Rattle.frontiers.specs.Bytes.{frontier_length, frontier_bytes, frontier_at, frontiers, framed, window_bytes, replaced, frontier_from}
 use Rattle.frontiers.specs.ListLaws.{member_place, list_of_more, part-alike}
 
@@ -39,21 +39,21 @@ framed_more w fs f = framed-append w fs (f ∷ []) ∙ ap (λ (l : List ℕ). fr
     one w f = append-nil (frontier_bytes w f)
 
 -- A frontier is read from its place among them, whatever stands behind.
-pub frontier_at-framed_lem : (w : ℕ) (fs : List Frontier) → AllShaped w fs → (rest : List ℕ) (i : ℕ) (d : Frontier) → i < length fs
+pub frontier_at-framed : (w : ℕ) (fs : List Frontier) → AllShaped w fs → (rest : List ℕ) (i : ℕ) (d : Frontier) → i < length fs
     → frontier_at w (framed w fs ++ rest) i ≡ get_or fs i d
 unfolding framed frontier_at
-frontier_at-framed_lem w [] h rest i d l = absurd (omega arith)
-frontier_at-framed_lem w (f ∷ fs) h rest zero d l =
+frontier_at-framed w [] h rest i d l = absurd (omega arith)
+frontier_at-framed w (f ∷ fs) h rest zero d l =
     rw (zero-mul, append_assoc) (frontier_from_bytes w f (h f (Memᴰ.head refl)) [] (framed w fs ++ rest))
-frontier_at-framed_lem w (f ∷ fs) h rest (suc i) d l =
+frontier_at-framed w (f ∷ fs) h rest (suc i) d l =
     let far : suc i * frontier_length w ≡ frontier_length w + i * frontier_length w = omega (arith, suc-mul i (frontier_length w)) in
-    rw (far, append_assoc, ← frontier_from-drop_lem w (frontier_bytes w f ++ (framed w fs ++ rest)) (frontier_length w) (i * frontier_length w), drop_at (frontier_bytes w f) (framed w fs ++ rest) (frontier_length w) (length-frontier_bytes w f (h f (Memᴰ.head refl))))
-    (frontier_at-framed_lem w fs (λ g m. h g (Memᴰ.tail m)) rest i d (le_of_suc-le-suc l))
+    rw (far, append_assoc, ← frontier_from-drop w (frontier_bytes w f ++ (framed w fs ++ rest)) (frontier_length w) (i * frontier_length w), drop_at (frontier_bytes w f) (framed w fs ++ rest) (frontier_length w) (length-frontier_bytes w f (h f (Memᴰ.head refl))))
+    (frontier_at-framed w fs (λ g m. h g (Memᴰ.tail m)) rest i d (le_of_suc-le-suc l))
 
 pub frontiers-framed : (w : ℕ) (fs : List Frontier) → AllShaped w fs → (rest : List ℕ) → frontiers w (framed w fs ++ rest) (length fs) ≡ fs
 unfolding frontiers
 frontiers-framed w fs h rest =
-    sym (filled (length fs) (frontier_at w (framed w fs ++ rest)) none fs refl (λ i l. sym (frontier_at-framed_lem w fs h rest i none l)))
+    sym (filled (length fs) (frontier_at w (framed w fs ++ rest)) none fs refl (λ i l. sym (frontier_at-framed w fs h rest i none l)))
   where
     none : Frontier
     none = record { counts = []; labels = []; masks = []; values = 0 }
@@ -65,9 +65,9 @@ module _ (w total : ℕ) (fs : List Frontier) (h : AllShaped w fs) where
   unfolding window_bytes
   length-window_bytes l = rw (length-append, length-framed w fs h, length-replicate) (omega arith)
 
-  pub frontier_at-window_bytes_lem : (i : ℕ) (d : Frontier) → i < length fs → frontier_at w (window_bytes w total fs) i ≡ get_or fs i d
+  pub frontier_at-window_bytes : (i : ℕ) (d : Frontier) → i < length fs → frontier_at w (window_bytes w total fs) i ≡ get_or fs i d
   unfolding window_bytes
-  frontier_at-window_bytes_lem i d l = frontier_at-framed_lem w fs h _ i d l
+  frontier_at-window_bytes i d l = frontier_at-framed w fs h _ i d l
 
   pub frontiers-window_bytes : frontiers w (window_bytes w total fs) (length fs) ≡ fs
   unfolding window_bytes
@@ -110,10 +110,10 @@ shaped_frontiers w s n b h f m =
     rw (← e) (shaped_from w s (r.0 * frontier_length w) b (omega (arith, place-within r.0 n w l)))
 
 -- and have those bytes.
-frontier_bytes-at_lem : (w : ℕ) (s : List ℕ) (i : ℕ) → Bytes s → i * frontier_length w + frontier_length w ≤ length s
+frontier_bytes-at : (w : ℕ) (s : List ℕ) (i : ℕ) → Bytes s → i * frontier_length w + frontier_length w ≤ length s
     → frontier_bytes w (frontier_at w s i) ≡ take (frontier_length w) (drop (i * frontier_length w) s)
 unfolding frontier_at
-frontier_bytes-at_lem w s i b h = frontier_bytes_from w s (i * frontier_length w) b h
+frontier_bytes-at w s i b h = frontier_bytes_from w s (i * frontier_length w) b h
 
 pub framed-frontiers : (w : ℕ) (s : List ℕ) (n : ℕ) → Bytes s → n * frontier_length w ≤ length s
     → framed w (frontiers w s n) ≡ take (n * frontier_length w) s
@@ -121,7 +121,7 @@ unfolding framed frontiers list_of
 framed-frontiers w s zero b h = rw zero-mul
 framed-frontiers w s (suc n) b h =
     let far : suc n * frontier_length w ≡ n * frontier_length w + frontier_length w = suc-mul n (frontier_length w) in
-    let last : frontier_bytes w (frontier_at w s n) ≡ take (frontier_length w) (drop (n * frontier_length w) s) = frontier_bytes-at_lem w s n b (omega arith) in
+    let last : frontier_bytes w (frontier_at w s n) ≡ take (frontier_length w) (drop (n * frontier_length w) s) = frontier_bytes-at w s n b (omega arith) in
     let front : framed w (frontiers w s n) ≡ take (n * frontier_length w) s = framed-frontiers w s n b (omega arith) in
     let whole : take (suc n * frontier_length w) s ≡ take (n * frontier_length w) s ++ take (frontier_length w) (drop (n * frontier_length w) s) =
     rw far (take-add (n * frontier_length w) (frontier_length w) s) in
@@ -131,8 +131,8 @@ framed-frontiers w s (suc n) b h =
 pub frontiers-alike : (w : ℕ) (s t : List ℕ) (n : ℕ) → take (n * frontier_length w) s ≡ take (n * frontier_length w) t → frontiers w s n ≡ frontiers w t n
 unfolding frontiers frontier_at
 frontiers-alike w s t n e =
-    list_of-same_lem n (frontier_at w s) (frontier_at w t)
-    (λ i l. frontier_from-alike_lem w s (i * frontier_length w) t (i * frontier_length w)
+    list_of-same n (frontier_at w s) (frontier_at w t)
+    (λ i l. frontier_from-alike w s (i * frontier_length w) t (i * frontier_length w)
     (λ o k m. part-alike s t (n * frontier_length w) (i * frontier_length w + o) k (omega (arith, place-within i n w l)) e))
 
 -- ---- One more frontier, stored behind the first n

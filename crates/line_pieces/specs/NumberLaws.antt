@@ -64,10 +64,10 @@ pub record After (i least most j v : ℕ) : Type 0 where
   pub low : least ≤ v
   pub high : v ≤ most
 
-number_of-after_lem : (ds : List ℕ) (i least most j v : ℕ) → number_of ds i least most ≡ At j v → After i least most j v
+number_of-after : (ds : List ℕ) (i least most j v : ℕ) → number_of ds i least most ≡ At j v → After i least most j v
 unfolding number_of
-number_of-after_lem [] i least most j v h = let z : ◌≡◌ {A = ℕ} 0 1 = cc in absurd (omega arith)
-number_of-after_lem (d ∷ ds) i least most j v h =
+number_of-after [] i least most j v h = let z : ◌≡◌ {A = ℕ} 0 1 = cc in absurd (omega arith)
+number_of-after (d ∷ ds) i least most j v h =
     go (eqb d 48 && ltb 0 (length ds)) (leb least (value (d ∷ ds)) && leb (value (d ∷ ds)) most) refl h
   where
     go : (a b : Bool) → (leb least (value (d ∷ ds)) && leb (value (d ∷ ds)) most) ≡ b
@@ -85,4 +85,4 @@ number_of-after_lem (d ∷ ds) i least most j v h =
 
 pub number-after : (s : List ℕ) (i least most j v : ℕ) → number_at s i least most ≡ At j v → After i least most j v
 unfolding number_at
-number-after s i least most j v h = number_of-after_lem (digits (drop i s)) i least most j v h
+number-after s i least most j v h = number_of-after (digits (drop i s)) i least most j v h

@@ -15,19 +15,19 @@ use Rattle.pactl.specs.declared.Line.{Line}
 use Rattle.pactl.specs.Judge.{not_judged, and_judged, es_judged, as_judged, judge_line, with_bit, judge_from, judge}
 use Rattle.pactl.specs.Table.{good_line, good_from, good_table}
 use Rattle.pactl.specs.GoodLineLaws.{good_earlier}
-use Rattle.pactl.specs.TableBytesLaws.{lines_from_next, lines_from-end_lem}
+use Rattle.pactl.specs.TableBytesLaws.{lines_from_next, lines_from-end}
 use Rattle.pactl.specs.TableBytes.{line_at, lines_from}
 use Rattle.clocks.specs.stored.BoundedLaws.{and-true}
 
 -- One line more
 
-pub with_bit-lt_lem : (v i : ℕ) (t : Bool) → v < 2 ^ i → with_bit v i t < 2 ^ (i + 1)
-with_bit-lt_lem v i true h = rw (add-one i, pow-suc) (omega arith)
-with_bit-lt_lem v i false h = rw (add-one i, pow-suc) (omega arith)
+pub with_bit-lt : (v i : ℕ) (t : Bool) → v < 2 ^ i → with_bit v i t < 2 ^ (i + 1)
+with_bit-lt v i true h = rw (add-one i, pow-suc) (omega arith)
+with_bit-lt v i false h = rw (add-one i, pow-suc) (omega arith)
 
-with_bit-here_lem : (v i : ℕ) (t : Bool) → v < 2 ^ i → bit (with_bit v i t) i ≡ t
-with_bit-here_lem v i true h = bit_top v i h
-with_bit-here_lem v i false h = bit_above v i i h (omega arith)
+with_bit-here : (v i : ℕ) (t : Bool) → v < 2 ^ i → bit (with_bit v i t) i ≡ t
+with_bit-here v i true h = bit_top v i h
+with_bit-here v i false h = bit_above v i i h (omega arith)
 
 with_bit_under : (v i : ℕ) (t : Bool) (j : ℕ) → j < i → bit (with_bit v i t) j ≡ bit v j
 with_bit_under v i true j h = bit_under_top v i j h
@@ -53,39 +53,39 @@ module _ (labels : List ℕ) (any all : ℕ) (preceded : Bool) where
   unfolding judge_from
   judge_from_under v i [] j h = refl
   judge_from_under v i (l ∷ ls) j h =
-      judge_from_under _ (i + 1) ls j (omega arith) ∙ with_bit_under v i (judge_line labels v any all preceded i l) j h
+      judge_from_under (with_bit v i (judge_line labels v any all preceded i l)) (i + 1) ls j (omega arith) ∙ with_bit_under v i (judge_line labels v any all preceded i l) j h
 
-  pub judge_from-lt_lem : (v i : ℕ) (ls : List Line) → v < 2 ^ i
+  pub judge_from-lt : (v i : ℕ) (ls : List Line) → v < 2 ^ i
       → judge_from labels any all preceded v i ls < 2 ^ (i + length ls)
   unfolding judge_from
-  judge_from-lt_lem v i [] h = rw (add-zero i) h
-  judge_from-lt_lem v i (l ∷ ls) h =
+  judge_from-lt v i [] h = rw (add-zero i) h
+  judge_from-lt v i (l ∷ ls) h =
       let e : i + suc (length ls) ≡ i + 1 + length ls = omega arith in
-      rw e (judge_from-lt_lem _ (i + 1) ls (with_bit-lt_lem v i (judge_line labels v any all preceded i l) h))
+      rw e (judge_from-lt (with_bit v i (judge_line labels v any all preceded i l)) (i + 1) ls (with_bit-lt v i (judge_line labels v any all preceded i l) h))
 
-  judge_from-bit_lem : (v k i : ℕ) (ls : List Line) (j : ℕ) (d : Line) → v < 2 ^ i → good_from k i ls ≡ true → j < length ls
+  judge_from-bit : (v k i : ℕ) (ls : List Line) (j : ℕ) (d : Line) → v < 2 ^ i → good_from k i ls ≡ true → j < length ls
       → bit (judge_from labels any all preceded v i ls) (i + j)
       ≡ judge_line labels (judge_from labels any all preceded v i ls) any all preceded (i + j) (get_or ls j d)
   unfolding judge_from good_from
-  judge_from-bit_lem v k i [] j d h g l = absurd (omega arith)
-  judge_from-bit_lem v k i (x ∷ ls) zero d h g l =
+  judge_from-bit v k i [] j d h g l = absurd (omega arith)
+  judge_from-bit v k i (x ∷ ls) zero d h g l =
       let t = judge_line labels v any all preceded i x in
       let u = with_bit v i t in
       let w = judge_from labels any all preceded u (i + 1) ls in
       rw (add-zero i)
       (judge_from_under u (i + 1) ls i (omega arith)
-      ∙ with_bit-here_lem v i t h
+      ∙ with_bit-here v i t h
       ∙ judge_line_local v w k i x (and-true (good_line k i x) (good_from k (i + 1) ls) g).0
       (λ m lt. sym (judge_from_under u (i + 1) ls m (omega arith) ∙ with_bit_under v i t m lt)))
-  judge_from-bit_lem v k i (x ∷ ls) (suc j) d h g l =
+  judge_from-bit v k i (x ∷ ls) (suc j) d h g l =
       let t = judge_line labels v any all preceded i x in
       let e : i + suc j ≡ i + 1 + j = omega arith in
       let rest : good_from k (i + 1) ls ≡ true = (and-true (good_line k i x) (good_from k (i + 1) ls) g).1 in
-      rw e (judge_from-bit_lem (with_bit v i t) k (i + 1) ls j d (with_bit-lt_lem v i t h) rest (omega arith))
+      rw e (judge_from-bit (with_bit v i t) k (i + 1) ls j d (with_bit-lt v i t h) rest (omega arith))
 
   -- A frontier's word has bits below the number of lines only.
   pub judge-lt : (ls : List Line) → judge labels any all preceded ls < 2 ^ length ls
-  judge-lt ls = rw (zero-add (length ls)) at (judge_from-lt_lem 0 0 ls (lit< tt))
+  judge-lt ls = rw (zero-add (length ls)) at (judge_from-lt 0 0 ls (lit< tt))
 
   pub judge_above : (ls : List Line) (i : ℕ) → length ls ≤ i → bit (judge labels any all preceded ls) i ≡ false
   judge_above ls i h = bit_above _ (length ls) i (judge-lt ls) h
@@ -94,7 +94,7 @@ module _ (labels : List ℕ) (any all : ℕ) (preceded : Bool) where
   pub judge-bit : (k : ℕ) (ls : List Line) (i : ℕ) (d : Line) → good_table k ls ≡ true → i < length ls
       → bit (judge labels any all preceded ls) i
       ≡ judge_line labels (judge labels any all preceded ls) any all preceded i (get_or ls i d)
-  judge-bit k ls i d g h = rw (zero-add i) at (judge_from-bit_lem 0 k 0 ls i d (lit< tt) g h)
+  judge-bit k ls i d g h = rw (zero-add i) at (judge_from-bit 0 k 0 ls i d (lit< tt) g h)
 
   -- Judging the lines from line i on of a table's bytes: line i, then those behind it.
   pub judge_from_next : (v : ℕ) (bytes : List ℕ) (n i : ℕ) → i < n
@@ -104,7 +104,7 @@ module _ (labels : List ℕ) (any all : ℕ) (preceded : Bool) where
   unfolding judge_from
   judge_from_next v bytes n i h = rw (lines_from_next bytes n i h)
 
-  pub judge_from-end_lem : (v : ℕ) (bytes : List ℕ) (n i : ℕ) → n ≤ i
+  pub judge_from-end : (v : ℕ) (bytes : List ℕ) (n i : ℕ) → n ≤ i
       → judge_from labels any all preceded v i (lines_from bytes (n - i) i) ≡ v
   unfolding judge_from
-  judge_from-end_lem v bytes n i h = rw (lines_from-end_lem bytes n i h)
+  judge_from-end v bytes n i h = rw (lines_from-end bytes n i h)

@@ -23,12 +23,12 @@ lines_from_behind x y z bytes (suc n) i =
     (rw (add-one (suc i), add-one i) (lines_from_behind x y z bytes n (suc i)))
 
 -- The lines whose bytes stand first come back.
-pub lines_of-table_bytes_lem : (ls : List Line) (rest : List ℕ) → lines_of (table_bytes ls ++ rest) (length ls) ≡ ls
+pub lines_of-table_bytes : (ls : List Line) (rest : List ℕ) → lines_of (table_bytes ls ++ rest) (length ls) ≡ ls
 unfolding lines_from table_bytes line_at
-lines_of-table_bytes_lem [] rest = refl
-lines_of-table_bytes_lem (l ∷ ls) rest =
+lines_of-table_bytes [] rest = refl
+lines_of-table_bytes (l ∷ ls) rest =
     ap (λ (ms : List Line). l ∷ ms)
-    (lines_from_behind l.kind l.a l.b (table_bytes ls ++ rest) (length ls) 0 ∙ lines_of-table_bytes_lem ls rest)
+    (lines_from_behind l.kind l.a l.b (table_bytes ls ++ rest) (length ls) 0 ∙ lines_of-table_bytes ls rest)
 
 pub length-lines_from : (bytes : List ℕ) (n i : ℕ) → length (lines_from bytes n i) ≡ n
 unfolding lines_from
@@ -53,9 +53,9 @@ lines_from_next bytes n i h =
     let e : n - i ≡ suc (n - (i + 1)) = omega arith in
     rw e
 
-pub lines_from-end_lem : (bytes : List ℕ) (n i : ℕ) → n ≤ i → lines_from bytes (n - i) i ≡ []
+pub lines_from-end : (bytes : List ℕ) (n i : ℕ) → n ≤ i → lines_from bytes (n - i) i ≡ []
 unfolding lines_from
-lines_from-end_lem bytes n i h =
+lines_from-end bytes n i h =
     let e : n - i ≡ 0 = omega arith in
     rw e
 
@@ -65,6 +65,6 @@ pub good_from_next : (k : ℕ) (bytes : List ℕ) (n i : ℕ) → i < n
 unfolding good_from
 good_from_next k bytes n i h = rw (lines_from_next bytes n i h)
 
-pub good_from-end_lem : (k : ℕ) (bytes : List ℕ) (n i : ℕ) → n ≤ i → good_from k i (lines_from bytes (n - i) i) ≡ true
+pub good_from-end : (k : ℕ) (bytes : List ℕ) (n i : ℕ) → n ≤ i → good_from k i (lines_from bytes (n - i) i) ≡ true
 unfolding good_from
-good_from-end_lem k bytes n i h = rw (lines_from-end_lem bytes n i h)
+good_from-end k bytes n i h = rw (lines_from-end bytes n i h)

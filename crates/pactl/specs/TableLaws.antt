@@ -11,7 +11,7 @@ length-table_bytes [] = refl
 length-table_bytes (l ∷ ls) = omega (arith, length-table_bytes ls)
 
 -- Lines behind lines are bytes behind bytes.
-pub table_bytes-append_lem : (ls ms : List Line) → table_bytes (ls ++ ms) ≡ table_bytes ls ++ table_bytes ms
+pub table_bytes-append : (ls ms : List Line) → table_bytes (ls ++ ms) ≡ table_bytes ls ++ table_bytes ms
 unfolding table_bytes
-table_bytes-append_lem [] ms = refl
-table_bytes-append_lem (l ∷ ls) ms = rw (table_bytes-append_lem ls ms)
+table_bytes-append [] ms = refl
+table_bytes-append (l ∷ ls) ms = rw (table_bytes-append ls ms)

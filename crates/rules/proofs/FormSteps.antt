@@ -14,7 +14,7 @@ use Rattle.rules.specs.Line.{lines_before, lines_after, lines_between, lines_aft
 use Rattle.rules.proofs.LayingSteps.{lay-lay}
 use Rattle.rules.specs.Text.{byte_at}
 use Rattle.rules.specs.Laying.{lay, LaidDown, Done}
-use Rattle.rules.specs.reading.ReaderLaws.{inner_formed, form_at-formed_lem, read_of_form, read_of-refused_lem}
+use Rattle.rules.specs.reading.ReaderLaws.{inner_formed, form_at-formed, read_of_form, read_of-refused}
 use Rattle.rules.specs.Formula.{Formula, unary, binary}
 use Rattle.rules.proofs.forms.ReaderSteps.{expect_met, expect_other}
 use Rattle.rules.specs.reading.PlaceLaws.{length-text_of}
@@ -41,11 +41,11 @@ pub record Opened (a : ℕ) (s : List ℕ) (i : ℕ) (word : WordRead) : Type 0 
   pub left : a ≡ 0 → ⊥
   pub meets : word_at s (i + 1) ≡ word
 
-pub form_at-word_lem : (a : ℕ) (s : List ℕ) (k closed i : ℕ) (word : WordRead) → Opened a s i word
+pub form_at-word : (a : ℕ) (s : List ℕ) (k closed i : ℕ) (word : WordRead) → Opened a s i word
     → form_at a s k closed i ≡ body_with (form_at (a - 1) s k) s k closed word
 unfolding form_at
-form_at-word_lem zero s k closed i word o = absurd (o.left refl)
-form_at-word_lem (suc a) s k closed i word o =
+form_at-word zero s k closed i word o = absurd (o.left refl)
+form_at-word (suc a) s k closed i word o =
     let h : suc a - 1 ≡ a = omega arith in
     rw (h, expect_met s i 40 o.bracket, o.meets)
 
@@ -106,7 +106,7 @@ form_done laid closed old new reading r j l c d e =
 
 pub fault_done : (laid closed : ℕ) (old new : List ℕ) (reading : Reading) (r : Read) (n j : ℕ) → Done laid closed old new reading r → r ≡ Refused n j
     → reading ≡ faulty n j
-fault_done laid closed old new reading r n j d e = read_of-refused_lem laid closed reading n j (sym d.answer ∙ e)
+fault_done laid closed old new reading r n j d e = read_of-refused laid closed reading n j (sym d.answer ∙ e)
 
 -- A form read at a text's first byte: which, and the front of the table with its lines.
 pub record RuleDone (s : List ℕ) (k : ℕ) (new : List ℕ) (j l : ℕ) : Type 0 where
@@ -120,7 +120,7 @@ pub rule_done : (s : List ℕ) (k : ℕ) {new : List ℕ} {r : Read} {j l c : �
     → Done 0 0 (replicate 600 0) new (form_at 32 s k 0 0) r → r ≡ Form j l c → RuleDone s k new j l
 rule_done s k {new} {r} {j} {l} {c} d e =
     let x = form_done 0 0 (replicate 600 0) new (form_at 32 s k 0 0) r j l c d e in
-    let y = form_at-formed_lem s k 32 0 0 j x.form x.read in
+    let y = form_at-formed s k 32 0 0 j x.form x.read in
     let short : line_count x.form ≤ 64 = omega (arith, y.short) in
     record {
       form = x.form;
@@ -143,7 +143,7 @@ pub inner_done : (a : ℕ) (s : List ℕ) (k i : ℕ) {laid closed : ℕ} {old n
 inner_done a s k i {laid} {closed} {old} {new} {r} {j} {l} {c} d e =
     let x = form_done laid closed old new (inner_with (form_at a s k) s closed i) r j l c d e in
     let f = x.form in
-    let y = (inner_formed s k a (form_at a s k) (form_at-formed_lem s k a) closed i j f x.read).1 in
+    let y = (inner_formed s k a (form_at a s k) (form_at-formed s k a) closed i j f x.read).1 in
     record { done = x; some = line_count_pos f; short = y.short; near = omega (arith, y.span.ends, length-text_of f) }
 
 -- The table of a whole form

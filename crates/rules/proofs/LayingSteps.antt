@@ -13,7 +13,7 @@ use Rattle.rules.specs.declared.Unary.{Unary}
 use Rattle.rules.specs.declared.Unary.TheVariants.{Not, Ey, Ep, Ap, Ay, Eh, Ah}
 use Rattle.rules.specs.declared.Read.{Read}
 use Rattle.rules.specs.declared.Read.TheVariants.{Form, Refused}
-use Rattle.pactl.specs.TableLaws.{length-table_bytes, table_bytes-append_lem}
+use Rattle.pactl.specs.TableLaws.{length-table_bytes, table_bytes-append}
 use Rattle.rules.specs.Line.{true_lines, lines_before, line_count, lines_at}
 use Rattle.pactl.specs.Table.{table_bytes}
 use Rattle.rules.specs.Text.{byte_at}
@@ -35,7 +35,7 @@ pub lay-lay : (bytes : List ℕ) (n m : ℕ) (ls ms : List Line) → m ≡ n + l
 unfolding lay
 lay-lay bytes n m ls ms h =
     let e : 3 * m ≡ 3 * n + length (table_bytes ls) = omega (arith, length-table_bytes ls) in
-    rw (e, sets-append bytes (3 * n) (table_bytes ls) (table_bytes ms), table_bytes-append_lem ls ms)
+    rw (e, sets-append bytes (3 * n) (table_bytes ls) (table_bytes ms), table_bytes-append ls ms)
 
 -- What is laid down in two parts; with a larger bound; and where nothing is.
 pub laid_then : {n m k : ℕ} {ls ms : List Line} {old mid new : List ℕ} {r q : ℕ} → Laid n m ls old mid r
@@ -55,15 +55,15 @@ laid_within p h = record { count = p.count; few = omega (arith, p.few); table = 
 pub laid_none : {n k : ℕ} {old : List ℕ} → Laid n k [] old old n
 laid_none {n} {k} {old} = record { count = omega arith; few = omega arith; table = sym (lay-none old n) }
 
-pub lines_before-cond_lem : (w : Unary) (n : ℕ) → lines_before w n ≡ cond (has_true w) (true_lines n) []
+pub lines_before-cond : (w : Unary) (n : ℕ) → lines_before w n ≡ cond (has_true w) (true_lines n) []
 unfolding lines_before has_true
-lines_before-cond_lem Not n = refl
-lines_before-cond_lem Ey n = refl
-lines_before-cond_lem Ep n = refl
-lines_before-cond_lem Ap n = refl
-lines_before-cond_lem Ay n = refl
-lines_before-cond_lem Eh n = refl
-lines_before-cond_lem Ah n = refl
+lines_before-cond Not n = refl
+lines_before-cond Ey n = refl
+lines_before-cond Ep n = refl
+lines_before-cond Ap n = refl
+lines_before-cond Ay n = refl
+lines_before-cond Eh n = refl
+lines_before-cond Ah n = refl
 
 -- Faults
 

@@ -11,7 +11,7 @@ use Rattle.clocks.specs.History.{taken, event, clock_of, Consistent}
 use Rattle.clocks.specs.Causal.{Causal}
 use Rattle.clocks.specs.Valid.{History}
 use Rattle.clocks.specs.Counts.{list_of}
-use Rattle.clocks.specs.stored.CountsLaws.{list_of-same_lem}
+use Rattle.clocks.specs.stored.CountsLaws.{list_of-same}
 use Rattle.clocks.specs.cuts.HistoryLaws.{event_numbered}
 use Rattle.clocks.specs.cuts.CausalLaws.{clock_cases, count-number}
 use Rattle.call_busiest.specs.Sharing.{total}
@@ -64,7 +64,7 @@ unfolding total list_of
 total-one zero b o l t f = absurd (omega arith)
 total-one (suc k) b zero l t f =
     let rest : list_of k (λ p. one (b (suc p))) ≡ list_of k (λ p. 0) =
-    list_of-same_lem k _ _ (λ p m. rw (f (suc p) (λ e. omega arith))) in
+    list_of-same k _ _ (λ p m. rw (f (suc p) (λ e. omega arith))) in
     rw (t, rest, total-zeros k)
 total-one (suc k) b (suc o) l t f =
     let none : b 0 ≡ false = f 0 (λ e. omega arith) in

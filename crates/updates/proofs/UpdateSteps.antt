@@ -32,10 +32,10 @@ abbrev pub bare : ℕ → List ℕ → Event
 bare mask clock = record { mask = mask; clock = clock; labels = [] }
 
 -- Its labels make no difference to the last clocks.
-pub clocks_set-bare_lem : (w n : ℕ) (s : List ℕ) (e : Event) → clocks_set w n s (bare e.mask e.clock) ≡ clocks_set w n s e
+pub clocks_set-bare : (w n : ℕ) (s : List ℕ) (e : Event) → clocks_set w n s (bare e.mask e.clock) ≡ clocks_set w n s e
 unfolding clocks_set involved
-clocks_set-bare_lem w zero s e = refl
-clocks_set-bare_lem w (suc n) s e = rw (clocks_set-bare_lem w n s e)
+clocks_set-bare w zero s e = refl
+clocks_set-bare w (suc n) s e = rw (clocks_set-bare w n s e)
 
 pub clocks_none : (w : ℕ) (s : List ℕ) (e : Event) → s ≡ clocks_set w 0 s e
 unfolding clocks_set

@@ -17,9 +17,9 @@ length-filtered_more {A} t xs x = rw (filtered-append t xs (x ∷ []), length-ap
     go true = refl
     go false = refl
 
-pub kept_after-none_lem : (s : Setting) (w : ℕ) (bytes : List ℕ) → kept_after s (frontiers w bytes 0) ≡ 0
+pub kept_after-none : (s : Setting) (w : ℕ) (bytes : List ℕ) → kept_after s (frontiers w bytes 0) ≡ 0
 unfolding kept_after filtered frontiers Rattle.clocks.specs.Counts.list_of
-kept_after-none_lem s w bytes = refl
+kept_after-none s w bytes = refl
 
 pub kept_after_more : (k closed : ℕ) (table : List ℕ) (lines : ℕ) (e : Event) (reached : List ℕ) (w : ℕ) (bytes : List ℕ) (i : ℕ)
     → kept_after (setting_with k closed table lines e reached) (frontiers w bytes (i + 1))

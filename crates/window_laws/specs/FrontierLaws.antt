@@ -17,7 +17,7 @@ use Rattle.clocks.specs.Event.{Cut, involved, Ready, apply}
 use Rattle.clocks.specs.cuts.EventLaws.{either, ready-same, apply_next, apply_other}
 use Rattle.clocks.specs.Counts.{list_of, at}
 use Rattle.clocks.specs.cuts.HistoryLaws.{event_next, event_other}
-use Rattle.clocks.specs.stored.CountsLaws.{get_d_list_of, list_of-same_lem, at-list_of}
+use Rattle.clocks.specs.stored.CountsLaws.{get_d_list_of, list_of-same, at-list_of}
 use Rattle.clocks.specs.Valid.{History, ClockRule}
 use Rattle.frontiers.specs.declared.Frontier.{Frontier}
 use Rattle.window.specs.Step.{advanced}
@@ -25,10 +25,10 @@ use Rattle.window_laws.specs.Represents.{setting_of}
 use Rattle.window_laws.specs.FrontierOf.{World, model_of, word_of, frontier_of}
 
 -- ---- value words
-pub word_of-lt_lem : (n : ℕ) (t : ℕ → Bool) → word_of n t < 2 ^ n
+pub word_of-lt : (n : ℕ) (t : ℕ → Bool) → word_of n t < 2 ^ n
 unfolding word_of
-word_of-lt_lem zero t = lit< tt
-word_of-lt_lem (suc n) t = go (t n) (word_of-lt_lem n t)
+word_of-lt zero t = lit< tt
+word_of-lt (suc n) t = go (t n) (word_of-lt n t)
   where
     go : (b : Bool) → word_of n t < 2 ^ n → with_bit (word_of n t) n b < 2 ^ suc n
     go true h = omega arith
@@ -42,8 +42,8 @@ bit-word_of (suc n) t i l = go (t n) refl (dec_lt i n) (bit-word_of n t i)
     go : (b : Bool) → t n ≡ b → Dec (i < n) → (i < n → bit (word_of n t) i ≡ t i) → bit (with_bit (word_of n t) n (t n)) i ≡ t i
     go true e (yes k) r = rw e (bit_under_top (word_of n t) n i k ∙ r k)
     go false e (yes k) r = rw e (r k)
-    go true e (no k) r = let s : i ≡ n = omega arith in rw (s, e) (bit_top (word_of n t) n (word_of-lt_lem n t))
-    go false e (no k) r = let s : i ≡ n = omega arith in rw (s, e) (bit_above (word_of n t) n n (word_of-lt_lem n t) (omega arith))
+    go true e (no k) r = let s : i ≡ n = omega arith in rw (s, e) (bit_top (word_of n t) n (word_of-lt n t))
+    go false e (no k) r = let s : i ≡ n = omega arith in rw (s, e) (bit_above (word_of n t) n n (word_of-lt n t) (omega arith))
 
 -- a word with these bits and no others is the word
 pub word_is : (n : ℕ) (t : ℕ → Bool) (v : ℕ) → ((i : ℕ) → i < n → bit v i ≡ t i) → ((i : ℕ) → n ≤ i → bit v i ≡ false) → v ≡ word_of n t
@@ -51,7 +51,7 @@ word_is n t v h k = bits_equal v (word_of n t) (λ i. every i (dec_lt i n))
   where
     every : (i : ℕ) → Dec (i < n) → bit v i ≡ bit (word_of n t) i
     every i (yes l) = h i l ∙ sym (bit-word_of n t i l)
-    every i (no l) = k i (omega arith) ∙ sym (bit_above (word_of n t) n i (word_of-lt_lem n t) (omega arith))
+    every i (no l) = k i (omega arith) ∙ sym (bit_above (word_of n t) n i (word_of-lt n t) (omega arith))
 
 -- ---- labels and masks by the event of a number
 pub label_same : (start : Cut) (ts us : List Event) (p n : ℕ) → event ts p n ≡ event us p n → label_of start ts p n ≡ label_of start us p n
@@ -87,14 +87,14 @@ module _ (W : World) (ts : List Event) (e : Event) (t : Ready e (taken ts)) (S :
 
   pub advanced-counts : (advanced (setting_of W ts e) f).counts ≡ list_of W.stored (apply e S)
   unfolding advanced frontier_of apply
-  advanced-counts = list_of-same_lem W.stored (apply e (at (list_of W.stored S))) (apply e S) (λ p l. rw (at-list_of W.stored S p l))
+  advanced-counts = list_of-same W.stored (apply e (at (list_of W.stored S))) (apply e S) (λ p l. rw (at-list_of W.stored S p l))
 
   pub advanced_labels : (advanced (setting_of W ts e) f).labels ≡ list_of W.stored (λ p. label_of W.start (e ∷ ts) p (apply e S p))
   unfolding advanced frontier_of label_of
-  advanced_labels = list_of-same_lem W.stored (λ p. cond (involved e p) (get_or e.labels p 0) (get_or f.labels p 0)) (λ p. label_of W.start (e ∷ ts) p (apply e S p))
+  advanced_labels = list_of-same W.stored (λ p. cond (involved e p) (get_or e.labels p 0) (get_or f.labels p 0)) (λ p. label_of W.start (e ∷ ts) p (apply e S p))
       (λ p l. rw (get_d_list_of W.stored (λ q. label_of W.start ts q (S q)) p 0 l) (view_advanced (W.start p) (λ g. get_or g.labels p 0) p))
 
   pub advanced_masks : (advanced (setting_of W ts e) f).masks ≡ list_of W.stored (λ p. mask_of (e ∷ ts) p (apply e S p))
   unfolding advanced frontier_of mask_of
-  advanced_masks = list_of-same_lem W.stored (λ p. cond (involved e p) e.mask (get_or f.masks p 0)) (λ p. mask_of (e ∷ ts) p (apply e S p))
+  advanced_masks = list_of-same W.stored (λ p. cond (involved e p) e.mask (get_or f.masks p 0)) (λ p. mask_of (e ∷ ts) p (apply e S p))
       (λ p l. rw (get_d_list_of W.stored (λ q. mask_of ts q (S q)) p 0 l) (view_advanced 0 (λ g. g.mask) p))

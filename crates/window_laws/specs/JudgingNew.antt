@@ -22,7 +22,7 @@ use Rattle.clocks.specs.cuts.PrecedingStep.{origin_precedes, precedes_new}
 use Rattle.clocks.specs.cuts.Preceding.{mask_precedes, precedes_last}
 use Rattle.clocks.specs.cuts.Step.{consistent-new, Advanced}
 use Rattle.clocks.specs.Counts.{at, list_of}
-use Rattle.clocks.specs.stored.CountsLaws.{get_d_list_of, list_of-same_lem, at-list_of}
+use Rattle.clocks.specs.stored.CountsLaws.{get_d_list_of, list_of-same, at-list_of}
 use Rattle.clocks.specs.Valid.{WellFormed, Takeable, History}
 use Rattle.clocks.specs.cuts.EventLaws.{either, true-T, ready-same, apply_next, apply_up, less-minus, less-apply}
 use Rattle.clocks.specs.stored.TestedLaws.{in_takeable, involved_below}
@@ -94,7 +94,7 @@ module _ (W : World) (valid : List Event → Event → Type 0) (ts : List Event)
   without_is : (p : ℕ) → p < W.stored → without_last s g p ≡ list_of W.stored (minus (mask_of us p (S p)) S)
   unfolding without_last minus
   without_is p l = rw (mask_at p l, advanced-counts W ts e tk.ready S₀ c₀ r₀)
-      (list_of-same_lem W.stored (minus (mask_of us p (S p)) (at (list_of W.stored S))) (minus (mask_of us p (S p)) S) (λ q k. rw (at-list_of W.stored S q k)))
+      (list_of-same W.stored (minus (mask_of us p (S p)) (at (list_of W.stored S))) (minus (mask_of us p (S p)) S) (λ q k. rw (at-list_of W.stored S q k)))
 
   -- ---- the frontiers laid down: kept cuts, and all kept cuts before the new one
   module _ (laid : List Cut) (sorted : Sorted W.stored laid) (kept : (R : Cut) → Memᴰ R laid → KeptIn W us R)

@@ -25,10 +25,10 @@ use Rattle.frontiers.specs.declared.Frontier.{Frontier}
 use Rattle.window_laws.specs.FrontierLaws.{word_is}
 use Rattle.window.specs.Start.{start_frontier}
 
-list_of-zeros_lem : (n : ℕ) (f : ℕ → ℕ) → ((p : ℕ) → f p ≡ 0) → list_of n f ≡ replicate n 0
+list_of-zeros : (n : ℕ) (f : ℕ → ℕ) → ((p : ℕ) → f p ≡ 0) → list_of n f ≡ replicate n 0
 unfolding list_of
-list_of-zeros_lem zero f h = refl
-list_of-zeros_lem (suc n) f h = rw (h 0, list_of-zeros_lem n (λ p. f (suc p)) (λ p. h (suc p)))
+list_of-zeros zero f h = refl
+list_of-zeros (suc n) f h = rw (h 0, list_of-zeros n (λ p. f (suc p)) (λ p. h (suc p)))
 
 module _ (W : World) (valid : List Event → Event → Type 0) (P : Proper W valid []) where
   abbrev M : Model
@@ -59,7 +59,7 @@ module _ (W : World) (valid : List Event → Event → Type 0) (P : Proper W val
       let v : judge (list_of W.stored W.start) 0 0 false W.table ≡ word_of (length W.table) (λ i. line_truth M W.table i zeros) =
       word_is (length W.table) (λ i. line_truth M W.table i zeros) (judge (list_of W.stored W.start) 0 0 false W.table) zeros_right
       (λ i l. judge_above (list_of W.stored W.start) 0 0 false W.table i l) in
-      rw (v, ← list_of-zeros_lem W.stored zeros (λ p. refl))
+      rw (v, ← list_of-zeros W.stored zeros (λ p. refl))
 
   -- ---- Theorem
   pub start_represents : Represents W [] (start_frontier W.stored (list_of W.stored W.start) W.table ∷ [])

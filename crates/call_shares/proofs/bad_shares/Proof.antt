@@ -9,7 +9,7 @@ use borrow.Author.Rules.{rules}
 use borrow.Author.Tests.{eq-eqb, ne_eqb, lt-ltb, le-ltb}
 use Rattle.clocks.specs.Bounded.{any_of}
 use Rattle.clocks.specs.Counts.{at}
-use Rattle.clocks.specs.stored.CountsLaws.{list_of-at_lem}
+use Rattle.clocks.specs.stored.CountsLaws.{list_of-at}
 use Rattle.clocks.specs.stored.SearchLaws.{passes_from, search_here, search_next, search_none}
 use Rattle.pool.specs.Pool.{sum_below}
 use Rattle.pool.specs.PoolLaws.{sum_next}
@@ -51,7 +51,7 @@ loop-holds : tie.Need-loop-init invariant-loop decreases-loop
 unfolding sum_below
 loop-holds c =
     let shares = c.before.before.before.args.shares.now in
-    (search rules, refl, search rules, ap (any_of empty) (sym (list_of-at_lem (length shares) shares refl)))
+    (search rules, refl, search rules, ap (any_of empty) (sym (list_of-at (length shares) shares refl)))
 
 mul_wide : tie.Need-overflow-mul-wide invariant-loop decreases-loop
 mul_wide c = search rules

@@ -6,7 +6,7 @@ use mathlib.Core.Bool.{Bool, true, false}
 use Rattle.clocks.specs.Event.{Cut}
 use Rattle.clocks.specs.Bounds.{upper}
 use Rattle.clocks.specs.Counts.{at, list_of}
-use Rattle.clocks.specs.stored.CountsLaws.{list_of-same_lem, at-list_of}
+use Rattle.clocks.specs.stored.CountsLaws.{list_of-same, at-list_of}
 use Rattle.clocks.specs.Joined.{join_to}
 
 module _ (n p : ℕ) (member : ℕ → Bool) (last : ℕ → Cut) where
@@ -15,10 +15,10 @@ module _ (n p : ℕ) (member : ℕ → Bool) (last : ℕ → Cut) where
   unfolding join_to
   join_next m =
       rw add-one
-      (list_of-same_lem n (upper (last p) (at (list_of n (join_to p member last)))) (join_to (suc p) member last)
+      (list_of-same n (upper (last p) (at (list_of n (join_to p member last)))) (join_to (suc p) member last)
       (λ q l. rw (m, at-list_of n (join_to p member last) q l)))
 
   -- and another's is passed over.
   pub join_skip : member p ≡ false → list_of n (join_to p member last) ≡ list_of n (join_to (p + 1) member last)
   unfolding join_to
-  join_skip m = rw add-one (list_of-same_lem n (join_to p member last) (join_to (suc p) member last) (λ q l. rw m))
+  join_skip m = rw add-one (list_of-same n (join_to p member last) (join_to (suc p) member last) (λ q l. rw m))

@@ -36,10 +36,10 @@ module _ {A : Type 0} where
       go (no j) = let s : p ≡ i = omega arith in rw s (get_or-set_same l i v d k ∙ e)
 
   -- Functions that agree below n have the same list.
-  pub list_of-same_lem : (n : ℕ) (f g : ℕ → A) → ((p : ℕ) → p < n → f p ≡ g p) → list_of n f ≡ list_of n g
+  pub list_of-same : (n : ℕ) (f g : ℕ → A) → ((p : ℕ) → p < n → f p ≡ g p) → list_of n f ≡ list_of n g
   unfolding list_of
-  list_of-same_lem zero f g h = refl
-  list_of-same_lem (suc n) f g h = rw (h 0 (omega arith), list_of-same_lem n (λ p. f (suc p)) (λ p. g (suc p)) (λ p l. h (suc p) (omega arith)))
+  list_of-same zero f g h = refl
+  list_of-same (suc n) f g h = rw (h 0 (omega arith), list_of-same n (λ p. f (suc p)) (λ p. g (suc p)) (λ p l. h (suc p) (omega arith)))
 
 -- ---- Of counts
 pub at-list_of : (n : ℕ) (f : ℕ → ℕ) (p : ℕ) → p < n → at (list_of n f) p ≡ f p
@@ -49,8 +49,8 @@ at-list_of n f p l = get_d_list_of n f p 0 l
 pub at_beyond : (l : List ℕ) (p : ℕ) → length l ≤ p → at l p ≡ 0
 at_beyond l p h = get_or-eq_default l 0 h
 
-pub list_of-at_lem : (n : ℕ) (l : List ℕ) → length l ≡ n → list_of n (at l) ≡ l
-list_of-at_lem n l e = sym (filled n (at l) 0 l e (λ p k. refl))
+pub list_of-at : (n : ℕ) (l : List ℕ) → length l ≡ n → list_of n (at l) ≡ l
+list_of-at n l e = sym (filled n (at l) 0 l e (λ p k. refl))
 
 -- a cut that counts nothing from n up is the cut of its list
 pub at-list_of-all : (n : ℕ) (f : Cut) → ((p : ℕ) → n ≤ p → f p ≡ 0) → at (list_of n f) ≡ f

@@ -25,15 +25,15 @@ blocks f (x ∷ xs) = f x ++ blocks f xs
 abbrev pub Even : {A : Type 0} → (A → List ℕ) → ℕ → List A → Type 0
 Even {A} f n xs = (x : A) → Memᴰ x xs → length (f x) ≡ n
 
-pub clock_bytes-blocks_lem : (w : ℕ) (cs : List (List ℕ)) → clock_bytes w cs ≡ blocks (count_bytes w) cs
+pub clock_bytes-blocks : (w : ℕ) (cs : List (List ℕ)) → clock_bytes w cs ≡ blocks (count_bytes w) cs
 unfolding clock_bytes blocks
-clock_bytes-blocks_lem w [] = refl
-clock_bytes-blocks_lem w (c ∷ cs) = rw (clock_bytes-blocks_lem w cs)
+clock_bytes-blocks w [] = refl
+clock_bytes-blocks w (c ∷ cs) = rw (clock_bytes-blocks w cs)
 
-pub events_bytes-blocks_lem : (w : ℕ) (es : List Event) → events_bytes w es ≡ blocks (event_bytes w) es
+pub events_bytes-blocks : (w : ℕ) (es : List Event) → events_bytes w es ≡ blocks (event_bytes w) es
 unfolding events_bytes blocks
-events_bytes-blocks_lem w [] = refl
-events_bytes-blocks_lem w (e ∷ es) = rw (events_bytes-blocks_lem w es)
+events_bytes-blocks w [] = refl
+events_bytes-blocks w (e ∷ es) = rw (events_bytes-blocks w es)
 
 module _ {A : Type 0} (f : A → List ℕ) where
   pub blocks-append : (xs ys : List A) → blocks f (xs ++ ys) ≡ blocks f xs ++ blocks f ys

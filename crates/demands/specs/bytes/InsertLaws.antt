@@ -121,16 +121,16 @@ module _ {A : Type 0} where
   -- ---- Both
 
   -- What was put in is left out again.
-  pub remove_at-insert_at_lem : (i : ℕ) (x : A) (xs : List A) → i ≤ length xs → remove_at i (insert_at i x xs) ≡ xs
+  pub remove_at-insert_at : (i : ℕ) (x : A) (xs : List A) → i ≤ length xs → remove_at i (insert_at i x xs) ≡ xs
   unfolding insert_at remove_at
-  remove_at-insert_at_lem zero x xs h = refl
-  remove_at-insert_at_lem (suc i) x [] h = absurd (omega arith)
-  remove_at-insert_at_lem (suc i) x (y ∷ ys) h = ap (λ (l : List A). y ∷ l) (remove_at-insert_at_lem i x ys (omega arith))
+  remove_at-insert_at zero x xs h = refl
+  remove_at-insert_at (suc i) x [] h = absurd (omega arith)
+  remove_at-insert_at (suc i) x (y ∷ ys) h = ap (λ (l : List A). y ∷ l) (remove_at-insert_at i x ys (omega arith))
 
   -- What was left out is put in again.
-  pub insert_at-remove_at_lem : (i : ℕ) (xs : List A) (d : A) → i < length xs → insert_at i (get_or xs i d) (remove_at i xs) ≡ xs
+  pub insert_at-remove_at : (i : ℕ) (xs : List A) (d : A) → i < length xs → insert_at i (get_or xs i d) (remove_at i xs) ≡ xs
   unfolding insert_at remove_at
-  insert_at-remove_at_lem zero [] d h = absurd (omega arith)
-  insert_at-remove_at_lem zero (y ∷ ys) d h = refl
-  insert_at-remove_at_lem (suc i) [] d h = absurd (omega arith)
-  insert_at-remove_at_lem (suc i) (y ∷ ys) d h = ap (λ (l : List A). y ∷ l) (insert_at-remove_at_lem i ys d (omega arith))
+  insert_at-remove_at zero [] d h = absurd (omega arith)
+  insert_at-remove_at zero (y ∷ ys) d h = refl
+  insert_at-remove_at (suc i) [] d h = absurd (omega arith)
+  insert_at-remove_at (suc i) (y ∷ ys) d h = ap (λ (l : List A). y ∷ l) (insert_at-remove_at i ys d (omega arith))

@@ -16,11 +16,11 @@ use Rattle.frontiers.specs.declared.Frontier.{Frontier}
 use Rattle.frontiers.specs.Bytes.{count_bytes, frontier_length, frontier_bytes, framed, window_bytes}
 use Rattle.frontiers.specs.Shaped.{Shaped, AllShaped}
 use Rattle.codec.specs.Little.{bytes_of, Bytes}
-use Rattle.frontiers.specs.BytesLaws.{length-count_bytes, count_bytes-append_lem, count_bytes-zeros_lem}
+use Rattle.frontiers.specs.BytesLaws.{length-count_bytes, count_bytes-append, count_bytes-zeros}
 use Rattle.records.specs.Record.{event_length, event_bytes, events_bytes}
 use Rattle.call_move.specs.Parts.{Part, plain, counts, many_of, event_parts, record_parts, frontier_parts, window_parts}
 use Rattle.call_move.specs.PartLengths.{length_of, part_length}
-use Rattle.call_move.specs.PartLaws.{length_of-repeated_lem, length-event_parts, length-window_parts}
+use Rattle.call_move.specs.PartLaws.{length_of-repeated, length-event_parts, length-window_parts}
 use Rattle.call_move.specs.CountLaws.{counts_read}
 use Rattle.call_move.specs.Move.{moved}
 use Rattle.demands.specs.Status.{Status, clock_bytes, record_bytes}
@@ -54,10 +54,10 @@ zeros-moved v w (plain n ∷ ps) =
     (plain_moved v w ps (zeros (length_of v ps)) n (zeros n) (length-replicate n 0)
     ∙ ap (λ (l : List ℕ). zeros n ++ l) (zeros-moved v w ps))
 zeros-moved v w (counts n ∷ ps) =
-    rw (← zeros-add (n * v) (length_of v ps), ← zeros-add (n * w) (length_of w ps), ← count_bytes-zeros_lem v n)
+    rw (← zeros-add (n * v) (length_of v ps), ← zeros-add (n * w) (length_of w ps), ← count_bytes-zeros v n)
     (counts-moved v w ps (zeros (length_of v ps)) n (list_of n (λ p. 0)) (length-list_of n (λ p. 0))
     (fit_list_of v n (λ p. 0) (λ p. pow_256_pos v))
-    ∙ ap₂ (λ (a b : List ℕ). a ++ b) (count_bytes-zeros_lem w n) (zeros-moved v w ps))
+    ∙ ap₂ (λ (a b : List ℕ). a ++ b) (count_bytes-zeros w n) (zeros-moved v w ps))
 
 -- ---- Pending events
 
@@ -86,7 +86,7 @@ module _ (v w : ℕ) where
     where
       length_events : (u : ℕ) → length_of u (many_of m event_parts) ≡ m * event_length u
       length_events u =
-          length_of-repeated_lem u m event_parts ∙ ap (λ (n : ℕ). m * n) (length-event_parts u)
+          length_of-repeated u m event_parts ∙ ap (λ (n : ℕ). m * n) (length-event_parts u)
   pending_moved (e ∷ es) h m =
       rw (suc-add, append_assoc, append_assoc)
       (event-moved e (h e (Memᴰ.head refl)) (many_of (length es + m) event_parts)
@@ -104,7 +104,7 @@ clock_bytes_flat : (w : ℕ) (cs : List (List ℕ)) → clock_bytes w cs ≡ cou
 unfolding clock_bytes count_bytes flat
 clock_bytes_flat w [] = refl
 clock_bytes_flat w (c ∷ cs) =
-    ap (λ (l : List ℕ). count_bytes w c ++ l) (clock_bytes_flat w cs) ∙ sym (count_bytes-append_lem w c (flat cs))
+    ap (λ (l : List ℕ). count_bytes w c ++ l) (clock_bytes_flat w cs) ∙ sym (count_bytes-append w c (flat cs))
 
 length_flat : (g : ℕ → Cut) → length (flat (clock_rows g)) ≡ 64
 unfolding list_of flat

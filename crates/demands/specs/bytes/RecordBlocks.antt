@@ -17,7 +17,7 @@ use Rattle.clocks.specs.Event.{Cut}
 use Rattle.clocks.specs.Counts.{at, list_of}
 use Rattle.clocks.specs.stored.CountsLaws.{length-list_of, get_d_list_of, at-list_of, at_beyond}
 use Rattle.demands.specs.bytes.PlaceLaws.{zeros}
-use Rattle.demands.specs.bytes.BlockLaws.{Even, clock_bytes-blocks_lem, events_bytes-blocks_lem, length-blocks}
+use Rattle.demands.specs.bytes.BlockLaws.{Even, clock_bytes-blocks, events_bytes-blocks, length-blocks}
 use Rattle.records.specs.Record.{event_length, event_bytes, events_bytes}
 use Rattle.demands.specs.Status.{Status, clock_bytes, record_bytes}
 use Rattle.demands.specs.bytes.StoredLaws.{length-counts, length-event_bytes}
@@ -43,10 +43,10 @@ front_bytes w t waiting =
     head_bytes t.processes (length t.table) waiting t.closed t.kept
     ++ count_bytes w (list_of 8 t.counts) ++ clock_bytes w (clock_rows t.clocks) ++ table_block t.table
 
-pub record_bytes-blocks_lem : (w : ℕ) (t : Status)
+pub record_bytes-blocks : (w : ℕ) (t : Status)
     → record_bytes w t ≡ front_bytes w t (length t.pending) ++ pending_block w t.pending
 unfolding record_bytes
-record_bytes-blocks_lem w t = refl
+record_bytes-blocks w t = refl
 
 -- What stands before one of the blocks, and what stands behind it.
 abbrev pub head_of : Status → List ℕ
@@ -134,7 +134,7 @@ even_clocks w g c m =
 pub length_clocks : (w : ℕ) (g : ℕ → Cut) → length (clock_bytes w (clock_rows g)) ≡ 64 * w
 length_clocks w g =
     rw (
-      clock_bytes-blocks_lem w (clock_rows g),
+      clock_bytes-blocks w (clock_rows g),
       length-blocks (count_bytes w) (8 * w) (clock_rows g) (even_clocks w g),
       length-list_of 8 (λ p. list_of 8 (g p)),
     )
@@ -153,7 +153,7 @@ even_pending w es h e m = length-event_bytes w e (h e m)
 pub length-events_bytes : (w : ℕ) (es : List Event) → AllStorable w es
     → length (events_bytes w es) ≡ length es * event_length w
 length-events_bytes w es h =
-    rw (events_bytes-blocks_lem w es) (length-blocks (event_bytes w) (event_length w) es (even_pending w es h))
+    rw (events_bytes-blocks w es) (length-blocks (event_bytes w) (event_length w) es (even_pending w es h))
 
 pub length-pending_block : (w : ℕ) (es : List Event) → length es ≤ 32 → AllStorable w es
     → length (pending_block w es) ≡ 32 * event_length w

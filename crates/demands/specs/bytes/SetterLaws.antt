@@ -8,33 +8,33 @@ use Rattle.std.proofs.Math.ListN.{length}
 use Rattle.std.proofs.lemmas.List.Edits.{sets}
 use Rattle.codec.specs.Little.{bytes_of, put}
 use Rattle.codec.specs.LittleLaws.{length-bytes_of}
-use Rattle.frontiers.specs.BytesLaws.{count-within, count_bytes-zeros_lem}
+use Rattle.frontiers.specs.BytesLaws.{count-within, count_bytes-zeros}
 use Rattle.frontiers.specs.Bytes.{count_bytes}
 use Rattle.clocks.specs.Event.{Cut, count, involved, apply}
 use Rattle.clocks.specs.Counts.{list_of, at}
-use Rattle.clocks.specs.stored.CountsLaws.{length-list_of, get_d_list_of, filled, list_of-same_lem, at-list_of, list_of-at_lem}
+use Rattle.clocks.specs.stored.CountsLaws.{length-list_of, get_d_list_of, filled, list_of-same, at-list_of, list_of-at}
 use Rattle.pactl.specs.declared.Line.{Line}
 use Rattle.clocks.specs.declared.Event.{Event}
 use Rattle.pactl.specs.TableLaws.{length-table_bytes}
 use Rattle.pactl.specs.Table.{table_bytes}
 use Rattle.demands.specs.bytes.PlaceLaws.{sets_over, sets_inside, zeros, zeros-add}
-use Rattle.demands.specs.bytes.BlockLaws.{clock_bytes-blocks_lem, blocks-set}
+use Rattle.demands.specs.bytes.BlockLaws.{clock_bytes-blocks, blocks-set}
 use Rattle.records.specs.Record.{taken_place, clocks_place, closed_set, clocks_set, counted, event_length, events_bytes}
 use Rattle.demands.specs.bytes.RecordBlocks.{clock_rows, head_of, before_clocks, after_clocks, after_counts, after_head, kept_split, counts_split, clocks_split, length-head_of, length-eight, even_clocks, length_clocks, length-before_clocks, head_bytes}
 use Rattle.demands.specs.Status.{Status, clock_bytes, record_bytes}
 use Rattle.demands.specs.bytes.StoredLaws.{length-counts}
 use Rattle.call_open.specs.Open.{first_record}
-use Rattle.demands.specs.bytes.RecordLaws.{taken_counts-record_bytes_lem}
+use Rattle.demands.specs.bytes.RecordLaws.{taken_counts-record_bytes}
 use Rattle.demands.specs.bytes.Sized.{Sized, with_closed, with_taken, first_status}
 
 -- ---- Records with the same stored fields have the same bytes
 
-pub record_bytes-same_lem : (w : ℕ) (t u : Status)
+pub record_bytes-same : (w : ℕ) (t u : Status)
     → t.processes ≡ u.processes → t.table ≡ u.table → t.closed ≡ u.closed → t.kept ≡ u.kept
     → list_of 8 t.counts ≡ list_of 8 u.counts → clock_rows t.clocks ≡ clock_rows u.clocks
     → t.pending ≡ u.pending → record_bytes w t ≡ record_bytes w u
 unfolding record_bytes
-record_bytes-same_lem w t u k l x f c g p = rw (k, l, x, f, c, g, p)
+record_bytes-same w t u k l x f c g p = rw (k, l, x, f, c, g, p)
 
 -- ---- One field stored
 
@@ -120,15 +120,15 @@ module _ (w : ℕ) (t : Status) where
 
       inside : sets (clock_bytes w old) (p * (8 * w)) (count_bytes w c) ≡ clock_bytes w (clock_rows g)
       inside =
-          rw (clock_bytes-blocks_lem w old, clock_bytes-blocks_lem w (clock_rows g), ← new)
+          rw (clock_bytes-blocks w old, clock_bytes-blocks w (clock_rows g), ← new)
           (blocks-set (count_bytes w) (8 * w) old (even_clocks w t.clocks) p c in_old (length-counts w c eight))
 
 -- ---- A process closed
 
-pub closed_set-record_bytes_lem : (w : ℕ) (t : Status) (closed kept : ℕ)
+pub closed_set-record_bytes : (w : ℕ) (t : Status) (closed kept : ℕ)
     → closed_set (record_bytes w t) closed kept ≡ record_bytes w (with_closed t closed kept)
 unfolding closed_set
-closed_set-record_bytes_lem w t closed kept = rw (one, put_kept w (with_closed t closed t.kept) kept)
+closed_set-record_bytes w t closed kept = rw (one, put_kept w (with_closed t closed t.kept) kept)
   where
     one : set (record_bytes w t) 3 closed ≡ record_bytes w (with_closed t closed t.kept)
     one = unfold record_bytes in refl
@@ -139,9 +139,9 @@ closed_set-record_bytes_lem w t closed kept = rw (one, put_kept w (with_closed t
 abbrev clocks_below : Status → Event → ℕ → ℕ → Cut
 clocks_below t e n q = cond (ltb q n) (cond (involved e q) (count e) (t.clocks q)) (t.clocks q)
 
-clocks_below-within_lem : (t : Status) (e : Event) (n q : ℕ) → q < n
+clocks_below-within : (t : Status) (e : Event) (n q : ℕ) → q < n
     → clocks_below t e n q ≡ cond (involved e q) (count e) (t.clocks q)
-clocks_below-within_lem t e n q l = rw (lt-ltb q n l)
+clocks_below-within t e n q l = rw (lt-ltb q n l)
 
 clocks_below_beyond : (t : Status) (e : Event) (n q : ℕ) → n ≤ q → clocks_below t e n q ≡ t.clocks q
 clocks_below_beyond t e n q l = rw (le-ltb q n l)
@@ -151,20 +151,20 @@ clocks_below_elsewhere : (t : Status) (e : Event) (p q : ℕ) → q ≢ p → cl
 clocks_below_elsewhere t e p q n = go (dec_lt q p)
   where
     go : Dec (q < p) → clocks_below t e p q ≡ clocks_below t e (suc p) q
-    go (yes l) = clocks_below-within_lem t e p q l ∙ sym (clocks_below-within_lem t e (suc p) q (omega arith))
+    go (yes l) = clocks_below-within t e p q l ∙ sym (clocks_below-within t e (suc p) q (omega arith))
     go (no l) = clocks_below_beyond t e p q (omega arith) ∙ sym (clocks_below_beyond t e (suc p) q (omega arith))
 
 eight-counts-same : (e : Event) → length e.clock ≡ 8 → e.clock ≡ list_of 8 (count e)
 unfolding count
-eight-counts-same e h = sym (list_of-at_lem 8 e.clock h)
+eight-counts-same e h = sym (list_of-at 8 e.clock h)
 
-clocks_set-record_bytes_lem : (w : ℕ) (t : Status) (e : Event) → length e.clock ≡ 8 → (n : ℕ) → n ≤ 8
+clocks_set-record_bytes : (w : ℕ) (t : Status) (e : Event) → length e.clock ≡ 8 → (n : ℕ) → n ≤ 8
     → clocks_set w n (record_bytes w t) e ≡ record_bytes w (with_clocks t (clocks_below t e n))
 unfolding clocks_set
-clocks_set-record_bytes_lem w t e eight zero l =
+clocks_set-record_bytes w t e eight zero l =
     ap (λ (g : ℕ → Cut). record_bytes w (with_clocks t g)) (fun_ext (λ q. sym (clocks_below_beyond t e 0 q (omega arith))))
-clocks_set-record_bytes_lem w t e eight (suc p) l =
-    rw (clocks_set-record_bytes_lem w t e eight p (omega arith)) (go (involved e p) refl)
+clocks_set-record_bytes w t e eight (suc p) l =
+    rw (clocks_set-record_bytes w t e eight p (omega arith)) (go (involved e p) refl)
   where
     s : List ℕ
     s = record_bytes w (with_clocks t (clocks_below t e p))
@@ -174,35 +174,35 @@ clocks_set-record_bytes_lem w t e eight (suc p) l =
         ≡ record_bytes w (with_clocks t (clocks_below t e (suc p)))
     go true h =
         sets_clock w (with_clocks t (clocks_below t e p)) p e.clock (clocks_below t e (suc p)) l eight
-        (eight-counts-same e eight ∙ ap (list_of 8) (sym (clocks_below-within_lem t e (suc p) p (omega arith) ∙ rw h)))
+        (eight-counts-same e eight ∙ ap (list_of 8) (sym (clocks_below-within t e (suc p) p (omega arith) ∙ rw h)))
         (λ q m n. ap (list_of 8) (clocks_below_elsewhere t e p q n))
     go false h = ap (λ (g : ℕ → Cut). record_bytes w (with_clocks t g)) (fun_ext (λ q. one q (ℕ_discrete q p)))
       where
         one : (q : ℕ) → Dec (q ≡ p) → clocks_below t e p q ≡ clocks_below t e (suc p) q
         one q (yes m) = rw m
-            (clocks_below_beyond t e p p (omega arith) ∙ sym (clocks_below-within_lem t e (suc p) p (omega arith) ∙ rw h))
+            (clocks_below_beyond t e p p (omega arith) ∙ sym (clocks_below-within t e (suc p) p (omega arith) ∙ rw h))
         one q (no m) = clocks_below_elsewhere t e p q m
 
 -- The counts with the event, of the stored counts and of the counts themselves.
 applied_list_of : (e : Event) (f : Cut) → list_of 8 (apply e (at (list_of 8 f))) ≡ list_of 8 (apply e f)
 unfolding apply
-applied_list_of e f = list_of-same_lem 8 (apply e (at (list_of 8 f))) (apply e f) (λ p l. rw (at-list_of 8 f p l))
+applied_list_of e f = list_of-same 8 (apply e (at (list_of 8 f))) (apply e f) (λ p l. rw (at-list_of 8 f p l))
 
 pub counted-record_bytes : (w : ℕ) (t : Status) → Sized w t → (e : Event) (kept : ℕ) → length e.clock ≡ 8
     → counted w (record_bytes w t) e kept ≡ record_bytes w (with_taken t e kept)
 unfolding counted
 counted-record_bytes w t z e kept eight =
     rw (
-      taken_counts-record_bytes_lem w t z,
+      taken_counts-record_bytes w t z,
       applied_list_of e t.counts,
       put_kept w t kept,
       sets-counts w (with_kept t kept) (apply e t.counts),
-      clocks_set-record_bytes_lem w (with_counts (with_kept t kept) (apply e t.counts)) e eight 8 (lit≤ tt),
+      clocks_set-record_bytes w (with_counts (with_kept t kept) (apply e t.counts)) e eight 8 (lit≤ tt),
     )
-    (record_bytes-same_lem w (with_clocks (with_counts (with_kept t kept) (apply e t.counts)) (clocks_below t e 8))
+    (record_bytes-same w (with_clocks (with_counts (with_kept t kept) (apply e t.counts)) (clocks_below t e 8))
     (with_taken t e kept) refl refl refl refl refl
-    (list_of-same_lem 8 (λ p. list_of 8 (clocks_below t e 8 p)) (λ p. list_of 8 (cond (involved e p) (count e) (t.clocks p)))
-    (λ p l. ap (list_of 8) (clocks_below-within_lem t e 8 p l))) refl)
+    (list_of-same 8 (λ p. list_of 8 (clocks_below t e 8 p)) (λ p. list_of 8 (cond (involved e p) (count e) (t.clocks p)))
+    (λ p l. ap (list_of 8) (clocks_below-within t e 8 p l))) refl)
 
 -- ---- A new watch
 
@@ -211,14 +211,14 @@ unfolding clock_bytes list_of
 clocks_zeros w zero = rw zero-mul
 clocks_zeros w (suc n) =
     let far : suc n * (8 * w) ≡ 8 * w + n * (8 * w) = omega (arith, suc-mul n (8 * w)) in
-    rw (far, ← zeros-add (8 * w) (n * (8 * w)), clocks_zeros w n, ← count_bytes-zeros_lem w 8)
+    rw (far, ← zeros-add (8 * w) (n * (8 * w)), clocks_zeros w n, ← count_bytes-zeros w 8)
 
-pub first_record-record_bytes_lem : (w k : ℕ) (ls : List Line) → first_record w k ls ≡ record_bytes w (first_status k ls)
+pub first_record-record_bytes : (w k : ℕ) (ls : List Line) → first_record w k ls ≡ record_bytes w (first_status k ls)
 unfolding first_record record_bytes events_bytes
-first_record-record_bytes_lem w k ls =
+first_record-record_bytes w k ls =
     let sum : 72 * w ≡ 8 * w + 8 * (8 * w) = omega arith in
     let many : zeros (72 * w) ≡ zeros (8 * w) ++ zeros (8 * (8 * w)) = rw sum (sym (zeros-add (8 * w) (8 * (8 * w)))) in
-    rw (length-table_bytes ls, many, count_bytes-zeros_lem w 8, clocks_zeros w 8)
+    rw (length-table_bytes ls, many, count_bytes-zeros w 8, clocks_zeros w 8)
     (regroup (head_bytes k (length ls) 0 0 1) (zeros (8 * w)) (zeros (8 * (8 * w))) (table_bytes ls)
     (zeros (192 - 3 * length ls)) (zeros (32 * event_length w)))
   where

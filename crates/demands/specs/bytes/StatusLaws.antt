@@ -13,10 +13,10 @@ use Rattle.pactl.specs.Table.{table_bytes}
 use Rattle.demands.specs.bytes.InsertLaws.{length-insert_at, member_insert_at, length-remove_at, member_remove_at}
 use Rattle.records.specs.Record.{process_count, closed_mask, kept_count, taken_counts, last_clocks, table_lines, pending_events}
 use Rattle.demands.specs.bytes.RecordBlocks.{clock_rows, AllStorable}
-use Rattle.demands.specs.bytes.PendingLaws.{pending_events-record_bytes_lem}
-use Rattle.demands.specs.bytes.SetterLaws.{record_bytes-same_lem}
+use Rattle.demands.specs.bytes.PendingLaws.{pending_events-record_bytes}
+use Rattle.demands.specs.bytes.SetterLaws.{record_bytes-same}
 use Rattle.demands.specs.Status.{Status, record_bytes, insert_at, remove_at}
-use Rattle.demands.specs.bytes.RecordLaws.{process_count-record_bytes_lem, closed_mask-record_bytes_lem, table_lines-record_bytes_lem, kept_count-record_bytes_lem, taken_counts-record_bytes_lem, last_clocks-record_bytes_lem}
+use Rattle.demands.specs.bytes.RecordLaws.{process_count-record_bytes, closed_mask-record_bytes, table_lines-record_bytes, kept_count-record_bytes, taken_counts-record_bytes, last_clocks-record_bytes}
 use Rattle.demands.specs.bytes.Sized.{Storable, Sized, with_pending, with_taken, first_status}
 
 -- Two records with the same bytes have the same stored fields.
@@ -29,21 +29,21 @@ pub record Alike (t u : Status) : Type 0 where
   pub clocks_same : clock_rows t.clocks ≡ clock_rows u.clocks
   pub pending_same : t.pending ≡ u.pending
 
-pub record_bytes-alike_lem : (w : ℕ) (t u : Status) → Alike t u → record_bytes w t ≡ record_bytes w u
-record_bytes-alike_lem w t u a =
-    record_bytes-same_lem w t u a.processes_same a.table_same a.closed_same a.kept_same a.counts_same
+pub record_bytes-alike : (w : ℕ) (t u : Status) → Alike t u → record_bytes w t ≡ record_bytes w u
+record_bytes-alike w t u a =
+    record_bytes-same w t u a.processes_same a.table_same a.closed_same a.kept_same a.counts_same
     a.clocks_same a.pending_same
 
 pub record_bytes_injective : (w : ℕ) (t u : Status) → Sized w t → Sized w u → record_bytes w t ≡ record_bytes w u
     → Alike t u
 record_bytes_injective w t u y z e = record {
-  processes_same = sym (process_count-record_bytes_lem w t) ∙ ap process_count e ∙ process_count-record_bytes_lem w u;
-  table_same = sym (table_lines-record_bytes_lem w t) ∙ ap (table_lines w) e ∙ table_lines-record_bytes_lem w u;
-  closed_same = sym (closed_mask-record_bytes_lem w t) ∙ ap closed_mask e ∙ closed_mask-record_bytes_lem w u;
-  kept_same = sym (kept_count-record_bytes_lem w t y) ∙ ap kept_count e ∙ kept_count-record_bytes_lem w u z;
-  counts_same = sym (taken_counts-record_bytes_lem w t y) ∙ ap (taken_counts w) e ∙ taken_counts-record_bytes_lem w u z;
-  clocks_same = sym (last_clocks-record_bytes_lem w t y) ∙ ap (last_clocks w) e ∙ last_clocks-record_bytes_lem w u z;
-  pending_same = sym (pending_events-record_bytes_lem w t y) ∙ ap (pending_events w) e ∙ pending_events-record_bytes_lem w u z;
+  processes_same = sym (process_count-record_bytes w t) ∙ ap process_count e ∙ process_count-record_bytes w u;
+  table_same = sym (table_lines-record_bytes w t) ∙ ap (table_lines w) e ∙ table_lines-record_bytes w u;
+  closed_same = sym (closed_mask-record_bytes w t) ∙ ap closed_mask e ∙ closed_mask-record_bytes w u;
+  kept_same = sym (kept_count-record_bytes w t y) ∙ ap kept_count e ∙ kept_count-record_bytes w u z;
+  counts_same = sym (taken_counts-record_bytes w t y) ∙ ap (taken_counts w) e ∙ taken_counts-record_bytes w u z;
+  clocks_same = sym (last_clocks-record_bytes w t y) ∙ ap (last_clocks w) e ∙ last_clocks-record_bytes w u z;
+  pending_same = sym (pending_events-record_bytes w t y) ∙ ap (pending_events w) e ∙ pending_events-record_bytes w u z;
 }
 
 -- ---- What the calls lead to

@@ -30,7 +30,7 @@ use Rattle.call_close.specs.Close.{closing, remaining, close_process}
 use Rattle.demands.specs.Ledger.{Ledger}
 use Rattle.demands.specs.World.{world_of, status_of, Valid, Open}
 use Rattle.demands.specs.Watching.{Rule, Watching}
-use Rattle.demands.specs.bytes.SetterLaws.{closed_set-record_bytes_lem}
+use Rattle.demands.specs.bytes.SetterLaws.{closed_set-record_bytes}
 use Rattle.demands.specs.calls.KeptCutsLaws.{open_bit}
 use Rattle.demands.specs.calls.StoredFits.{proper, causal_history, kept_shaped, all_shaped}
 use Rattle.demands.specs.calls.WatchingLaws.{says_processes, says_closed, says_pending, says_taken, says_frontiers}
@@ -130,7 +130,7 @@ module _ (w k : ℕ) (table : List Line) (start : Cut) (R : Rule w k table start
   closed_watching = record {
     kept = gs;
     bytes_are = ap (λ (s : List ℕ). closed_set s closed' (length gs)) X.bytes_are
-        ∙ closed_set-record_bytes_lem w (status_of k table (length X.kept) L) closed' (length gs);
+        ∙ closed_set-record_bytes w (status_of k table (length X.kept) L) closed' (length gs);
     window_is = ap (λ (t : ℕ). window_bytes w t gs) (sym long);
     room = omega (arith, long, room);
     few = le_trans fewer X.few;

@@ -30,7 +30,7 @@ use Rattle.rules.specs.reading.ReaderAccepts.{reader_accepts}
 use Rattle.rules.specs.lines.LineLaws.{length-lines_at, line_count_pos, good_lines_at}
 use Rattle.clocks.specs.History.{taken, last_clock, event, clock_of}
 use Rattle.clocks.specs.Event.{Cut}
-use Rattle.clocks.specs.stored.CountsLaws.{list_of-at_lem}
+use Rattle.clocks.specs.stored.CountsLaws.{list_of-at}
 use Rattle.refusals.specs.Refusals.{bad_record_length, bad_window_length, bad_processes}
 use Rattle.call_open.specs.Open.{open_table, open_read, open_call}
 use Rattle.answers.specs.Answer.{turned_back}
@@ -38,7 +38,7 @@ use Rattle.demands.specs.calls.AfterCall.{WatchRight}
 use Rattle.demands.specs.Watching.{Rule}
 use Rattle.demands.specs.Run.{Watch, opened}
 use Rattle.demands.specs.Status.{record_bytes}
-use Rattle.demands.specs.bytes.SetterLaws.{first_record-record_bytes_lem}
+use Rattle.demands.specs.bytes.SetterLaws.{first_record-record_bytes}
 use Rattle.demands.specs.calls.StoredFits.{all_shaped}
 use Rattle.demands.specs.World.{world_of, Valid}
 use Rattle.demands.specs.calls.ValidRule.{valid_rule}
@@ -156,7 +156,7 @@ module _ (w : ℕ) (text : List ℕ) (k : ℕ) (labels window : List ℕ) (some_
         good = opened_rule.good;
       } in
       subst (λ (ls : List ℕ). Represents (world_of k 0 table (at labels)) [] (start_frontier 8 ls table ∷ []))
-      (list_of-at_lem 8 labels eight) (start_represents (world_of k 0 table (at labels)) Valid P)
+      (list_of-at 8 labels eight) (start_represents (world_of k 0 table (at labels)) Valid P)
 
   one_frontier : 1 * frontier_length w ≤ length window
   unfolding bad_window_length
@@ -179,7 +179,7 @@ module _ (w : ℕ) (text : List ℕ) (k : ℕ) (labels window : List ℕ) (some_
   opened_right = record {
     kept = start_frontier 8 labels table ∷ [];
     bytes_are =
-        first_record-record_bytes_lem w k table
+        first_record-record_bytes w k table
         ∙ ap₂ (λ (c : Cut) (d : ℕ → Cut). record_bytes w
         (record { processes = k; table = table; closed = 0; kept = 1; counts = c; clocks = d; pending = [] }))
         no_counts no_clocks;

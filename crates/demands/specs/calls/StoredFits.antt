@@ -20,7 +20,7 @@ use Rattle.clocks.specs.validity.ClockRule.{history_causal}
 use Rattle.clocks.specs.cuts.HistoryLaws.{event_exists, event_numbered}
 use Rattle.clocks.specs.Valid.{History}
 use Rattle.clocks.specs.cuts.CausalLaws.{clock_some, clock_cases, count-number}
-use Rattle.window_laws.specs.FrontierLaws.{word_of-lt_lem}
+use Rattle.window_laws.specs.FrontierLaws.{word_of-lt}
 use Rattle.window.specs.Lists.{mapped_e}
 use Rattle.frontiers.specs.Shaped.{Shaped, AllShaped}
 use Rattle.pactl.specs.Truth.{line_truth}
@@ -85,7 +85,7 @@ module _ (w : ℕ) (ts : List Event) (c : Causal ts) (s : (e : Event) → In e t
         (λ q. view_fits 0 (λ f. f.mask) 256 q (S q) (omega arith) (λ f t. t.mask_fits));
     values_fit = omega (
       arith,
-      word_of-lt_lem (length table) (λ j. line_truth (model_of (world_of k closed table start) ts) table j S),
+      word_of-lt (length table) (λ j. line_truth (model_of (world_of k closed table start) ts) table j S),
       pow_mono short,
     );
   }

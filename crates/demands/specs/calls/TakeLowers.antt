@@ -7,7 +7,7 @@ use Rattle.pactl.specs.declared.Line.{Line}
 use Rattle.clocks.specs.Event.{Cut}
 use Rattle.demands.specs.Watching.{Rule, Watching}
 use Rattle.records.specs.Record.{pending_count}
-use Rattle.demands.specs.bytes.RecordLaws.{pending_count-record_bytes_lem}
+use Rattle.demands.specs.bytes.RecordLaws.{pending_count-record_bytes}
 use Rattle.demands.specs.Status.{remove_at}
 use Rattle.trial.specs.Trial.{valid_among, Decision, undecided}
 use Rattle.call_take.specs.Take.{allowed_of, take_capped, Taken, decided}
@@ -25,7 +25,7 @@ module _ (w k : ℕ) (table : List Line) (start : Cut) (R : Rule w k table start
 
   -- the record's number of pending events is the ledger's
   many : (M : Ledger) (s window : List ℕ) → Watching w k table start M s window → pending_count s ≡ length M.pending
-  many M s window Y = ap pending_count Y.bytes_are ∙ pending_count-record_bytes_lem w _
+  many M s window Y = ap pending_count Y.bytes_are ∙ pending_count-record_bytes w _
 
   -- ---- Theorem
   pub take_lowers : took.answer ≢ nothing_ready → took.answer ≢ turned_back 6 0 → took.answer ≢ turned_back 36 0

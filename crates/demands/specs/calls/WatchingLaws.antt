@@ -32,8 +32,8 @@ use Rattle.refusals.specs.Refusals.{bad_processes, bad_state}
 use Rattle.demands.specs.Ledger.{Ledger}
 use Rattle.demands.specs.Status.{Status}
 use Rattle.trial.specs.Trial.{valid_among, setting_in}
-use Rattle.demands.specs.bytes.PendingLaws.{pending_at-record_bytes_lem, pending_events-record_bytes_lem}
-use Rattle.demands.specs.bytes.RecordLaws.{process_count-record_bytes_lem, line_total-record_bytes_lem, pending_count-record_bytes_lem, closed_mask-record_bytes_lem, table_lines-record_bytes_lem, length-record_bytes, kept_count-record_bytes_lem, taken_counts-record_bytes_lem, last_clocks-record_bytes_lem}
+use Rattle.demands.specs.bytes.PendingLaws.{pending_at-record_bytes, pending_events-record_bytes}
+use Rattle.demands.specs.bytes.RecordLaws.{process_count-record_bytes, line_total-record_bytes, pending_count-record_bytes, closed_mask-record_bytes, table_lines-record_bytes, length-record_bytes, kept_count-record_bytes, taken_counts-record_bytes, last_clocks-record_bytes}
 use Rattle.demands.specs.calls.StoredFits.{proper, sized, kept_shaped}
 use Rattle.demands.specs.World.{world_of, status_of, Valid, Open}
 use Rattle.demands.specs.bytes.Sized.{Sized}
@@ -63,38 +63,38 @@ module _ (w k : ℕ) (table : List Line) (start : Cut) (R : Rule w k table start
   bytes_long = ap length X.bytes_are ∙ length-record_bytes w status z
 
   pub says_processes : process_count bytes ≡ k
-  says_processes = ap process_count X.bytes_are ∙ process_count-record_bytes_lem w status
+  says_processes = ap process_count X.bytes_are ∙ process_count-record_bytes w status
 
   pub says_lines : line_total bytes ≡ length table
-  says_lines = ap line_total X.bytes_are ∙ line_total-record_bytes_lem w status
+  says_lines = ap line_total X.bytes_are ∙ line_total-record_bytes w status
 
   pub says_many : pending_count bytes ≡ length L.pending
-  says_many = ap pending_count X.bytes_are ∙ pending_count-record_bytes_lem w status
+  says_many = ap pending_count X.bytes_are ∙ pending_count-record_bytes w status
 
   pub says_closed : closed_mask bytes ≡ L.closed
-  says_closed = ap closed_mask X.bytes_are ∙ closed_mask-record_bytes_lem w status
+  says_closed = ap closed_mask X.bytes_are ∙ closed_mask-record_bytes w status
 
   pub says_kept : kept_count bytes ≡ length X.kept
-  says_kept = ap kept_count X.bytes_are ∙ kept_count-record_bytes_lem w status z
+  says_kept = ap kept_count X.bytes_are ∙ kept_count-record_bytes w status z
 
   pub says_table : table_lines w bytes ≡ table
-  says_table = ap (table_lines w) X.bytes_are ∙ table_lines-record_bytes_lem w status
+  says_table = ap (table_lines w) X.bytes_are ∙ table_lines-record_bytes w status
 
   pub says_pending : pending_events w bytes ≡ L.pending
-  says_pending = ap (pending_events w) X.bytes_are ∙ pending_events-record_bytes_lem w status z
+  says_pending = ap (pending_events w) X.bytes_are ∙ pending_events-record_bytes w status z
 
   pub says_event : (i : ℕ) (d : Event) → i < length L.pending → pending_at w bytes i ≡ get_or L.pending i d
-  says_event i d l = ap (λ (s : List ℕ). pending_at w s i) X.bytes_are ∙ pending_at-record_bytes_lem w status z i d l
+  says_event i d l = ap (λ (s : List ℕ). pending_at w s i) X.bytes_are ∙ pending_at-record_bytes w status z i d l
 
   -- the taken counts, from 8 up too
   pub says_taken : at (taken_counts w bytes) ≡ taken ts
-  says_taken = ap (λ (s : List ℕ). at (taken_counts w s)) X.bytes_are ∙ ap at (taken_counts-record_bytes_lem w status z)
+  says_taken = ap (λ (s : List ℕ). at (taken_counts w s)) X.bytes_are ∙ ap at (taken_counts-record_bytes w status z)
       ∙ at-list_of-all 8 (taken ts) (λ p l. taken-silent k Valid ts history p (omega (arith, R.eight_processes)))
 
   pub says_clocks : (p q : ℕ) → p < 8 → q < 8 → clock_rows (last_clocks w bytes) p q ≡ last_clock ts p q
   says_clocks p q l j =
       ap (λ (cs : List (List ℕ)). clock_rows cs p q) (ap (last_clocks w) X.bytes_are
-      ∙ last_clocks-record_bytes_lem w status z)
+      ∙ last_clocks-record_bytes w status z)
       ∙ ap (λ (c : List ℕ). at c q) (get_d_list_of 8 (λ x. list_of 8 (last_clock ts x)) p [] l)
       ∙ at-list_of 8 (last_clock ts p) q j
 

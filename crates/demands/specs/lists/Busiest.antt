@@ -11,7 +11,7 @@ use Rattle.clocks.specs.Causal.{Causal}
 use Rattle.clocks.specs.Valid.{History}
 use Rattle.clocks.specs.Counts.{at, list_of}
 use Rattle.clocks.specs.cuts.SameEvents.{Same, same_taken}
-use Rattle.clocks.specs.stored.CountsLaws.{length-list_of, list_of-same_lem, at-list_of-all}
+use Rattle.clocks.specs.stored.CountsLaws.{length-list_of, list_of-same, at-list_of-all}
 use Rattle.clocks.specs.validity.ClockRule.{history_causal, taken-silent}
 use Rattle.rules.specs.Formula.{Formula}
 use Rattle.rules.specs.Line.{lines_at}
@@ -158,7 +158,7 @@ module _ (w k : ℕ) (f : Formula) (start : Cut) (Z : Watch) (S : Sound w k f st
         (history_causal k Valid (valid_rule k) days past) s in
         by_counts plain
         ∙ ap sharing_keeps
-        (list_of-same_lem k (taken ts) (share k n)
+        (list_of-same k (taken ts) (share k n)
         (λ p l. ap (λ (C : Cut). C p) counted ∙ day_taken k d.eight_processes (share k n) p l))
         ∙ sym (value v k n events m given)
 

@@ -20,7 +20,7 @@ use Rattle.call_busiest.specs.BusiestExact.{Day}
 use Rattle.call_busiest.specs.BusiestTheorem.{busiest_exact}
 use Rattle.sharing_laws.specs.DayLaws.{single_most, day_history, day_alone, day_member, length-day}
 use Rattle.demands.specs.statements.Busiest.{Gives, listed, DayIsListed}
-use Rattle.demands.specs.bytes.BlockLaws.{blocks, events_bytes-blocks_lem, block_apart, length_before}
+use Rattle.demands.specs.bytes.BlockLaws.{blocks, events_bytes-blocks, block_apart, length_before}
 use Rattle.demands.specs.bytes.PlaceLaws.{Bytes-zeros}
 use Rattle.demands.specs.bytes.RecordBlocks.{AllStorable, even_pending}
 use Rattle.demands.specs.bytes.Sized.{Storable}
@@ -41,7 +41,7 @@ events_read v es fit = sym (filled (length es) _ none es refl (λ i l. sym (one 
         let before : List ℕ = blocks (event_bytes v) (take i es) in
         let behind : List ℕ = blocks (event_bytes v) (drop (suc i) es) ++ [] in
         let split : events_bytes v es ≡ ([] ++ before) ++ (event_bytes v e ++ behind) =
-        events_bytes-blocks_lem v es ∙ sym (append-nil (blocks (event_bytes v) es))
+        events_bytes-blocks v es ∙ sym (append-nil (blocks (event_bytes v) es))
         ∙ block_apart (event_bytes v) es i none l [] [] in
         ap (λ (s : List ℕ). event_from v s (i * event_length v)) split
         ∙ event_from_bytes v e (fit e (place_member es i none l)) ([] ++ before) behind (i * event_length v)

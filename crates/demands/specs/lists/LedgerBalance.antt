@@ -7,7 +7,7 @@ use Rattle.pactl.specs.declared.Line.{Line}
 use Rattle.clocks.specs.declared.Event.{Event}
 use Rattle.clocks.specs.Event.{Cut, one}
 use Rattle.clocks.specs.SameEvent.{same_event}
-use Rattle.demands.specs.bytes.InsertLaws.{length-insert_at, length-remove_at, insert_at-remove_at_lem}
+use Rattle.demands.specs.bytes.InsertLaws.{length-insert_at, length-remove_at, insert_at-remove_at}
 use Rattle.demands.specs.Watching.{Rule, Watching}
 use Rattle.records.specs.Record.{pending_at, pending_events}
 use Rattle.call_take.specs.Take.{allowed_of}
@@ -45,7 +45,7 @@ occurs_insert e i x xs = omega (
 pub occurs_remove : (e : Event) (i : ℕ) (xs : List Event) (d : Event) → i < length xs
     → one (same_event e (get_or xs i d)) + occurrences e (remove_at i xs) ≡ occurrences e xs
 occurs_remove e i xs d l =
-    sym (occurs_insert e i (get_or xs i d) (remove_at i xs)) ∙ ap (occurrences e) (insert_at-remove_at_lem i xs d l)
+    sym (occurs_insert e i (get_or xs i d) (remove_at i xs)) ∙ ap (occurrences e) (insert_at-remove_at i xs d l)
 
 -- ---- The balance of a watch
 abbrev pub WatchBalanced : Watch → Type 0

@@ -6,7 +6,7 @@ use Rattle.std.proofs.Common.{◌∙◌, arith}
 use mathlib.Core.List.{List}
 use Rattle.clocks.specs.declared.Event.{Event}
 use Rattle.codec.specs.BitLaws.{bit_above}
-use Rattle.window_laws.specs.FrontierLaws.{word_of-lt_lem, bit-word_of}
+use Rattle.window_laws.specs.FrontierLaws.{word_of-lt, bit-word_of}
 use Rattle.window_laws.specs.FrontierOf.{World, model_of, word_of, frontier_of}
 use Rattle.frontiers.specs.Bytes.{frontiers}
 use Rattle.rules.specs.Line.{lines_at}
@@ -62,7 +62,7 @@ module _ (w k : ℕ) (f : Formula) (start : Cut) (Z : Watch) (S : Sound w k f st
         line_true = λ C i l. bit-word_of (length table) (λ j. line_truth (model_of W ts) table j C) i l;
         no_more_bits = λ C i l.
             bit_above (word_of (length table) (λ j. line_truth (model_of W ts) table j C)) (length table) i
-            (word_of-lt_lem (length table) (λ j. line_truth (model_of W ts) table j C)) l;
+            (word_of-lt (length table) (λ j. line_truth (model_of W ts) table j C)) l;
         rule_true =
             ap (λ (n : ℕ). line_truth (model_of W ts) table (n - 1)) (length-lines_at 0 f) ∙ rule_means (model_of W ts) f;
         history_true = X.right.by_rule;

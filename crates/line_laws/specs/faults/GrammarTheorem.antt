@@ -4,7 +4,7 @@ use Rattle.std.specs.Prelude.{ℕ, ◌+◌, ◌≤◌, ◌<◌, ◌≡◌, refl,
 use Rattle.std.proofs.Common.{arith, sym, ap, ◌∙◌, inl, inr, length-take, take_all, take-take, get_or-take, length-take-le, ltb-true, ltb-false}
 use Rattle.rules.specs.Text.{byte_at}
 use Rattle.rules.specs.grammar.FirstBytes.{begun_nil}
-use Rattle.rules.specs.reading.WordsAnswered.{stands_to-same_lem}
+use Rattle.rules.specs.reading.WordsAnswered.{stands_to-same}
 use Rattle.line_pieces.specs.declared.Read.{Read}
 use Rattle.line_pieces.specs.declared.Read.TheVariants.{At, Refused}
 use Rattle.line_pieces.specs.Reading.{then_end}
@@ -58,7 +58,7 @@ unfolding line_read then_end place_in
 never-one s t ps m i d u h k e =
     go (read_pieces s ps (At 0 0))
     (pieces_met m s ps t 0 (At 0 0) u d
-    (stands_to-same_lem m s 0 t (λ l p q. let z : 0 + l ≡ l = omega arith in rw z (h l p (omega arith)))) (inl (0, refl))) e
+    (stands_to-same m s 0 t (λ l p q. let z : 0 + l ≡ l = omega arith in rw z (h l p (omega arith)))) (inl (0, refl))) e
   where
     ends : (j v : ℕ) → then_end s (At j v) ≡ Refused 1 i → (j ≡ i) × (j < length s)
     ends j v q = if_known (λ (r : Read). r ≡ Refused 1 i → (j ≡ i) × (j < length s)) (ltb j (length s)) (Refused 1 j)

@@ -6,7 +6,7 @@ use Rattle.std.proofs.Math.Decide.{dec_lt}
 use Rattle.std.proofs.lemmas.Bool.{false≢true}
 use Rattle.codec.specs.Bit.{bit}
 use Rattle.clocks.specs.Counts.{at}
-use Rattle.clocks.specs.stored.CountsLaws.{at-list_of, at_beyond, length-list_of, list_of-at_lem}
+use Rattle.clocks.specs.stored.CountsLaws.{at-list_of, at_beyond, length-list_of, list_of-at}
 use Rattle.call_words.specs.Words.{unpack_labels}
 use Rattle.line_pieces.specs.declared.Read.TheVariants.{At}
 use Rattle.line_pieces.specs.NumberList.{eight_values}
@@ -86,7 +86,7 @@ module _ (ps cs ls : List ℕ) (processes : InLimits true 0 process_limit ps) (c
   unpacked p =
       let l = placed (length ps) (at ps) (at ls) in
       ap (λ (x : List ℕ). at x p)
-      (labels_unpacked l placed-small ∙ list_of-at_lem 8 l (length-placed (length ps) (at ps) (at ls)))
+      (labels_unpacked l placed-small ∙ list_of-at 8 l (length-placed (length ps) (at ps) (at ls)))
 
   pub words_offer : Offers (packed_word 2 (placed (length ps) (at ps) (λ j. 1))) (clock_word cs 0)
       (clock_word cs 1) (clock_word cs 2) (clock_word cs 3)
@@ -124,7 +124,7 @@ eight-small ls h p = go (dec_lt p 8)
 eight_unpacked : (ls : List ℕ) → InLimits false 0 label_limit ls → unpack_labels (packed_word 256 (eight_values ls))
     ≡ eight_values ls
 eight_unpacked ls h = labels_unpacked (eight_values ls) (eight-small ls h)
-    ∙ list_of-at_lem 8 (eight_values ls) (length-list_of 8 (at ls))
+    ∙ list_of-at 8 (eight_values ls) (length-list_of 8 (at ls))
 
 -- ---- The theorem
 

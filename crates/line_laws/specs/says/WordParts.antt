@@ -4,7 +4,7 @@ use Rattle.std.proofs.Common.{div-one, mod-eq_of_lt, mod-lt, zero-add, mul-zero,
 use Rattle.std.proofs.Math.Nat.{zero-div, mod-mod, div-div-eq-div-mul, pow-succ', add-mul-mod_self_left, add-mul-div_left, div-eq_of_lt, pow-zero}
 use Rattle.codec.specs.Bit.{bit}
 use Rattle.clocks.specs.Counts.{at, list_of}
-use Rattle.clocks.specs.stored.CountsLaws.{list_of-same_lem}
+use Rattle.clocks.specs.stored.CountsLaws.{list_of-same}
 use Rattle.call_words.specs.Words.{part, unpack_counts, unpack_labels}
 use Rattle.line_pieces.specs.NumberList.{eight_values}
 use Rattle.lines.specs.Words.{packed_word}
@@ -49,7 +49,7 @@ part_is bits base e vs i h = rw (two_to bits i, e) (word-part base (omega (arith
 
 pub labels_unpacked : (vs : List ℕ) → ((p : ℕ) → at vs p < 256) → unpack_labels (packed_word 256 vs) ≡ eight_values vs
 unfolding unpack_labels
-labels_unpacked vs h = list_of-same_lem 8 (part 8 (packed_word 256 vs)) (at vs) (λ p _. part_is 8 256 refl vs p (h p))
+labels_unpacked vs h = list_of-same 8 (part 8 (packed_word 256 vs)) (at vs) (λ p _. part_is 8 256 refl vs p (h p))
 
 -- Two counts in a word.
 two_parts : (a b : ℕ) → a < count_limit + 1 → b < count_limit + 1

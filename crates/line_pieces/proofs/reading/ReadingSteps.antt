@@ -16,9 +16,9 @@ pub then_bytes_next : (s bs : List ℕ) (i : ℕ) (r : Read) → i < length bs
 unfolding then_bytes
 then_bytes_next s bs i r h = rw (drop-cons bs i 0 h, add-one i)
 
-pub then_bytes-end_lem : (s bs : List ℕ) (i : ℕ) (r : Read) → length bs ≤ i → then_bytes s (drop i bs) r ≡ r
+pub then_bytes-end : (s bs : List ℕ) (i : ℕ) (r : Read) → length bs ≤ i → then_bytes s (drop i bs) r ≡ r
 unfolding then_bytes
-then_bytes-end_lem s bs i r h = rw (drop_of_length-le bs h)
+then_bytes-end s bs i r h = rw (drop_of_length-le bs h)
 
 -- A line within the limit keeps its reading.
 pub limited_short : (s : List ℕ) (r : Read) → length s ≤ line_limit → limited s r ≡ r

@@ -7,7 +7,7 @@ use mathlib.Core.List.{List}
 use lib.ListN.{length, replicate, get_or-replicate, take, drop}
 use lib.Seq.{take_all}
 use Rattle.clocks.specs.Counts.{at}
-use Rattle.clocks.specs.stored.CountsLaws.{length-list_of, list_of-at_lem, at-list_of}
+use Rattle.clocks.specs.stored.CountsLaws.{length-list_of, list_of-at, at-list_of}
 use Rattle.codec.specs.Ascii.{ascii}
 use Rattle.line_pieces.specs.declared.Read.{Read}
 use Rattle.line_pieces.specs.declared.Read.TheVariants.{At, Refused}
@@ -30,7 +30,7 @@ did_eight n processes counts labels (At i v) h =
     let same : (l : List ℕ) (j : ℕ) → j < n → at (eight_values l) j ≡ at l j =
     λ l j p. at-list_of 8 (at l) j (omega arith) in
     rw (
-      list_of-at_lem 8 (eight_values counts) (length-list_of 8 (at counts)),
+      list_of-at 8 (eight_values counts) (length-list_of 8 (at counts)),
       placed_same n (at (eight_values processes)) (at processes) (λ j. 1) (λ j. 1) (same processes) (λ j p. refl),
       placed_same n (at (eight_values processes)) (at processes) (at (eight_values labels)) (at labels) (same processes)
           (same labels),
@@ -59,7 +59,7 @@ words_made n processes counts labels marks placed' i v mask c01 c23 c45 c67 word
     in
     rw (
       ones,
-      list_of-at_lem 8 counts l,
+      list_of-at 8 counts l,
       e,
       e₀,
       e₁,

@@ -18,7 +18,7 @@ use Rattle.rules.specs.declared.Read.TheVariants.{Refused}
 use Rattle.rules.specs.Line.{lines_before, lines_after, lines_between, lines_after_both, line_count}
 use Rattle.rules.proofs.LayingSteps.{done_refused, done_close}
 use Rattle.rules.specs.Laying.{Laid, close_read, Done, Room}
-use Rattle.rules.proofs.FormSteps.{Opened, form_at-word_lem, InnerDone, fault_done, unary_fault, unary_form, unary_laid, binary_fault, binary-second_fault, binary_form, binary_laid}
+use Rattle.rules.proofs.FormSteps.{Opened, form_at-word, InnerDone, fault_done, unary_fault, unary_form, unary_laid, binary_fault, binary-second_fault, binary_form, binary_laid}
 use Rattle.rules.specs.Formula.{unary, binary}
 use Rattle.rules.specs.lines.LineLaws.{length-unary, length-binary}
 use Rattle.rules.specs.Reader.{inner_with, unary_with, binary_with, body_with, form_at}
@@ -73,7 +73,7 @@ word_room {a} {s} {laid} {closed} {i} {table} {word} o m =
 pub word-done : {a : ℕ} {s : List ℕ} {laid closed i : ℕ} {old new : List ℕ} {r : Read} {word : WordRead} (k : ℕ)
     → Opened a s i word → Done laid closed old new (body_with (form_at (a - 1) s k) s k closed word) r
     → Done laid closed old new (form_at a s k closed i) r
-word-done {a} {s} {laid} {closed} {i} {old} {new} {r} {word} k o d = rw (form_at-word_lem a s k closed i word o) d
+word-done {a} {s} {laid} {closed} {i} {old} {new} {r} {word} k o d = rw (form_at-word a s k closed i word o) d
 
 -- Behind the last form inside, which ends at place j and before line `end`: that is behind line `last`, and there is
 -- room for the lines that the word has after it.

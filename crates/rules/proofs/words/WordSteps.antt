@@ -22,6 +22,6 @@ rest_at_next s i j letters word h =
     let e : i + (j + 1) ≡ i + j + 1 = omega arith in
     rw (drop-cons letters j 0 h, e, add-one j)
 
-pub rest_at-end_lem : (s : List ℕ) (i j : ℕ) (letters : List ℕ) (word : WordRead) → length letters ≤ j → rest_at s (i + j) (drop j letters) word ≡ word
+pub rest_at-end : (s : List ℕ) (i j : ℕ) (letters : List ℕ) (word : WordRead) → length letters ≤ j → rest_at s (i + j) (drop j letters) word ≡ word
 unfolding rest_at
-rest_at-end_lem s i j letters word h = rw (drop_of_length-le letters h)
+rest_at-end s i j letters word h = rw (drop_of_length-le letters h)

@@ -21,8 +21,8 @@ use Rattle.rules.specs.declared.Binary.{Binary}
 use Rattle.rules.specs.declared.WordRead.{WordRead}
 use Rattle.rules.specs.declared.WordRead.TheVariants.{AtWord, ConstantWord, UnaryWord, BinaryWord, NoWord}
 use Rattle.rules.specs.Line.{line_count}
-use Rattle.rules.specs.reading.ReaderLaws.{Sound, inner_formed, form_at-formed_lem}
-use Rattle.rules.specs.grammar.PartialWords.{WordBegun, IfNoWord, word_at-begun_lem}
+use Rattle.rules.specs.reading.ReaderLaws.{Sound, inner_formed, form_at-formed}
+use Rattle.rules.specs.grammar.PartialWords.{WordBegun, IfNoWord, word_at-begun}
 
 module _ (s : List ℕ) (k : ℕ) where
   atom_out : (cs : List Frame) (closed i l : ℕ) → Reached s k cs i → closed ≡ closed_lines cs → byte_at s i ≡ 40 → Span s (i + 1) (ascii "at") l
@@ -146,5 +146,5 @@ module _ (s : List ℕ) (k : ℕ) where
   form_at_stops (suc a) cs closed i room lines x =
       expect_out s k i 40 _ (no_bracket cs i x)
       (λ b.
-      body_out a (form_at a s k) (form_at-formed_lem s k a) (form_at_stops a) cs closed i (word_at s (i + 1)) room lines x b
-      (opened_clean s k cs i x (omega arith) b) (word_at_span s (i + 1)) (word_at-begun_lem s (i + 1)))
+      body_out a (form_at a s k) (form_at-formed s k a) (form_at_stops a) cs closed i (word_at s (i + 1)) room lines x b
+      (opened_clean s k cs i x (omega arith) b) (word_at_span s (i + 1)) (word_at-begun s (i + 1)))

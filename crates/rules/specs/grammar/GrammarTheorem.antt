@@ -12,7 +12,7 @@ use Rattle.rules.specs.grammar.LimitFaults.{Stopped, Outcome}
 use Rattle.rules.specs.Text.{byte_at, text_of, Grammatical}
 use Rattle.rules.specs.reading.ReaderAccepts.{read_begun, start_met, Accepted, accepted}
 use Rattle.rules.specs.grammar.FormFaults.{form_at_stops}
-use Rattle.rules.specs.reading.ReaderLaws.{form_at-formed_lem}
+use Rattle.rules.specs.reading.ReaderLaws.{form_at-formed}
 use Rattle.rules.specs.Fault.{Fault1, Fault, FirstFault, ReaderFindsFirstFault, ReaderAcceptsFaultless}
 use Rattle.rules.specs.reading.FormsAnswered.{Exact, Met}
 use Rattle.rules.specs.Formula.{Formula}
@@ -68,7 +68,7 @@ module _ (s : List ℕ) (k : ℕ) where
   behind_first : (j : ℕ) (f : Formula) → form_at 32 s k 0 0 ≡ formed j f → Clean s k j → j < length s → FirstFault 1 s k j
   unfolding Exact place
   behind_first j f e clean h =
-      let read = form_at-formed_lem s k 32 0 0 j f e in
+      let read = form_at-formed s k 32 0 0 j f e in
       stop_first s k j (record { bytes = text_of f; begun = read_begun read; viable = viable_text f read.digits; clean = clean })
       (λ g digits agree longer. go g (longer h) (subst (Met (j + 1) (Exact 32 k 0 0 g)) e (start_met (j + 1) s k g digits agree)))
     where
@@ -114,7 +114,7 @@ module _ (s : List ℕ) (k : ℕ) where
       x = accepted s k i f h
 
       digits : Grammatical f
-      digits = (form_at-formed_lem s k 32 0 0 i f x.start).digits
+      digits = (form_at-formed s k 32 0 0 i f x.start).digits
 
       clean : Clean s k i
       clean = subst (Outcome s k) x.start (start_outcome s k)

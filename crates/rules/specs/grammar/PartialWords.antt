@@ -89,9 +89,9 @@ module _ (s : List ℕ) (i : ℕ) where
   first-begun b bs word p plains v e =
       rest-begun P s (i + 1) bs word p (λ j xs ys. begun-rest s i (i + 1) j (b ∷ []) bs xs ys plains v (span_byte s i b e))
 
-  pub word_at-begun_lem : P (word_at s i)
+  pub word_at-begun : P (word_at s i)
   unfolding IfNoWord word_at constant_letters unary_letters binary_letters
-  word_at-begun_lem =
+  word_at-begun =
       let c = byte_at s i in
       if_byte P c 97 _ _ a_word_begun
       (λ _. if_byte P c 101 _ _ e_word_begun

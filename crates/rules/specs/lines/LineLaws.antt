@@ -75,14 +75,14 @@ line_count_pos (binary w f g) = omega (arith, line_count_pos f)
 and_i : {a b : Bool} → a ≡ true → b ≡ true → (a && b) ≡ true
 and_i p q = rw (p, q)
 
-good_from-append_lem : (k i : ℕ) (xs ys : List Line) → good_from k i (xs ++ ys) ≡ (good_from k i xs && good_from k (i + length xs) ys)
+good_from-append : (k i : ℕ) (xs ys : List Line) → good_from k i (xs ++ ys) ≡ (good_from k i xs && good_from k (i + length xs) ys)
 unfolding good_from
-good_from-append_lem k i [] ys = rw (add-zero i)
-good_from-append_lem k i (x ∷ xs) ys =
-    rw (good_from-append_lem k (i + 1) xs ys, add-suc i (length xs), ← suc-add i (length xs), ← add-one i, and_assoc)
+good_from-append k i [] ys = rw (add-zero i)
+good_from-append k i (x ∷ xs) ys =
+    rw (good_from-append k (i + 1) xs ys, add-suc i (length xs), ← suc-add i (length xs), ← add-one i, and_assoc)
 
 good_append : (k i j : ℕ) (xs ys : List Line) → good_from k i xs ≡ true → j ≡ i + length xs → good_from k j ys ≡ true → good_from k i (xs ++ ys) ≡ true
-good_append k i j xs ys p e q = good_from-append_lem k i xs ys ∙ and_i p (rw (← e) q)
+good_append k i j xs ys p e q = good_from-append k i xs ys ∙ and_i p (rw (← e) q)
 
 module _ (k i : ℕ) where
   good_proposition : (p b : ℕ) → p < k → b ≤ 7 → good_line k i (proposition_line p b) ≡ true
@@ -122,7 +122,7 @@ module _ (k : ℕ) (hk : 0 < k) where
   unfolding constant_lines
   good_constant True n = good_true n
   good_constant False n =
-      good_from-append_lem k n (true_lines n) (not_line (n + 3) ∷ [])
+      good_from-append k n (true_lines n) (not_line (n + 3) ∷ [])
       ∙ and_i (good_true n) (unfold good_from true_lines in (and_i (good_not k (n + 4) (n + 3) (omega arith)) refl))
 
   good_before : (w : Unary) (n : ℕ) → good_from k n (lines_before w n) ≡ true
@@ -248,19 +248,19 @@ raised-after-both As n a b = refl
 raised-after-both Or n a b = simp add_assoc
 
 -- The lines of a form laid down n further on name every line n further on.
-pub lines_at-raised_lem : (n m : ℕ) (f : Formula) → lines_at (n + m) f ≡ map (raised n) (lines_at m f)
+pub lines_at-raised : (n m : ℕ) (f : Formula) → lines_at (n + m) f ≡ map (raised n) (lines_at m f)
 unfolding lines_at
-lines_at-raised_lem n m (atom p b) = unfold raised in refl
-lines_at-raised_lem n m (constant w) = raised-constant w n m
-lines_at-raised_lem n m (unary w f) =
+lines_at-raised n m (atom p b) = unfold raised in refl
+lines_at-raised n m (constant w) = raised-constant w n m
+lines_at-raised n m (unary w f) =
     let l = m + length (lines_before w m) in
     let e₁ : n + m + length (lines_before w (n + m)) ≡ n + l =
     omega (arith, ap length (raised-before w n m) ∙ length-map (lines_before w m) (raised n))
     in
     let e₂ : last_line (n + l) f ≡ n + last_line l f = omega (arith, line_count_pos f) in
-    rw (e₁, e₂, add_assoc n m 3, raised-before w n m, lines_at-raised_lem n l f, raised-after w n (m + 3) (last_line l f))
+    rw (e₁, e₂, add_assoc n m 3, raised-before w n m, lines_at-raised n l f, raised-after w n (m + 3) (last_line l f))
     (sym (simp map-append))
-lines_at-raised_lem n m (binary w f g) =
+lines_at-raised n m (binary w f g) =
     let a = last_line m f in
     let l = m + line_count f + length (lines_between w a) in
     let e₁ : last_line (n + m) f ≡ n + a = omega (arith, line_count_pos f) in
@@ -268,5 +268,5 @@ lines_at-raised_lem n m (binary w f g) =
     omega (arith, ap length (raised-between w n a) ∙ length-map (lines_between w a) (raised n))
     in
     let e₃ : last_line (n + l) g ≡ n + last_line l g = omega (arith, line_count_pos g) in
-    rw (e₁, e₂, e₃, lines_at-raised_lem n m f, raised-between w n a, lines_at-raised_lem n l g, raised-after-both w n a (last_line l g))
+    rw (e₁, e₂, e₃, lines_at-raised n m f, raised-between w n a, lines_at-raised n l g, raised-after-both w n a (last_line l g))
     (sym (simp map-append))

@@ -12,7 +12,7 @@ use Rattle.rules.specs.Line.{line_count, lines_at}
 use Rattle.rules.specs.lines.LineLaws.{length-lines_at, good_lines_at}
 use Rattle.pactl.specs.Table.{table_bytes, good_table}
 use Rattle.pactl.specs.TableBytes.{lines_of}
-use Rattle.pactl.specs.TableBytesLaws.{lines_of-table_bytes_lem}
+use Rattle.pactl.specs.TableBytesLaws.{lines_of-table_bytes}
 use Rattle.pactl.specs.TableLaws.{length-table_bytes}
 use Rattle.rules.specs.Reader.{formed, faulty, and_then, form_at, read_rule}
 use Rattle.rules.specs.Laying.{lay}
@@ -85,9 +85,9 @@ length-table_of f h =
     let size : length zeros ≡ 192 - 3 * line_count f = length-replicate {A = ℕ} (192 - 3 * line_count f) 0 in
     length-append bs zeros ∙ omega arith
 
-pub lines_of-table_of_lem : (f : Formula) → lines_of (table_of f) (line_count f) ≡ lines_at 0 f
+pub lines_of-table_of : (f : Formula) → lines_of (table_of f) (line_count f) ≡ lines_at 0 f
 unfolding table_of
-lines_of-table_of_lem f = rw (length-lines_at 0 f) at (lines_of-table_bytes_lem (lines_at 0 f) (replicate (192 - 3 * line_count f) 0))
+lines_of-table_of f = rw (length-lines_at 0 f) at (lines_of-table_bytes (lines_at 0 f) (replicate (192 - 3 * line_count f) 0))
 
 pub good_table_of : (k : ℕ) (f : Formula) → 0 < k → AtomsBelow k f → good_table k (lines_of (table_of f) (line_count f)) ≡ true
-good_table_of k f h b = rw (lines_of-table_of_lem f) (good_lines_at k h 0 f b)
+good_table_of k f h b = rw (lines_of-table_of f) (good_lines_at k h 0 f b)

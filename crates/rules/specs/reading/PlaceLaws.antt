@@ -17,7 +17,7 @@ use Rattle.rules.specs.Text.{byte_at, constant_letters, unary_letters, binary_le
 use Rattle.rules.specs.Reader.{word_at, Reading, formed, faulty, and_then, expect, expect_digit, close_at, atom_at, inner_with, unary_with, binary_with, body_with, form_at, read_rule}
 use Rattle.rules.specs.Fault.{FaultPlaceBelow1024}
 use Rattle.rules.specs.reading.WordLaws.{WordSpan, word_at_span, if_byte}
-use Rattle.rules.specs.reading.ReaderLaws.{form_at-formed_lem, Sound, inner_formed}
+use Rattle.rules.specs.reading.ReaderLaws.{form_at-formed, Sound, inner_formed}
 
 -- Words and texts are short
 
@@ -142,14 +142,14 @@ module _ (s : List ℕ) (k : ℕ) where
   form_at_by zero closed i = expect_by _ s i 40 (faulty 2 i) (omega arith) (unfold FaultBy in (omega arith))
   form_at_by (suc a) closed i =
       expect_by _ s i 40 _ (omega arith)
-      (body_by a (form_at a s k) (form_at-formed_lem s k a) (form_at_by a) closed i (word_at s (i + 1)) (word_at_span s (i + 1)))
+      (body_by a (form_at a s k) (form_at-formed s k a) (form_at_by a) closed i (word_at s (i + 1)) (word_at_span s (i + 1)))
 
 read_rule_by : (s : List ℕ) (k : ℕ) → FaultBy 832 (read_rule s k)
 unfolding read_rule FaultBy
 read_rule_by s k =
     and_then_by 832 (form_at 32 s k 0 0) _ (form_at_by s k 32 0 0)
     (λ j f e.
-    let x = form_at-formed_lem s k 32 0 0 j f e in
+    let x = form_at-formed s k 32 0 0 j f e in
     cond_by 832 (ltb j (length s)) (faulty 1 j) (formed j f) (omega (arith, x.span.ends, x.short, length-text_of f))
     tt)
 

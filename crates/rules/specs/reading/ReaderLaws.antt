@@ -36,10 +36,10 @@ pub record Digit (s : List ℕ) (i bound d : ℕ) : Type 0 where
   pub ten : d ≤ 9
   pub less : d < bound
 
-pub expect_digit-formed_lem : (s : List ℕ) (i bound : ℕ) (r : Reading) {j : ℕ} {f : Formula}
+pub expect_digit-formed : (s : List ℕ) (i bound : ℕ) (r : Reading) {j : ℕ} {f : Formula}
     → expect_digit s i bound r ≡ formed j f → Digit s i bound (byte_at s i - 48) × (r ≡ formed j f)
 unfolding expect_digit
-expect_digit-formed_lem s i bound r {j} {f} = go (leb 48 c) (leb c 57) (ltb (c - 48) bound) refl refl refl
+expect_digit-formed s i bound r {j} {f} = go (leb 48 c) (leb c 57) (ltb (c - 48) bound) refl refl refl
   where
     c : ℕ
     c = byte_at s i
@@ -58,9 +58,9 @@ pub record Closed (s : List ℕ) (closed i : ℕ) (f : Formula) (j : ℕ) (g : F
   pub next : j ≡ i + 1
   pub same : f ≡ g
 
-pub close_at-formed_lem : (s : List ℕ) (closed i : ℕ) (f : Formula) {j : ℕ} {g : Formula} → close_at s closed i f ≡ formed j g → Closed s closed i f j g
+pub close_at-formed : (s : List ℕ) (closed i : ℕ) (f : Formula) {j : ℕ} {g : Formula} → close_at s closed i f ≡ formed j g → Closed s closed i f j g
 unfolding close_at
-close_at-formed_lem s closed i f {j} {g} h =
+close_at-formed s closed i f {j} {g} h =
     let e = expect-formed s i 41 (cond (leb (closed + line_count f) 64) (formed (i + 1) f) (faulty 3 i)) h in
     go (leb (closed + line_count f) 64) refl e.0 e.1
   where
@@ -69,11 +69,11 @@ close_at-formed_lem s closed i f {j} {g} h =
     go true l b e = record { bracket = b; short = leb-true _ _ l; next = cc; same = cc }
     go false l b e = absurd (refused-formed e)
 
-pub and_then-formed_lem : (r : Reading) (next : ℕ → Formula → Reading) {j : ℕ} {f : Formula}
+pub and_then-formed : (r : Reading) (next : ℕ → Formula → Reading) {j : ℕ} {f : Formula}
     → and_then r next ≡ formed j f → (l : ℕ) × (g : Formula) × (r ≡ formed l g) × (next l g ≡ formed j f)
 unfolding and_then
-and_then-formed_lem (formed l g) next h = (l, g, refl, h)
-and_then-formed_lem (faulty n i) next h = absurd (refused-formed h)
+and_then-formed (formed l g) next h = (l, g, refl, h)
+and_then-formed (faulty n i) next h = absurd (refused-formed h)
 
 -- A form that was read
 
@@ -97,10 +97,10 @@ module _ (s : List ℕ) (k : ℕ) where
   unfolding atom_at
   atom-formed a closed i j l f e w h =
       let x₁ = expect-formed s l 32 _ h in
-      let x₂ = expect_digit-formed_lem s (l + 1) k _ x₁.1 in
+      let x₂ = expect_digit-formed s (l + 1) k _ x₁.1 in
       let x₃ = expect-formed s (l + 2) 32 _ x₂.1 in
-      let x₄ = expect_digit-formed_lem s (l + 3) 8 _ x₃.1 in
-      let c = close_at-formed_lem s closed (l + 4) _ x₄.1 in
+      let x₄ = expect_digit-formed s (l + 3) 8 _ x₃.1 in
+      let c = close_at-formed s closed (l + 4) _ x₄.1 in
       let p = byte_at s (l + 1) - 48 in
       let b = byte_at s (l + 3) - 48 in
       read_close (suc a) closed i (l + 4) j (atom p b) f c
@@ -119,7 +119,7 @@ module _ (s : List ℕ) (k : ℕ) where
   constant-formed : (a closed i j l : ℕ) (f : Formula) (w : Constant) → byte_at s i ≡ 40 → Span s (i + 1) (constant_letters w) l
       → close_at s closed l (constant w) ≡ formed j f → FormRead (suc a) s k closed i j f
   constant-formed a closed i j l f w e q h =
-      let c = close_at-formed_lem s closed l (constant w) h in
+      let c = close_at-formed s closed l (constant w) h in
       read_close (suc a) closed i l j (constant w) f c
       (unfold text_of in (span_append (span_byte s i 40 e) (span_append q (span_byte s l 41 c.bracket))))
       (unfold Atoms in tt)
@@ -141,11 +141,11 @@ module _ (s : List ℕ) (k : ℕ) where
       → byte_at s i ≡ 40 → Span s (i + 1) (unary_letters w) l → unary_with reader s w closed l ≡ formed j f → FormRead (suc a) s k closed i j f
   unfolding unary_with
   unary-formed a reader sound closed i j l f w e q h =
-      let x = and_then-formed_lem (inner_with reader s closed l) _ h in
+      let x = and_then-formed (inner_with reader s closed l) _ h in
       let m = x.0 in
       let g = x.1 in
       let y = inner_formed a reader sound closed l m g x.2 in
-      let c = close_at-formed_lem s closed m (unary w g) x.3 in
+      let c = close_at-formed s closed m (unary w g) x.3 in
       read_close (suc a) closed i m j (unary w g) f c
       (unfold text_of in
       (span_append (span_byte s i 40 e)
@@ -160,15 +160,15 @@ module _ (s : List ℕ) (k : ℕ) where
       → byte_at s i ≡ 40 → Span s (i + 1) (binary_letters w) l → binary_with reader s w closed l ≡ formed j f → FormRead (suc a) s k closed i j f
   unfolding binary_with
   binary-formed a reader sound closed i j l f w e q h =
-      let x = and_then-formed_lem (inner_with reader s closed l) _ h in
+      let x = and_then-formed (inner_with reader s closed l) _ h in
       let m = x.0 in
       let g₁ = x.1 in
       let y = inner_formed a reader sound closed l m g₁ x.2 in
-      let z = and_then-formed_lem (inner_with reader s (closed + line_count g₁) m) _ x.3 in
+      let z = and_then-formed (inner_with reader s (closed + line_count g₁) m) _ x.3 in
       let n = z.0 in
       let g₂ = z.1 in
       let v = inner_formed a reader sound (closed + line_count g₁) m n g₂ z.2 in
-      let c = close_at-formed_lem s closed n (binary w g₁ g₂) z.3 in
+      let c = close_at-formed s closed n (binary w g₁ g₂) z.3 in
       read_close (suc a) closed i n j (binary w g₁ g₂) f c
       (unfold text_of in
       (span_append (span_byte s i 40 e)
@@ -191,12 +191,12 @@ module _ (s : List ℕ) (k : ℕ) where
   body_formed a reader sound closed i j f (NoWord l) e q h = absurd (refused-formed h)
 
   -- A form that the reader answers stands in the text at its place, and is within the limits.
-  pub form_at-formed_lem : (a : ℕ) → Sound a (form_at a s k)
+  pub form_at-formed : (a : ℕ) → Sound a (form_at a s k)
   unfolding form_at
-  form_at-formed_lem zero closed i j f h = absurd (refused-formed (expect-formed s i 40 (faulty 2 i) h).1)
-  form_at-formed_lem (suc a) closed i j f h =
+  form_at-formed zero closed i j f h = absurd (refused-formed (expect-formed s i 40 (faulty 2 i) h).1)
+  form_at-formed (suc a) closed i j f h =
       let x = expect-formed s i 40 (body_with (form_at a s k) s k closed (word_at s (i + 1))) h in
-      body_formed a (form_at a s k) (form_at-formed_lem a) closed i j f (word_at s (i + 1)) x.0 (word_at_span s (i + 1)) x.1
+      body_formed a (form_at a s k) (form_at-formed a) closed i j f (word_at s (i + 1)) x.0 (word_at_span s (i + 1)) x.1
 
 -- The code's answer, back to the reading that it stands for
 
@@ -206,7 +206,7 @@ unfolding read_of
 read_of_form laid closed (formed j f) i l c h = (f, ap (λ (x : ℕ). formed x f) (cc), cc, cc)
 read_of_form laid closed (faulty n j) i l c h = let z : ◌≡◌ {A = ℕ} 0 1 = cc in absurd (omega arith)
 
-pub read_of-refused_lem : (laid closed : ℕ) (r : Reading) (n i : ℕ) → read_of laid closed r ≡ Refused n i → r ≡ faulty n i
+pub read_of-refused : (laid closed : ℕ) (r : Reading) (n i : ℕ) → read_of laid closed r ≡ Refused n i → r ≡ faulty n i
 unfolding read_of
-read_of-refused_lem laid closed (formed j f) n i h = let z : ◌≡◌ {A = ℕ} 0 1 = cc in absurd (omega arith)
-read_of-refused_lem laid closed (faulty m j) n i h = cc
+read_of-refused laid closed (formed j f) n i h = let z : ◌≡◌ {A = ℕ} 0 1 = cc in absurd (omega arith)
+read_of-refused laid closed (faulty m j) n i h = cc

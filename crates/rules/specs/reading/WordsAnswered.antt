@@ -32,12 +32,12 @@ stands_to_right m s i (x ∷ xs) ys h =
     subst (λ (j : ℕ). StandsTo m s j ys) (omega arith) (stands_to_right m s (i + 1) xs ys h.1)
 
 -- Two texts with the same bytes before place m.
-pub stands_to-same_lem : (m : ℕ) (s : List ℕ) (i : ℕ) (bs : List ℕ) → ((l : ℕ) → l < length bs → i + l < m → byte_at s (i + l) ≡ byte_at bs l) → StandsTo m s i bs
+pub stands_to-same : (m : ℕ) (s : List ℕ) (i : ℕ) (bs : List ℕ) → ((l : ℕ) → l < length bs → i + l < m → byte_at s (i + l) ≡ byte_at bs l) → StandsTo m s i bs
 unfolding StandsTo
-stands_to-same_lem m s i [] h = tt
-stands_to-same_lem m s i (b ∷ bs) h = (
+stands_to-same m s i [] h = tt
+stands_to-same m s i (b ∷ bs) h = (
   λ p. rw (← add-zero i) (h 0 (omega arith) (omega arith)),
-  stands_to-same_lem m s (i + 1) bs (λ l p q. subst (λ (j : ℕ). byte_at s j ≡ byte_at bs l) (omega arith) (h (suc l) (omega arith) (omega arith))),
+  stands_to-same m s (i + 1) bs (λ l p q. subst (λ (j : ℕ). byte_at s j ≡ byte_at bs l) (omega arith) (h (suc l) (omega arith) (omega arith))),
 )
 
 -- What is known before place m: we are at or behind m, or it is so.

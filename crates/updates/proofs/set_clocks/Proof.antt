@@ -8,7 +8,7 @@ use mathlib.Core.Logic.{⊎_elim}
 use lib.ListN.{length}
 use borrow.Author.Rules.{rules}
 use Rattle.updates.proofs.set_clocks.Statement.{statement}
-use Rattle.updates.proofs.UpdateSteps.{bare, clocks_set-bare_lem, clocks_none, clocks_next, clocks_skip}
+use Rattle.updates.proofs.UpdateSteps.{bare, clocks_set-bare, clocks_none, clocks_next, clocks_skip}
 use Rattle.records.specs.Record.{clocks_place, clocks_set}
 use Rattle.records.specs.RecordLaws.{clock_within, clock_next}
 
@@ -71,7 +71,7 @@ returns : tie.Need-returns invariant-loop decreases-loop
 returns c =
     let a = c.before.before.before.before.before.args in
     let all : c.before.loop.p ≡ 8 = omega arith in
-    c.before.loop.invariant.3 ∙ ap (λ (n : ℕ). clocks_set a.w n a.«record».now (bare a.e.mask a.e.clock)) all ∙ clocks_set-bare_lem a.w 8 a.«record».now a.e
+    c.before.loop.invariant.3 ∙ ap (λ (n : ℕ). clocks_set a.w n a.«record».now (bare a.e.mask a.e.clock)) all ∙ clocks_set-bare a.w 8 a.«record».now a.e
 
 pub set-clocks-spec : {M : Type 1} → statement M
 set-clocks-spec =

@@ -8,7 +8,7 @@ use Rattle.clocks.specs.declared.Event.{Event}
 use Rattle.codec.specs.Bit.{bit}
 use Rattle.clocks.specs.Event.{apply, involved}
 use Rattle.clocks.specs.Counts.{at, list_of}
-use Rattle.clocks.specs.stored.CountsLaws.{list_of-same_lem}
+use Rattle.clocks.specs.stored.CountsLaws.{list_of-same}
 use Rattle.frontiers.specs.declared.Frontier.{Frontier}
 use Rattle.window.specs.Step.{Setting, advanced}
 
@@ -20,5 +20,5 @@ pub advanced_parts : (s : Setting) (e : Event) (f : Frontier) (counts labels mas
 unfolding advanced involved
 advanced_parts s e f counts labels masks h v c l m =
     let m' : masks ≡ list_of 8 (λ p. cond (bit e.mask p) e.mask (get_or f.masks p 0)) =
-    m ∙ list_of-same_lem 8 _ _ (λ p i. ap (λ (x : ℕ). cond (bit e.mask p) x (get_or f.masks p 0)) (get_or-replicate 8 p e.mask 0 i)) in
+    m ∙ list_of-same 8 _ _ (λ p i. ap (λ (x : ℕ). cond (bit e.mask p) x (get_or f.masks p 0)) (get_or-replicate 8 p e.mask 0 i)) in
     rw (h, v, c, l, m')

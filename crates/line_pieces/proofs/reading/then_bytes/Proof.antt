@@ -3,7 +3,7 @@ use Prim.Native.Nat.{◌≤◌, ◌-◌}
 use mathlib.Core.Path.{◌≡◌, refl, sym, ◌∙◌}
 use lib.ListN.{length, drop}
 use Rattle.line_pieces.specs.Reading.{then_bytes}
-use Rattle.line_pieces.proofs.reading.ReadingSteps.{then_bytes_next, then_bytes-end_lem}
+use Rattle.line_pieces.proofs.reading.ReadingSteps.{then_bytes_next, then_bytes-end}
 use borrow.Author.Rules.{rules}
 use Rattle.line_pieces.proofs.reading.then_bytes.Statement.{statement}
 use Rattle.line_pieces.proofs.reading.then_bytes.Tie as tie
@@ -41,7 +41,7 @@ loop-again c = let a = c.before.before.before.before.before.before.args in
 returns : tie.Need-returns invariant-loop decreases-loop
 returns c = let a = c.before.before.before.before.args in
     let l = c.before.loop in
-    sym (l.invariant.1 ∙ then_bytes-end_lem a.line.now a.bytes.now l.i l.read c.loop-test.false)
+    sym (l.invariant.1 ∙ then_bytes-end a.line.now a.bytes.now l.i l.read c.loop-test.false)
 
 pub then-bytes-spec : {M : Type 1} → statement M
 then-bytes-spec =

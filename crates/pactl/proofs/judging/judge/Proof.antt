@@ -3,7 +3,7 @@ use Prim.Native.Nat.{◌^◌, ◌≤◌, ◌<◌, ◌-◌}
 use native.Mathlib.Omega.{arith}
 use mathlib.Core.Path.{◌≡◌, sym, ap, ◌∙◌}
 use borrow.Author.Rules.{rules}
-use Rattle.pactl.specs.JudgeLaws.{judge_from_next, judge_from-end_lem, with_bit-lt_lem}
+use Rattle.pactl.specs.JudgeLaws.{judge_from_next, judge_from-end, with_bit-lt}
 use Rattle.pactl.specs.TableBytes.{line_at, lines_from, lines_of}
 use Rattle.pactl.specs.Judge.{judge_line, judge_from, with_bit, judge as judged}
 use Rattle.pactl.proofs.judging.judge.Statement.{statement}
@@ -47,14 +47,14 @@ loop-again c = let a = c.before.before.before.before.before.before.args in
     ∙ ap (with_bit l.v l.i) (c.before.judge-line.ensures ∙ ap (judge_line a.labels l.v a.any a.all a.preceded l.i) c.before.before.read-line.ensures)
     in (
       search rules,
-      rw e (with_bit-lt_lem l.v l.i t l.invariant.1),
+      rw e (with_bit-lt l.v l.i t l.invariant.1),
       rw e (l.invariant.2 ∙ judge_from_next a.labels a.any a.all a.preceded l.v a.table.now a.lines l.i c.before.before.before.loop-test.true),
     )
 
 returns : tie.Need-returns invariant-loop decreases-loop
 returns c = let a = c.before.before.before.args in
     let l = c.before.loop in
-    sym (l.invariant.2 ∙ judge_from-end_lem a.labels a.any a.all a.preceded l.v a.table.now a.lines l.i c.loop-test.false)
+    sym (l.invariant.2 ∙ judge_from-end a.labels a.any a.all a.preceded l.v a.table.now a.lines l.i c.loop-test.false)
 
 pub judge-spec : {M : Type 1} → statement M
 judge-spec =

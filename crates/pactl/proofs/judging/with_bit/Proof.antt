@@ -7,7 +7,7 @@ use lib.Pow.{shl_exact, pow_mono}
 use mir.Val.{bool_byte}
 use borrow.Author.Rules.{rules}
 use Rattle.pactl.specs.Judge.{with_bit}
-use Rattle.pactl.specs.JudgeLaws.{with_bit-lt_lem}
+use Rattle.pactl.specs.JudgeLaws.{with_bit-lt}
 use Rattle.pactl.proofs.judging.with_bit.Statement.{statement}
 use Rattle.pactl.proofs.judging.with_bit.Tie as tie
 
@@ -26,7 +26,7 @@ add-result : tie.Need-overflow-add-result
 add-result c =
     let a = c.args in
     let p : 2 ^ (a.i + 1) ≤ 2 ^ 64 = pow_mono {j = 64} (omega arith) in
-    omega (arith, with_shifted a.v a.i a.t (search rules), with_bit-lt_lem a.v a.i a.t (search rules))
+    omega (arith, with_shifted a.v a.i a.t (search rules), with_bit-lt a.v a.i a.t (search rules))
 
 returns : tie.Need-returns
 returns c = with_shifted c.args.v c.args.i c.args.t (search rules)

@@ -5,7 +5,7 @@ use mathlib.Core.Bool.{true, false}
 use mathlib.Core.Path.{◌≡◌, sym, ap, ◌∙◌}
 use borrow.Author.Tests.{not-true, not-false}
 use borrow.Author.Rules.{rules}
-use Rattle.pactl.specs.TableBytesLaws.{good_from_next, good_from-end_lem}
+use Rattle.pactl.specs.TableBytesLaws.{good_from_next, good_from-end}
 use Rattle.pactl.specs.TableBytes.{line_at, lines_from, lines_of}
 use Rattle.pactl.specs.Table.{good_line, good_from, good_table}
 use Rattle.pactl.proofs.table.good_table.Statement.{statement}
@@ -49,7 +49,7 @@ loop-again c = let a = c.before.before.before.before.before.before.args in
 
 returns-2 : tie.Need-returns-2 invariant-loop decreases-loop
 returns-2 c = let a = c.before.before.before.args in
-    sym (c.before.loop.invariant.1 ∙ good_from-end_lem a.k a.table.now a.lines c.before.loop.i c.loop-test.false)
+    sym (c.before.loop.invariant.1 ∙ good_from-end a.k a.table.now a.lines c.before.loop.i c.loop-test.false)
 
 pub good-table-spec : {M : Type 1} → statement M
 good-table-spec =

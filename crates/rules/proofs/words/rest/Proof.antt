@@ -8,7 +8,7 @@ use lib.ListN.{length, get_or, drop}
 use borrow.Author.Tests.{eq-eqb, ne_eqb}
 use borrow.Author.Rules.{rules}
 use Rattle.rules.specs.Text.{byte_at}
-use Rattle.rules.proofs.words.WordSteps.{rest_at_next, rest_at-end_lem}
+use Rattle.rules.proofs.words.WordSteps.{rest_at_next, rest_at-end}
 use Rattle.rules.specs.Reader.{rest_at}
 use Rattle.rules.proofs.words.rest.Statement.{statement}
 use Rattle.rules.proofs.words.rest.Tie as tie
@@ -65,7 +65,7 @@ loop-again c = let a = c.before.before.before.before.before.before.before.before
 returns-2 : tie.Need-returns-2 invariant-loop decreases-loop
 returns-2 c = let a = c.before.before.before.before.args in
     let l = c.before.loop in
-    sym (l.invariant.1 ∙ rest_at-end_lem a.text.now a.i l.j a.letters.now a.word c.loop-test.false)
+    sym (l.invariant.1 ∙ rest_at-end a.text.now a.i l.j a.letters.now a.word c.loop-test.false)
 
 pub rest-spec : {M : Type 1} → statement M
 rest-spec =

@@ -10,7 +10,7 @@ use Rattle.frontiers.specs.WindowLaws.{place-within}
 use Rattle.frontiers.specs.Bytes.{frontiers, frontier_at}
 use Rattle.window.specs.Step.{stays, enabled_at, kept_after}
 use Rattle.window.specs.StepCode.{setting_with, stays_with}
-use Rattle.window.proofs.SettingSteps.{kept_after-none_lem, kept_after_more}
+use Rattle.window.proofs.SettingSteps.{kept_after-none, kept_after_more}
 use Rattle.window.specs.Prepared.{bound_counts, Counted}
 use Rattle.window.specs.Marks.{Marked, marked_none, marked_more}
 
@@ -44,7 +44,7 @@ loop-holds c =
       search rules,
       refl,
       λ e table lines m p q. let s = setting_with a.k a.closed table lines e a.reached in
-          (sym (kept_after-none_lem s a.w a.window.now), marked_none s a.w a.window.now a.marks.now),
+          (sym (kept_after-none s a.w a.window.now), marked_none s a.w a.window.now a.marks.now),
     )
 
 counts-at-requires : tie.Need-counts-at-requires invariant-loop decreases-loop
