@@ -166,7 +166,7 @@ def turned_antt(path, text, names, table):
                 return token
         if dotted:
             head = re.search(r"([^\s(){};,\[\]]*)\.$", text[:start])
-            if head and head[1].split(".")[0] in modules:
+            if head and head[1].split(".")[0] in modules | {"mathlib"}:
                 return token
         elif token in kit:
             return token
