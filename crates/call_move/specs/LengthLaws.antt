@@ -24,8 +24,8 @@ frontiers-within w room n m e h = rw e (omega arith)
 
 -- The lengths of a record and a window that are read, and of those that are written: each is right, and the windows are
 -- of as many frontiers.
-pub record Lengths (v w record_length window_length target_length target_window_length : ℕ) : Type 0 where
-  pub source : record_length ≡ record_length v
+pub record Lengths (v w source_length window_length target_length target_window_length : ℕ) : Type 0 where
+  pub source : source_length ≡ record_length v
   pub window : bad_window_length v window_length ≡ false
   pub target : target_length ≡ record_length w
   pub target_window : bad_window_length w target_window_length ≡ false

@@ -37,7 +37,7 @@ begun_stands : {s bs : List ℕ} {i : ℕ} (xs : List ℕ) → Begun s bs i → 
 unfolding StandsAt every
 begun_stands {s} {bs} {i} [] p q h = rw (append-nil, add-zero) p
 begun_stands {s} {bs} {i} (x ∷ xs) p q h =
-    let r = begun_stands xs (begun_next p q.0 (ltb→lt x 256 (and_left (small x) _ h))) q.1 (and_right (small x) _ h) in
+    let r = begun_stands {bs = bs ++ x ∷ []} xs (begun_next p q.0 (ltb→lt x 256 (and_left (small x) _ h))) q.1 (and_right (small x) _ h) in
     subst₂ (λ (l : List ℕ) (j : ℕ). Begun s l j) (append_snoc bs x xs) (omega arith) r
 
 pub begun_span : {s bs xs : List ℕ} {i j : ℕ} → Begun s bs i → Span s i xs j → T (every small xs) → Begun s (bs ++ xs) j
