@@ -1,5 +1,7 @@
 // The reply words.
 
+#![tactic(auto)]
+
 ghost use Rattle.std.specs.Prelude.{◌+◌, ◌*◌, ◌<◌, ◌≡◌};
 ghost use Rattle.answers.specs.Answer.{flag};
 

@@ -1,5 +1,7 @@
 // The busiest day (02 [8]): n events of single processes, shared evenly, and how many frontiers they keep.
 
+#![tactic(auto)]
+
 ghost use Rattle.std.specs.Prelude.{◌+◌, ◌*◌, ◌^◌, ◌≤◌, ◌<◌, min, ◌≡◌, length};
 ghost use Rattle.std.proofs.lemmas.List.Edits.{sets};
 ghost use Rattle.frontiers.specs.Width.{Width};

@@ -1,6 +1,8 @@
 // Close (02 [5]): a process that will send no more is closed, and the frontiers that then need not stay leave the
 // window.
 
+#![tactic(auto)]
+
 pub mod refused;
 pub mod staying;
 

@@ -1,5 +1,7 @@
 // Find (01, The calls; 02 [4]): the first kept frontier at which a line of the table holds, or none.
 
+#![tactic(auto)]
+
 ghost use Rattle.std.specs.Prelude.{◌+◌, ◌≤◌, ◌<◌, ◌*◌, ◌≡◌, true, length};
 ghost use Rattle.frontiers.specs.Width.{Width};
 ghost use Rattle.frontiers.specs.Bytes.{frontier_length, frontier_at, frontiers};

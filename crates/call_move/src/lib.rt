@@ -1,5 +1,7 @@
 // Move (02 [6]): a watch with counts of two bytes is written as one with counts of four, or the other way.
 
+#![tactic(auto)]
+
 pub mod bytes;
 pub mod counts;
 pub mod record_parts;

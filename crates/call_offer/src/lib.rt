@@ -1,6 +1,8 @@
 // Offer (01, The calls; 02 [1], [5]): an event is added to the pending ones, in its place by lowest process and count;
 // or it is one of them already, or turned back.
 
+#![tactic(auto)]
+
 ghost use Rattle.std.specs.Prelude.{ℕ, ◌≤◌, ◌<◌, ◌^◌, ◌≡◌, cond, length};
 ghost use Rattle.clocks.specs.Counts.{at};
 ghost use Rattle.frontiers.specs.Width.{Width};

@@ -1,6 +1,8 @@
 // Open (01, The calls): reads a rule's text, the number of processes and the start labels, and writes record and
 // window.
 
+#![tactic(auto)]
+
 ghost use Rattle.std.specs.Prelude.{◌*◌, ◌≤◌, ◌≡◌, length};
 ghost use Rattle.pactl.specs.TableBytes.{lines_of};
 ghost use Rattle.frontiers.specs.Width.{Width};

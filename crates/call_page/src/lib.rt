@@ -1,5 +1,7 @@
 // A page (02 [7]): the kept frontiers as text, a row for each.
 
+#![tactic(auto)]
+
 pub mod digits;
 pub mod row;
 

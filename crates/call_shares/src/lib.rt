@@ -1,5 +1,7 @@
 // Setting the shares of a pool (02 [10]).
 
+#![tactic(auto)]
+
 ghost use Rattle.std.specs.Prelude.{◌≤◌, ◌<◌, ◌≡◌, length};
 ghost use Rattle.numbers.specs.Limit.{most_members};
 ghost use Rattle.answers.specs.Result.{result_word};

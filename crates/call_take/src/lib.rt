@@ -1,6 +1,8 @@
 // Take (01, The calls): the pending events are tried; the first that is decided on is taken, or leaves with a false
 // clock.
 
+#![tactic(auto)]
+
 ghost use Rattle.std.specs.Prelude.{ℕ, ◌-◌, ◌^◌, ◌≤◌, ◌<◌, ◌≡◌, cond, T, map, length, get_or, replicate};
 ghost use Rattle.codec.specs.Bit.{bit};
 ghost use Rattle.clocks.specs.Counts.{at};

@@ -1,5 +1,7 @@
 // Counts and labels out of the words that C hands over.
 
+#![tactic(auto)]
+
 ghost use Rattle.std.specs.Prelude.{◌<◌, ◌≡◌, [], ◌∷◌};
 ghost use Rattle.call_words.specs.Words.{part, unpack_counts, unpack_labels};
 

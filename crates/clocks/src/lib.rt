@@ -1,5 +1,7 @@
 // Events and vector clocks.
 
+#![tactic(auto)]
+
 // What an event is turned back for.
 pub mod refusal;
 // When an event may be taken, and where it leads.

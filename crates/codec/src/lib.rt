@@ -1,5 +1,7 @@
 // Numbers in byte slices, low byte first, and the bits of masks.
 
+#![tactic(auto)]
+
 ghost use Rattle.std.specs.Prelude.{◌+◌, ◌≤◌, ◌<◌, ◌≡◌, length};
 ghost use Rattle.std.specs.Int.Bits.{bit_or, bit_and};
 ghost use Rattle.std.specs.Int.Count.{count_trailing_zeros};

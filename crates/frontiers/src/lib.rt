@@ -1,5 +1,7 @@
 // Frontiers in bytes: reading and writing them.
 
+#![tactic(auto)]
+
 pub mod counts;
 pub mod moving;
 pub mod place;

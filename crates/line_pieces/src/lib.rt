@@ -1,5 +1,7 @@
 // The pieces of a program's line, read from left to right: its bytes, numbers and lists of numbers.
 
+#![tactic(auto)]
+
 // Numbers, from their digits.
 pub mod number;
 // A line's pieces, from left to right.

@@ -1,5 +1,7 @@
 // The program's lines: a line's bytes read to what it says, or to its fault.
 
+#![tactic(auto)]
+
 // The limits on numbers.
 mod limits;
 // Numbers in words.

@@ -1,5 +1,7 @@
 // The numbers that the scope gives.
 
+#![tactic(auto)]
+
 // What a call or a line is turned back with.
 pub mod refusal;
 // How much there may be of a thing.

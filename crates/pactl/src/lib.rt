@@ -1,5 +1,7 @@
 // PaCTL by tables of lines: a table's check, and judging a frontier by it.
 
+#![tactic(auto)]
+
 pub mod judging;
 pub mod table;
 

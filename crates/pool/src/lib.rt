@@ -1,6 +1,8 @@
 // The pool of up to eight watches that share 1,024 frontiers (02 [10]): eight shares, then how many frontiers each
 // watch keeps, two bytes each.
 
+#![tactic(auto)]
+
 ghost use Rattle.std.specs.Prelude.{◌+◌, ◌≤◌, ◌<◌, ◌≡◌, length};
 ghost use Rattle.numbers.specs.Limit.{most_members};
 ghost use Rattle.pool.specs.Pool.{pool_length, sum_below, share_at, kept_at, brought_up, bad_pool_length, no_share, used_by_others};

@@ -1,5 +1,7 @@
 // The program without its input and output: lines out of bytes, and what it answers to each line.
 
+#![tactic(auto)]
+
 use replies::Reply;
 
 // Lines out of the bytes that were read.

@@ -1,6 +1,8 @@
 // What a call is turned back for by a record, a window or the state of a watch (01, Turned back: 6, 31, 32, 34; 02 [5]:
 // 42).
 
+#![tactic(auto)]
+
 ghost use Rattle.std.specs.Prelude.{◌+◌, ◌*◌, ◌<◌, ◌≡◌, ◌&&◌, eqb, leb, length};
 ghost use Rattle.clocks.specs.Counts.{at};
 ghost use Rattle.frontiers.specs.Width.{Width};

@@ -1,6 +1,8 @@
 // Events compared with the pending ones (01, Turned back: 32; 02 [1]): equality of events, and the search for an equal
 // one, or for one with a count in common.
 
+#![tactic(auto)]
+
 ghost use Rattle.std.specs.Prelude.{◌≤◌, ◌≡◌, length};
 ghost use Rattle.clocks.specs.Bounded.{any_of};
 ghost use Rattle.clocks.specs.SameEvent.{same_event};

@@ -1,5 +1,7 @@
 // Replies: an answer's parts, out of its word, and what follows from them (01, Examples: the program; 02 [1]).
 
+#![tactic(auto)]
+
 ghost use Rattle.std.specs.Prelude.{◌≡◌, false};
 ghost use Rattle.replies.specs.Following.{takes_again, next_stage};
 ghost use Rattle.answers.specs.Kinds.{is_held};

@@ -1,5 +1,7 @@
 // The answers' text, laid into a lent buffer piece by piece: each piece goes behind the text so far.
 
+#![tactic(auto)]
+
 // The stored form of the program's watches.
 pub mod form;
 

@@ -1,5 +1,7 @@
 // The rule language: reading a rule's text to a table of lines.
 
+#![tactic(auto)]
+
 pub mod forms;
 pub mod laying;
 pub mod reading;

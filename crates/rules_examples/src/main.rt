@@ -1,6 +1,8 @@
 // Reads lines of standard input: a digit k and a rule's text. Prints for each what the reader answers: the fault and
 // its place, or the table's lines, whether the check of tables passes them, and words judged by the table.
 
+#![tactic(auto)]
+
 ghost use Rattle.std.specs.Prelude.{◌+◌, ◌≤◌, length};
 
 const OUT: i32 = 1;

@@ -1,6 +1,8 @@
 // Take's trial of the pending events (01, The calls: take; 02 [2]): each ready one in turn, first its clock and then
 // its fit, until one is decided on.
 
+#![tactic(auto)]
+
 // The order in which they are tried.
 mod turn;
 

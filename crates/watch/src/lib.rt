@@ -2,6 +2,8 @@
 // writes a watch of this form. Those of the other form are in `watch32`, compiled apart: so the compiler knows the width
 // of a count in every loop of either.
 
+#![tactic(auto)]
+
 ghost use Rattle.std.specs.Prelude.{◌≡◌, [], ◌∷◌};
 ghost use Rattle.call_words.specs.Words.{unpack_counts, unpack_labels};
 ghost use Rattle.call_open.specs.Open.{open_call};

@@ -1,6 +1,8 @@
 // The functions that C calls, on numbers and byte slices, for counts of four bytes (02 [6]): the five calls, the move
 // that writes a watch of this form, the page, the busiest day, and the calls of watches that share a pool.
 
+#![tactic(auto)]
+
 ghost use Rattle.std.specs.Prelude.{◌≡◌, [], ◌∷◌};
 ghost use Rattle.call_words.specs.Words.{unpack_counts, unpack_labels};
 ghost use Rattle.call_open.specs.Open.{open_call};

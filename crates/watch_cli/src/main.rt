@@ -1,6 +1,8 @@
 // The program watch (01, Examples: the program): reads lines of standard input, and prints answers. What is printed for
 // a line stands in the crate `program`; here are the reading, the writing and the loop around them.
 
+#![tactic(auto)]
+
 // Standard input, from chunks of any size to lines.
 mod input;
 

@@ -1,6 +1,8 @@
 // Runs the examples of 01 that call the watch: each line of standard input is a step, and what its call answers is
 // printed.
 
+#![tactic(auto)]
+
 mod answer;
 mod script;
 

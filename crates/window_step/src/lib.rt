@@ -1,5 +1,7 @@
 // A window's step for an event: the frontiers after it are laid down, judged, and copied back.
 
+#![tactic(auto)]
+
 use clocks::Event;
 
 pub mod advance;
