@@ -8,7 +8,7 @@ pub mod place;
 pub mod stored;
 
 // A kept cut: its counts, each process's labels and the mask of its last event there, and the truth of each line.
-#[derive(Drop)]
+#[derive(Clone, Copy)]
 pub struct Frontier {
     pub counts: [u32; 8],
     pub labels: [u8; 8],

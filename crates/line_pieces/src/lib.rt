@@ -11,14 +11,14 @@ pub mod list;
 
 // Where a reading stands, with the number read last; or the first fault met (01, Turned back, from the input: 1 and
 // 10).
-#[derive(Drop)]
+#[derive(Clone, Copy)]
 pub enum Read {
     At { place: usize, value: u64 },
     Refused { number: u8, place: usize },
 }
 
 // A list read: its first eight numbers, and how many they are in all.
-#[derive(Drop)]
+#[derive(Clone, Copy)]
 pub struct Numbers {
     pub values: [u64; 8],
     pub read: Read,

@@ -10,7 +10,7 @@ ghost use Rattle.line_pieces.specs.Digits.{DigitsRead};
 use crate::Read;
 
 // Digits read: the place behind them, and the number that they say.
-#[derive(Drop)]
+#[derive(Clone, Copy)]
 pub(crate) struct Digits {
     pub(crate) end: usize,
     pub(crate) value: u64,

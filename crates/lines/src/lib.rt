@@ -16,7 +16,7 @@ pub mod start;
 pub mod did;
 
 // The line that opens: the number of processes and the room in frontiers.
-#[derive(Drop)]
+#[derive(Clone, Copy)]
 pub enum WatchLine {
     Watch { k: u64, room: u64 },
     Refused { number: u8, place: usize },
@@ -24,14 +24,14 @@ pub enum WatchLine {
 
 // The rule's line: the rule is the bytes from `start` to before `end`. A fault of the rule itself has its place
 // counted from `start`.
-#[derive(Drop)]
+#[derive(Clone, Copy)]
 pub enum RuleLine {
     Rule { start: usize, end: usize },
     Refused { number: u8, place: usize },
 }
 
 // The line with the start labels, which are the bytes of a word.
-#[derive(Drop)]
+#[derive(Clone, Copy)]
 pub enum StartLine {
     Start { labels: u64 },
     Refused { number: u8, place: usize },
@@ -39,7 +39,7 @@ pub enum StartLine {
 
 // An event's line: a bit for each process that takes part, a clock in four words of two counts each, the lower process
 // in the lower half, and labels as the bytes of a word.
-#[derive(Drop)]
+#[derive(Clone, Copy)]
 pub enum DidLine {
     Did {
         mask: u64,

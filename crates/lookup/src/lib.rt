@@ -6,7 +6,7 @@ pub mod order;
 pub mod seek;
 
 // How counts stand to a key in the order of frontiers.
-#[derive(Drop)]
+#[derive(Clone, Copy)]
 pub enum Standing {
     Before,
     Same,

@@ -6,7 +6,7 @@ pub mod judging;
 pub mod table;
 
 // A line of a rule's table.
-#[derive(Drop)]
+#[derive(Clone, Copy)]
 pub struct Line {
     pub kind: u8,
     pub a: u8,

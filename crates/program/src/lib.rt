@@ -12,7 +12,7 @@ pub mod stages;
 pub mod turn;
 
 // What was found in some bytes: how many of them are used, how many bytes the line has now, and whether it ends there.
-#[derive(Drop)]
+#[derive(Clone, Copy)]
 pub struct Scan {
     pub used: usize,
     pub kept: usize,
@@ -21,7 +21,7 @@ pub struct Scan {
 
 // Where the program stands after a line: the stage of the next line, the processes, the room in frontiers, the length
 // of the rule's text, and the reply to the line.
-#[derive(Drop)]
+#[derive(Clone, Copy)]
 pub struct Session {
     pub stage: u64,
     pub k: u64,
@@ -31,7 +31,7 @@ pub struct Session {
 }
 
 // Texts laid so far: the place after them, and whether a take is to follow.
-#[derive(Drop)]
+#[derive(Clone, Copy)]
 pub struct Laid {
     pub end: usize,
     pub follows: bool,
@@ -39,7 +39,7 @@ pub struct Laid {
 
 // A line answered with its takes: where the program stands then, the length of the answers' text, and whether the
 // program goes on.
-#[derive(Drop)]
+#[derive(Clone, Copy)]
 pub struct Response {
     pub session: Session,
     pub length: usize,

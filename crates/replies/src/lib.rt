@@ -9,7 +9,7 @@ ghost use Rattle.replies.specs.Promises.{PartsPromised, FollowPromised};
 
 // An answer's parts: a refusal's number and place, both 0 where there is none; the rule's truth; the frontiers kept or
 // the events pending.
-#[derive(Drop)]
+#[derive(Clone, Copy)]
 pub struct Reply {
     pub number: u64,
     pub place: u64,

@@ -8,13 +8,13 @@ pub mod reading;
 pub mod words;
 
 // The words of a form, by the number of forms inside it.
-#[derive(Drop)]
+#[derive(Clone, Copy)]
 pub enum Constant {
     True,
     False,
 }
 
-#[derive(Drop)]
+#[derive(Clone, Copy)]
 pub enum Unary {
     Not,
     Ey,
@@ -25,7 +25,7 @@ pub enum Unary {
     Ah,
 }
 
-#[derive(Drop)]
+#[derive(Clone, Copy)]
 pub enum Binary {
     And,
     Es,
@@ -34,7 +34,7 @@ pub enum Binary {
 }
 
 // The word at a place, with the place after it; or the first byte that no word has there.
-#[derive(Drop)]
+#[derive(Clone, Copy)]
 pub enum WordRead {
     AtWord(usize),
     ConstantWord(Constant, usize),
@@ -44,7 +44,7 @@ pub enum WordRead {
 }
 
 // A form read: the place after it, the lines laid down so far, and those of the forms closed so far. Or the fault met.
-#[derive(Drop)]
+#[derive(Clone, Copy)]
 pub enum Read {
     Form {
         place: usize,
@@ -58,14 +58,14 @@ pub enum Read {
 }
 
 // A digit below a bound, or the number of its fault.
-#[derive(Drop)]
+#[derive(Clone, Copy)]
 pub enum DigitRead {
     Digit { value: usize },
     NoDigit { number: u8 },
 }
 
 // A rule read: the number of its lines. Or the fault met, with its place.
-#[derive(Drop)]
+#[derive(Clone, Copy)]
 pub enum RuleRead {
     Accepted { lines: u32 },
     Refused { number: u8, place: usize },

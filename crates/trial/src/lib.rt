@@ -24,7 +24,7 @@ use turn::{in_order, place_in_turn};
 
 // What take decides on: nothing (was some event ready?), a pending event that has a false clock, or one that is taken
 // and the frontiers that are kept then.
-#[derive(Drop)]
+#[derive(Clone, Copy)]
 pub enum Choice {
     Undecided { seen: bool },
     Falsified { place: usize },

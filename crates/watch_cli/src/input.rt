@@ -7,7 +7,7 @@ use program::split::scan;
 const IN: i32 = 0;
 
 // The chunk's bytes that are not used yet, from `at` to before `end`; and whether the input is over behind them.
-#[derive(Drop)]
+#[derive(Clone, Copy)]
 pub(crate) struct Input {
     pub(crate) at: usize,
     pub(crate) end: usize,
@@ -15,7 +15,7 @@ pub(crate) struct Input {
 }
 
 // A line, or none: how many of its bytes are kept, and the input behind it.
-#[derive(Drop)]
+#[derive(Clone, Copy)]
 pub(crate) struct Line {
     pub(crate) found: bool,
     pub(crate) length: usize,

@@ -13,7 +13,7 @@ pub mod step;
 // What is fixed during a step: the width of a count, how many frontiers there are and how many are kept, the processes
 // and which of them are closed, the event, the taken counts with it, and the table's lines.
 // Its code goes by the marks: closed and reached only say what was marked.
-#[derive(Drop)]
+#[derive(Clone, Copy)]
 pub struct Stepping {
     pub w: usize,
     pub n: usize,
@@ -27,7 +27,7 @@ pub struct Stepping {
 
 // What is gathered from the cuts that precede a new frontier: the OR and the AND of their values, and where each
 // process's next look-up begins.
-#[derive(Drop)]
+#[derive(Clone, Copy)]
 pub struct Found {
     pub ors: u64,
     pub ands: u64,

@@ -26,7 +26,7 @@ loop-p-preserved c =
     let skip = join_skip 8 l.p (bit a.mask) (clock_rows a.last) in (
       search rules,
       elim c.if-has_bit.branch [
-        | then-has_bit w ↦ w.out-is ∙ w.larger.ensures ∙ ap join l.invariant.1 ∙ next (member ∙ w.if-has_bit.true)
+        | then-has_bit w ↦ w.out-is ∙ w.larger-next.ensures ∙ ap join l.invariant.1 ∙ next (member ∙ w.if-has_bit.true)
         | else-has_bit w ↦ w.out-is ∙ l.invariant.1 ∙ skip (member ∙ w.if-has_bit.false)
       ],
     )
