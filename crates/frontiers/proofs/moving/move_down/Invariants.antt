@@ -1,0 +1,12 @@
+-- The first i bytes are moved, one more with each turn: the law `down_next`.
+use Prim.Native.Nat.{◌≤◌, ◌-◌}
+use mathlib.Core.Path.{◌≡◌}
+use lib.ListN.{length}
+use Rattle.frontiers.proofs.moving.MovingSteps.{moved_down}
+use Rattle.frontiers.proofs.moving.move_down.Given as goal
+
+abbrev pub invariant-loop-i : goal.invariant-loop-i
+invariant-loop-i l = (l.i ≤ l.n) × (length l.s ≡ length l.initial.s) × (l.s ≡ moved_down l.initial.s l.to l.by l.n l.i)
+
+abbrev pub decreases-loop-i : goal.decreases-loop-i
+decreases-loop-i l = l.n - l.i
