@@ -1,0 +1,15 @@
+-- The lines that were laid down are as many as the word counts.
+use native.Mathlib.Omega.{arith}
+use Rattle.rules.proofs.LayingSteps.{done_close}
+use Rattle.rules.specs.Line.{line_count, lines_at}
+use Rattle.rules.specs.Formula.{constant}
+use Rattle.rules.specs.lines.LineLaws.{length-constant}
+use Rattle.rules.proofs.forms.read_constant.Goals as goal
+
+pub returns : goal.returns
+unfolding line_count lines_at
+returns c =
+    let a = c.args in
+    let laid = c.lay_constant-end.ensures in
+    done_close a.laid a.closed a.table.now _ a.text.now a.place _ (constant a.word) _
+    c.close.ensures (omega (arith, laid.count, length-constant a.word a.laid)) laid.table

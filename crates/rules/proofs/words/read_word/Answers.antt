@@ -1,0 +1,43 @@
+-- Each return is the definition at the letter of its arm; the last one, at none of them.
+use mathlib.Core.Path.{sym, ◌∙◌}
+use borrow.Author.Tests.{ne_eqb}
+use Rattle.rules.specs.Reader.{word_at}
+use Rattle.rules.proofs.words.read_word.Goals as goal
+
+pub returns-in-97 : goal.returns-in-97
+unfolding word_at
+returns-in-97 c = rw (sym c.byte_at-c.ensures ∙ c.in-97.is) c.a_word.ensures
+
+pub returns-in-101 : goal.returns-in-101
+unfolding word_at
+returns-in-101 c = rw (sym c.byte_at-c.ensures ∙ c.in-101.is) c.e_word.ensures
+
+pub returns-in-110 : goal.returns-in-110
+unfolding word_at
+returns-in-110 c = rw (sym c.byte_at-c.ensures ∙ c.in-110.is) c.rest.ensures
+
+pub returns-in-116 : goal.returns-in-116
+unfolding word_at
+returns-in-116 c = rw (sym c.byte_at-c.ensures ∙ c.in-116.is) c.rest-in-116.ensures
+
+pub returns-in-102 : goal.returns-in-102
+unfolding word_at
+returns-in-102 c = rw (sym c.byte_at-c.ensures ∙ c.in-102.is) c.rest-in-102.ensures
+
+pub returns-in-111 : goal.returns-in-111
+unfolding word_at
+returns-in-111 c = rw (sym c.byte_at-c.ensures ∙ c.in-111.is) c.rest-in-111.ensures
+
+pub returns-in_default : goal.returns-in_default
+unfolding word_at
+returns-in_default c =
+    let no = c.in_default.in_default-own.rest in
+    rw (
+      ← c.byte_at-c.ensures,
+      ne_eqb _ _ no.0.0.0.0.0.1,
+      ne_eqb _ _ no.0.0.0.0.1,
+      ne_eqb _ _ no.0.0.0.1,
+      ne_eqb _ _ no.0.0.1,
+      ne_eqb _ _ no.0.1,
+      ne_eqb _ _ no.1,
+    )
