@@ -3,8 +3,7 @@
 ghost use Rattle.std.specs.Prelude.{◌≤◌, length};
 
 use program::split::scan;
-
-const IN: i32 = 0;
+use std::io::Read;
 
 // The chunk's bytes that are not used yet, from `at` to before `end`; and whether the input is over behind them.
 #[derive(Clone, Copy)]
@@ -24,15 +23,14 @@ pub(crate) struct Line {
 
 // The input with bytes in the chunk, or over: the chunk is read anew if its bytes are used. A read that fails ends the
 // input too.
-fn refill(input: Input, chunk: &mut [u8]) -> Input
+fn refill(reader: &mut impl Read, input: Input, chunk: &mut [u8]) -> Input
     requires { input.end ≤ length chunk.old }
     ensures { result.end ≤ length chunk.new }
 {
     if (input.at < input.end) | input.over {
         return input;
     }
-    let got = libc::read(IN, chunk);
-    let end = io::count(got, chunk);
+    let end = reader.read(chunk).unwrap_or(0);
     Input {
         at: 0,
         end,
@@ -41,18 +39,22 @@ fn refill(input: Input, chunk: &mut [u8]) -> Input
 }
 
 // The next line, without its line feed. Bytes that `line` has no room for are passed over. Bytes behind the last line
-// feed are a line. A proved loop has to end, and nothing says that the input does: so the chunks are counted down, from
-// a number that no input has.
-pub(crate) fn next_line(input: Input, chunk: &mut [u8], line: &mut [u8]) -> Line
+// feed are a line. A proved loop has to end, and nothing says that the input does: so the chunks are counted, up to a
+// number that no input has.
+pub(crate) fn next_line(
+    reader: &mut impl Read,
+    input: Input,
+    chunk: &mut [u8],
+    line: &mut [u8],
+) -> Line
     requires { input.end ≤ length chunk.old }
     ensures length_in_bounds { result.length ≤ length line.new }
     ensures end_in_bounds { result.rest.end ≤ length chunk.new }
 {
     let mut rest = input;
     let mut kept: usize = 0;
-    let mut left = u64::MAX;
-    while left > 0 {
-        rest = refill(rest, chunk);
+    for _ in 0..u64::MAX {
+        rest = refill(reader, rest, chunk);
         let at = rest.at;
         let end = rest.end;
         if at >= end {
@@ -72,7 +74,6 @@ pub(crate) fn next_line(input: Input, chunk: &mut [u8], line: &mut [u8]) -> Line
                 rest,
             };
         }
-        left -= 1;
     }
     Line {
         found: false,

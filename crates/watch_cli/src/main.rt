@@ -10,14 +10,14 @@ use input::{Input, next_line};
 use program::turn::{OUT_BYTES, begin, respond};
 use reply_text::form::{RECORD_BYTES, WINDOW_BYTES};
 
-const OUT: i32 = 1;
 // What is kept of a line. Its first 4,107 bytes decide what it is answered with (line_laws LinePrefix).
 const LINE_BYTES: usize = 4112;
 
 // Answers line after line, until the input or the program is over. A line's answers are written, whole, before the next
 // line is waited for. A first state that cannot be written ends the program. A proved loop has to end, and nothing says
-// that the input does: so lines are counted down, from a number that no input has.
-fn main() {
+// that the input does: so lines are counted, up to a number that no input has.
+fn main(rt: HostRuntime) {
+    let mut stdin = rt.stdin();
     let mut chunk = [0u8; 4096];
     let mut line = [0u8; LINE_BYTES];
     let mut rule = [0u8; LINE_BYTES];
@@ -31,14 +31,14 @@ fn main() {
         end: 0,
         over: false,
     };
-    let mut left = u64::MAX;
-    while left > 0 {
-        let next = next_line(input, &mut chunk, &mut line);
+    for _ in 0..u64::MAX {
+        let next = next_line(&mut stdin, input, &mut chunk, &mut line);
         if !next.found {
             return;
         }
         input = next.rest;
         let n = next.length;
+        let stage = session.stage;
         let turn = respond(
             session,
             &line[..n],
@@ -49,11 +49,10 @@ fn main() {
             &mut out,
         );
         let end = turn.length;
-        let written = io::write_all(OUT, &out[..end]);
-        if !turn.on | (!written & (session.stage < 3)) {
+        let written = rt.write_all(&out[..end]).is_ok();
+        if !turn.on | (!written & (stage < 3)) {
             return;
         }
         session = turn.session;
-        left -= 1;
     }
 }

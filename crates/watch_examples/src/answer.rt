@@ -1,8 +1,7 @@
 // Answers in the words of 01's program: (state (1 0) no 2), (held 1), (again), (refused 36 0).
 
 use answers::AGAIN;
-
-const OUT: i32 = 1;
+use std::io;
 
 // The number that a capital letter stands for: of a reply word its refusal R, place P and number N; of the record how
 // many events it holds H, how many lines its table has L, and the taken counts X, Y and Z of processes 0, 1 and 2.
@@ -28,31 +27,35 @@ fn value(letter: u8, word: u64, s: &[u8; 1368]) -> u64 {
 
 // Prints the words behind so many bars, up to the next bar, or to the end and a line feed. The place behind that bar,
 // or the length.
-pub(crate) fn say(words: &[u8], bars: u32, word: u64, s: &[u8; 1368]) -> usize {
+pub(crate) fn say(
+    rt: &impl Print,
+    words: &[u8],
+    bars: u32,
+    word: u64,
+    s: &[u8; 1368],
+) -> io::Result<usize> {
     let mut left = bars;
-    let mut i: usize = 0;
-    while i < words.len() {
-        let c = words[i];
-        i += 1;
+    for (i, c) in words.iter().enumerate() {
+        let c = *c;
         if c == b'|' {
             if left == 0 {
-                return i;
+                return Ok(i + 1);
             }
             left -= 1;
         } else if left == 0 {
             if (b'A' <= c) & (c <= b'Z') {
-                io::print_decimal(OUT, value(c, word, s));
+                rt.print(value(c, word, s))?;
             } else {
-                io::write_all(OUT, &words[i - 1..i]);
+                rt.write_all(&[c])?;
             }
         }
     }
-    io::write_all(OUT, b"\n");
-    i
+    println!(rt; "")?;
+    Ok(words.len())
 }
 
 // Prints what the call with a code answered.
-pub(crate) fn say_answer(code: u8, word: u64, s: &[u8; 1368]) {
+pub(crate) fn say_answer(rt: &impl Print, code: u8, word: u64, s: &[u8; 1368]) -> io::Result<()> {
     let k = records::fields::process_count(s);
     let holds = (word >> 8) % 2 == 1;
     let bars: u32 = if word % 256 != 0 {
@@ -69,11 +72,13 @@ pub(crate) fn say_answer(code: u8, word: u64, s: &[u8; 1368]) {
         if holds { 7 } else { 8 }
     };
     say(
+        rt,
         b"(refused R P)\n|(held N)\n|none\n|at N\n|nothing ready\n\
         |(state (X Y Z) yes N)\n|(state (X Y Z) no N)\n|(state (X Y) yes N)\n|(state (X Y) no N)\n\
         |(again)\n|",
         bars,
         word,
         s,
-    );
+    )?;
+    Ok(())
 }

@@ -7,20 +7,19 @@
 ghost use Rattle.std.specs.Prelude.{◌≤◌, ◌<◌, length};
 
 use crate::answer::{say, say_answer};
+use std::io;
 
 // The place of the first such byte from a place on, or the length.
 fn place_of(byte: u8, bytes: &[u8], from: usize) -> usize
     requires { from ≤ length bytes.now }
     ensures { (from ≤ result) × (result ≤ length bytes.now) }
 {
-    let mut i = from;
-    while i < bytes.len() {
+    for i in from..bytes.len() {
         if bytes[i] == byte {
             return i;
         }
-        i += 1;
     }
-    i
+    bytes.len()
 }
 
 // The number behind so many blanks from a place on. Parts between commas are numbers of the processes in turn, so many
@@ -75,40 +74,48 @@ fn call(line: &[u8], at: usize, s: &mut [u8; 1368], window: &mut [u8], scratch: 
 
 // One line. The first ROOM bytes of window and scratch are lent to its call. With no words before the bar the answer is
 // not printed.
-fn step(line: &[u8], s: &mut [u8; 1368], window: &mut [u8], scratch: &mut [u8]) {
-    let at = say(line, 0, 0, s);
+fn step(
+    rt: &impl Print,
+    line: &[u8],
+    s: &mut [u8; 1368],
+    window: &mut [u8],
+    scratch: &mut [u8],
+) -> io::Result<()> {
+    let at = say(rt, line, 0, 0, s)?;
     if at >= line.len() {
-        return;
+        return Ok(());
     }
     let room = number(line, at, 1, 0) as usize;
     if room > window.len() {
-        return;
+        return Ok(());
     }
     if room > scratch.len() {
-        return;
+        return Ok(());
     }
     let word = call(line, at, s, &mut window[0..room], &mut scratch[0..room]);
     if at > 1 {
-        say_answer(line[at], word, s);
+        say_answer(rt, line[at], word, s)?;
     }
+    Ok(())
 }
 
 // The lines from a place on up to an empty one; the place behind that.
 pub(crate) fn run(
+    rt: &impl Print,
     input: &[u8],
     from: usize,
     s: &mut [u8; 1368],
     window: &mut [u8; 41000],
     scratch: &mut [u8; 41000],
-) -> usize {
+) -> io::Result<usize> {
     let mut start = from;
     while start < input.len() {
         let end = place_of(b'\n', input, start);
         if end == start {
-            return end + 1;
+            return Ok(end + 1);
         }
-        step(&input[start..end], s, window, scratch);
+        step(rt, &input[start..end], s, window, scratch)?;
         start = end + 1;
     }
-    start
+    Ok(start)
 }
