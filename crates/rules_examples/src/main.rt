@@ -25,10 +25,14 @@ fn print_number(rt: &impl Print, n: u64) -> io::Result<()> {
     print!(rt; " {n}")
 }
 
+fn print_byte(rt: &impl Print, b: u8) -> io::Result<()> {
+    print_number(rt, b as u64)
+}
+
 // The bytes of a table's lines.
 fn print_table(rt: &impl Print, bytes: &[u8]) -> io::Result<()> {
     for byte in bytes {
-        print_number(rt, *byte as u64)?;
+        print_byte(rt, *byte)?;
     }
     Ok(())
 }
@@ -61,7 +65,8 @@ fn print_judged(rt: &impl Print, table: &[u8], lines: u32, labels: [u8; 8]) -> i
 }
 
 fn print_accepted(rt: &impl Print, k: u32, table: &[u8], lines: u32) -> io::Result<()> {
-    print!(rt; "accepted {lines}")?;
+    print!(rt; "accepted")?;
+    print_number(rt, lines as u64)?;
     if lines <= 64 {
         if table.len() == 192 {
             if pactl::table::good_table(k, table, lines) {
@@ -85,7 +90,11 @@ fn answer(rt: &impl Print, k: u32, text: &[u8]) -> io::Result<()> {
     let read = rules::reading::read_rule(text, k, &mut table);
     match read {
         rules::RuleRead::Accepted { lines } => print_accepted(rt, k, &table, lines)?,
-        rules::RuleRead::Refused { number, place } => print!(rt; "refused {number} {place}")?,
+        rules::RuleRead::Refused { number, place } => {
+            print!(rt; "refused")?;
+            print_number(rt, number as u64)?;
+            print_number(rt, place as u64)?;
+        }
     }
     println!(rt; "")
 }
@@ -135,7 +144,9 @@ fn main(rt: HostRuntime) -> io::Result<()> {
     let mut short = [7u8; 191];
     let read = rules::reading::read_rule(b"(true)", 1, &mut short);
     if let rules::RuleRead::Refused { number, place } = read {
-        print!(rt; " {number} {place}")?;
+        print_number(&rt, number as u64)?;
+        print_number(&rt, place as u64)?;
     }
-    println!(rt; " {}", short[0])
+    print_byte(&rt, short[0])?;
+    println!(rt; "")
 }

@@ -38,7 +38,6 @@ fn main(rt: HostRuntime) {
         }
         input = next.rest;
         let n = next.length;
-        let stage = session.stage;
         let turn = respond(
             session,
             &line[..n],
@@ -50,7 +49,7 @@ fn main(rt: HostRuntime) {
         );
         let end = turn.length;
         let written = rt.write_all(&out[..end]).is_ok();
-        if !turn.on | (!written & (stage < 3)) {
+        if !turn.on | (!written & (session.stage < 3)) {
             return;
         }
         session = turn.session;
