@@ -16,10 +16,10 @@ result (else a) = a
 result (test b a others) = cond b a (result others)
 
 -- Test n and its answer; the last answer has a test that always holds.
-unfoldable pub answered_for : Tests → ℕ → Answer
-answered_for (else a) n = a
-answered_for (test b a others) zero = a
-answered_for (test b a others) (suc n) = answered_for others n
+unfoldable pub answer_of : Tests → ℕ → Answer
+answer_of (else a) n = a
+answer_of (test b a others) zero = a
+answer_of (test b a others) (suc n) = answer_of others n
 
 unfoldable pub test_of : Tests → ℕ → Bool
 test_of (else a) n = true
@@ -72,16 +72,16 @@ lacks-result n (else a) h q = eqb-false n (mark a) (cond-false (eqb n (mark a)) 
 lacks-result n (test true a others) h q = eqb-false n (mark a) (cond-false (eqb n (mark a)) _ h).0 q
 lacks-result n (test false a others) h q = lacks-result n others (cond-false (eqb n (mark a)) _ h).1 q
 
-lacks_answer : (n : ℕ) (ts : Tests) → lacks n ts ≡ true → (i : ℕ) → n ≡ mark (answered_for ts i) → ⊥
-unfolding lacks answered_for
+lacks_answer : (n : ℕ) (ts : Tests) → lacks n ts ≡ true → (i : ℕ) → n ≡ mark (answer_of ts i) → ⊥
+unfolding lacks answer_of
 lacks_answer n (else a) h i q = eqb-false n (mark a) (cond-false (eqb n (mark a)) true h).0 q
 lacks_answer n (test b a others) h zero q = eqb-false n (mark a) (cond-false (eqb n (mark a)) _ h).0 q
 lacks_answer n (test b a others) h (suc i) q = lacks_answer n others (cond-false (eqb n (mark a)) _ h).1 i q
 
 decided_by : (ts : Tests) → distinct ts ≡ true → (n : ℕ) → within ts n ≡ true
-    → mark (result ts) ≡ mark (answered_for ts n)
+    → mark (result ts) ≡ mark (answer_of ts n)
     → Failed ts n × (test_of ts n ≡ true)
-unfolding result answered_for test_of Failed within distinct
+unfolding result answer_of test_of Failed within distinct
 decided_by (else a) d zero i q = (tt, refl)
 decided_by (else a) d (suc n) i q = absurd (true≢false (sym i))
 decided_by (test true a others) d zero i q = (tt, refl)
@@ -93,8 +93,8 @@ decided_by (test false a others) d (suc n) i q =
     let x = decided_by others (and-true (lacks (mark a) others) (distinct others) d).1 n i q in
     ((refl, x.0), x.1)
 
-gives_answer : (ts : Tests) (n : ℕ) → Failed ts n → test_of ts n ≡ true → result ts ≡ answered_for ts n
-unfolding result answered_for test_of Failed
+gives_answer : (ts : Tests) (n : ℕ) → Failed ts n → test_of ts n ≡ true → result ts ≡ answer_of ts n
+unfolding result answer_of test_of Failed
 gives_answer (else a) zero h t = refl
 gives_answer (else a) (suc n) h t = absurd h
 gives_answer (test b a others) zero h t = rw t
@@ -103,12 +103,12 @@ gives_answer (test b a others) (suc n) h t = rw h.0 (gives_answer others n h.1 t
 -- ---- Theorems
 
 pub first_decides : (ts : Tests) → distinct ts ≡ true → (n : ℕ) → within ts n ≡ true
-    → (result ts ≡ answered_for ts n) ↔ (Failed ts n × (test_of ts n ≡ true))
+    → (result ts ≡ answer_of ts n) ↔ (Failed ts n × (test_of ts n ≡ true))
 first_decides ts d n i = ((λ q. decided_by ts d n i (ap mark q)), λ h. gives_answer ts n h.0 h.1)
 
 -- By its mark alone.
 pub marked : (ts : Tests) → distinct ts ≡ true → (n : ℕ) → within ts n ≡ true → (a : Answer)
-    → mark a ≡ mark (answered_for ts n) → result ts ≡ a → Failed ts n × (a ≡ answered_for ts n)
+    → mark a ≡ mark (answer_of ts n) → result ts ≡ a → Failed ts n × (a ≡ answer_of ts n)
 marked ts d n i a e q =
     let h = decided_by ts d n i (ap mark q ∙ e) in
     (h.0, sym q ∙ gives_answer ts n h.0 h.1)

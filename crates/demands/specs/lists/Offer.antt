@@ -31,7 +31,7 @@ use Rattle.demands.specs.Ledger.{Ledger}
 use Rattle.demands.specs.Run.{Passed, offers, Watch}
 use Rattle.demands.specs.EveryList.{NamesClosed}
 use Rattle.demands.specs.calls.OfferByLedger.{offer_by_ledger}
-use Rattle.demands.specs.calls.Tests.{Tests, else, test, result, answered_for, test_of, Failed, within, mark, lacks, distinct, first_decides, marked, failed_next, never}
+use Rattle.demands.specs.calls.Tests.{Tests, else, test, result, answer_of, test_of, Failed, within, mark, lacks, distinct, first_decides, marked, failed_next, never}
 use Rattle.demands.specs.lists.SoundRun.{Sound, every-list}
 use Rattle.demands.specs.statements.Offer.{BadMask, BadClock, BadLabels, IsTaken, IsPending, IsContradicted, Formed, Admissible, New, Unknown, Uncontradicted, next_offer, OfferAnswers, OfferExact, OfferIsExact}
 
@@ -255,7 +255,7 @@ module _ (w k : ℕ) (f : Formula) (start : Cut) (Z : Watch) (S : Sound w k f st
 
   -- an answer comes exactly if what was passed before, and its own test, say so
   turn_is : {F C : Type 0} (n : ℕ) → within tests n ≡ true → Failed tests n ↔ F → Says (test_of tests n) C
-      → (next_offer w Z mask clock labels ≡ answered_for tests n) ↔ (F × C)
+      → (next_offer w Z mask clock labels ≡ answer_of tests n) ↔ (F × C)
   unfolding distinct lacks mark
   turn_is n i x y =
       let d = first_decides tests refl n i in (
@@ -304,7 +304,7 @@ module _ (w k : ℕ) (f : Formula) (start : Cut) (Z : Watch) (S : Sound w k f st
 
   held-there : (n : ℕ) → next_offer w Z mask clock labels ≡ held n
       → Uncontradicted k Z mask clock labels × (length L.pending < 32) × (n ≡ length L.pending + 1)
-  unfolding distinct lacks mark answered_for test_of within
+  unfolding distinct lacks mark answer_of test_of within
   held-there n q =
       let h = marked tests refl 8 refl (held n) refl (sym by_tests ∙ q) in
       let same : held n ≡ held (length L.pending + 1) = h.1 in
@@ -315,7 +315,7 @@ module _ (w k : ℕ) (f : Formula) (start : Cut) (Z : Watch) (S : Sound w k f st
   held_back : (n : ℕ)
       → Uncontradicted k Z mask clock labels × (length L.pending < 32) × (n ≡ length L.pending + 1)
       → next_offer w Z mask clock labels ≡ held n
-  unfolding distinct lacks mark answered_for test_of within
+  unfolding distinct lacks mark answer_of test_of within
   held_back n (u, few, number) =
       let none : 32 ≤ length L.pending → ⊥ = λ l. omega arith in
       by_tests
@@ -323,7 +323,7 @@ module _ (w k : ℕ) (f : Formula) (start : Cut) (Z : Watch) (S : Sound w k f st
       ∙ ap held (sym number)
 
   pub offer_answers : OfferAnswers w k Z mask clock labels
-  unfolding answered_for test_of within Failed distinct lacks mark
+  unfolding answer_of test_of within Failed distinct lacks mark
   offer_answers =
       let first = turn_is 0 refl ((λ _. tt {0}), λ _. tt) (mask_says k mask passed.0) in
       record {
