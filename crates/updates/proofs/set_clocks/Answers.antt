@@ -1,13 +1,13 @@
 use Prim.Native.Nat.{◌-◌, ℕ}
 use native.Mathlib.Omega.{arith}
 use mathlib.Core.Path.{◌≡◌, ap, ◌∙◌, sym}
-use mathlib.Core.Logic.{⊎_elim}
 use lib.ListN.{length}
 use Rattle.updates.proofs.UpdateSteps.{bare, clocks_set-bare, clocks_none, clocks_next, clocks_skip}
 use Rattle.records.specs.Record.{clocks_set}
 use Rattle.records.specs.RecordLaws.{clock_within, clock_next}
 use Rattle.std.proofs.Common.{rules}
 use Rattle.updates.proofs.set_clocks.Goals as goal
+use Rattle.updates.proofs.set_clocks.Goals.{then-has_bit, else-has_bit}
 
 pub loop-p-init : goal.loop-p-init
 loop-p-init c =
@@ -34,8 +34,14 @@ loop-p-preserved c =
     let skip = clocks_skip a.w l.p a.«record».now a.e.mask a.e.clock in (
       search rules,
       omega (arith, clock_next a.w l.p),
-      ⊎_elim (λ v. omega (arith, ap length v.5)) (λ v. omega (arith, ap length v.1)) c.if-has_bit.branch,
-      ⊎_elim (λ v. cc (next (sym c.has_bit.ensures ∙ v.0.taken))) (λ v. cc (skip (sym c.has_bit.ensures ∙ v.0.left))) c.if-has_bit.branch,
+      elim c.if-has_bit.branch [
+        | then-has_bit v ↦ omega (arith, ap length v.record-is)
+        | else-has_bit v ↦ omega (arith, ap length v.record-is)
+      ],
+      elim c.if-has_bit.branch [
+        | then-has_bit v ↦ cc (next (sym c.has_bit.ensures ∙ v.if-has_bit.true))
+        | else-has_bit v ↦ cc (skip (sym c.has_bit.ensures ∙ v.if-has_bit.false))
+      ],
     )
 
 pub returns : goal.returns
