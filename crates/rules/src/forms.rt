@@ -111,7 +111,7 @@ fn read_constant(
 }
 
 // A space and a form inside another.
-#[cycle(read_binary_read_form_read_inner_read_unary)]
+#[cycle(reading)]
 fn read_inner(
     text: &[u8],
     k: u32,
@@ -131,7 +131,7 @@ fn read_inner(
 }
 
 // A word with one form inside, from behind the word on.
-#[cycle(read_binary_read_form_read_inner_read_unary)]
+#[cycle(reading)]
 fn read_unary(
     text: &[u8],
     k: u32,
@@ -161,7 +161,7 @@ fn read_unary(
 }
 
 // A word with two forms inside, from behind the word on.
-#[cycle(read_binary_read_form_read_inner_read_unary)]
+#[cycle(reading)]
 fn read_binary(
     text: &[u8],
     k: u32,
@@ -203,7 +203,7 @@ fn read_binary(
 
 // The form at a place, with brackets nested at most as deep as the allowance. `laid` lines are laid down so far, and
 // `closed` are those of the forms closed so far.
-#[cycle(read_binary_read_form_read_inner_read_unary)]
+#[cycle(reading)]
 pub fn read_form(
     text: &[u8],
     k: u32,

@@ -1,5 +1,5 @@
 -- The open forms around a place of a text, their text up to that place, and the forms that can still come of it.
-use Rattle.std.specs.Prelude.{ℕ, ◌+◌, ◌≡◌, refl, List, [], ◌∷◌, ◌++◌, map, true, length}
+use Rattle.std.specs.Prelude.{ℕ, ◌+◌, ◌≡◌, refl, List, [], ◌∷◌, ◌++◌, map, length}
 use Rattle.std.proofs.Common.{arith, zero-add, ◌∙◌, sym, ap, append_assoc, append-nil}
 use Rattle.rules.specs.declared.Constant.TheVariants.{True}
 use Rattle.rules.specs.declared.Unary.{Unary}

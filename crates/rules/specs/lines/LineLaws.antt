@@ -1,6 +1,6 @@
 -- Laws of the lines laid down for a form: how many they are, that each is good in its place, and that laying them down
 -- further on raises them.
-use Rattle.std.specs.Prelude.{ℕ, ◌+◌, ◌-◌, ◌<◌, ◌≤◌, ◌≡◌, Bool, true, ◌&&◌, List, [], ◌∷◌, ◌++◌, map}
+use Rattle.std.specs.Prelude.{ℕ, ◌+◌, ◌<◌, ◌≤◌, ◌≡◌, Bool, true, ◌&&◌, List, [], ◌∷◌, ◌++◌, map}
 use Rattle.std.proofs.Common.{add_assoc, add-zero, add-suc, suc-add, add-one, arith, sym, ap, ◌∙◌, length-append, lt-ltb, le-leb}
 use Rattle.std.proofs.Math.Path.{refl}
 use Rattle.std.proofs.Math.Bool.{and_assoc}
