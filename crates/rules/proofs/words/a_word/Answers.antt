@@ -1,4 +1,5 @@
 -- Each return is the definition at the letter of its arm; the last one, at none of them.
+use native.Mathlib.Omega.{arith}
 use mathlib.Core.Path.{sym, ◌∙◌}
 use borrow.Author.Tests.{ne_eqb}
 use Rattle.rules.specs.Reader.{a_word_at}
@@ -31,13 +32,13 @@ returns-in-110 c = rw (sym c.byte_at-c.ensures ∙ c.in-110.is) c.rest.ensures
 pub returns-in_default : goal.returns-in_default
 unfolding a_word_at
 returns-in_default c =
-    let no = c.in_default.in_default-own.rest in
+    let x = c.byte_at-c.result in
     rw (
       ← c.byte_at-c.ensures,
-      ne_eqb _ _ no.0.0.0.0.0.1,
-      ne_eqb _ _ no.0.0.0.0.1,
-      ne_eqb _ _ no.0.0.0.1,
-      ne_eqb _ _ no.0.0.1,
-      ne_eqb _ _ no.0.1,
-      ne_eqb _ _ no.1,
+      ne_eqb x 116 (omega arith),
+      ne_eqb x 115 (omega arith),
+      ne_eqb x 112 (omega arith),
+      ne_eqb x 121 (omega arith),
+      ne_eqb x 104 (omega arith),
+      ne_eqb x 110 (omega arith),
     )

@@ -1,4 +1,5 @@
 -- Each return is the definition at the letter of its arm; the last one, at none of them.
+use native.Mathlib.Omega.{arith}
 use mathlib.Core.Path.{sym, ◌∙◌}
 use borrow.Author.Tests.{ne_eqb}
 use Rattle.rules.specs.Reader.{e_word_at}
@@ -23,11 +24,11 @@ returns-in-104 c = rw (sym c.byte_at-c.ensures ∙ c.in-104.is)
 pub returns-in_default : goal.returns-in_default
 unfolding e_word_at
 returns-in_default c =
-    let no = c.in_default.in_default-own.rest in
+    let x = c.byte_at-c.result in
     rw (
       ← c.byte_at-c.ensures,
-      ne_eqb _ _ no.0.0.0.1,
-      ne_eqb _ _ no.0.0.1,
-      ne_eqb _ _ no.0.1,
-      ne_eqb _ _ no.1,
+      ne_eqb x 121 (omega arith),
+      ne_eqb x 115 (omega arith),
+      ne_eqb x 112 (omega arith),
+      ne_eqb x 104 (omega arith),
     )

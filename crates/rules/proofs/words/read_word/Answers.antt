@@ -1,4 +1,5 @@
 -- Each return is the definition at the letter of its arm; the last one, at none of them.
+use native.Mathlib.Omega.{arith}
 use mathlib.Core.Path.{sym, ◌∙◌}
 use borrow.Author.Tests.{ne_eqb}
 use Rattle.rules.specs.Reader.{word_at}
@@ -31,13 +32,13 @@ returns-in-111 c = rw (sym c.byte_at-c.ensures ∙ c.in-111.is) c.rest-in-111.en
 pub returns-in_default : goal.returns-in_default
 unfolding word_at
 returns-in_default c =
-    let no = c.in_default.in_default-own.rest in
+    let x = c.byte_at-c.result in
     rw (
       ← c.byte_at-c.ensures,
-      ne_eqb _ _ no.0.0.0.0.0.1,
-      ne_eqb _ _ no.0.0.0.0.1,
-      ne_eqb _ _ no.0.0.0.1,
-      ne_eqb _ _ no.0.0.1,
-      ne_eqb _ _ no.0.1,
-      ne_eqb _ _ no.1,
+      ne_eqb x 97 (omega arith),
+      ne_eqb x 101 (omega arith),
+      ne_eqb x 110 (omega arith),
+      ne_eqb x 116 (omega arith),
+      ne_eqb x 102 (omega arith),
+      ne_eqb x 111 (omega arith),
     )
