@@ -115,7 +115,7 @@ same-length-5 c = search rules
 
 returns : tie.Need-returns
 returns c =
-    let all = c.before.before.before.before.before.before.before.before.before in
+    let both = c.before.before.before.before.before.before.before.before.before in
     let f = followed all.before.before.before.before in
     let z = answered (lent f) in
     let a = (start z).args in

@@ -1,0 +1,16 @@
+-- Three parts, each written behind those before it: the law `event-written`.
+use Prim.Native.Nat.{◌-◌}
+use Rattle.call_move.proofs.RecordSteps.{event-counts_fit, event-written}
+use Rattle.call_move.proofs.record_parts.move_event.Goals as goal
+
+pub move_counts-requires-clause-s_value : goal.move_counts-requires-clause-s_value
+move_counts-requires-clause-s_value c =
+    let a = c.args in
+    let fit = event-counts_fit a.v a.w a.«record».now a.from c.requires.record_value in
+    fit
+
+pub returns : goal.returns
+returns c =
+    let a = c.args in
+    event-written a.v a.w a.«record».now a.from a.target.now _ _ _ a.to c.requires.v_in_bounds
+    c.copy_eights.ensures c.move_counts.ensures c.copy_eights-2.ensures

@@ -1,0 +1,10 @@
+-- Each part is renewed at the event's processes: the law `advanced_parts`.
+use Rattle.window_step.proofs.advance.AdvanceSteps.{advanced_parts}
+use Rattle.window_step.proofs.advance.advanced.Goals as goal
+
+pub returns : goal.returns
+returns c =
+    λ s h v. let a = c.args in
+    let full = c.requires.full_value in
+    advanced_parts s a.e a.f c.apply-counts.result c.renewed-labels.result c.renewed-masks.result h v
+    c.apply-counts.ensures (c.renewed-labels.ensures a.e.mask full) (c.renewed-masks.ensures a.e.mask full)

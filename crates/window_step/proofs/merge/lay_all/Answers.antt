@@ -1,0 +1,197 @@
+use native.Mathlib.Omega.{arith}
+use mathlib.Core.Path.{◌≡◌, refl, sym, ap, ◌∙◌}
+use Prim.Native.Nat.{◌<◌, ◌-◌}
+use Rattle.frontiers.specs.Bytes.{frontiers}
+use Rattle.frontiers.specs.WindowLaws.{place-within}
+use Rattle.window_step.specs.Fixed.{setting_of}
+use Rattle.window.specs.Step.{Setting, stays, enabled_at}
+use Rattle.window.specs.Marks.{Marked, Tells, tells_stays, tells_enabled}
+use Rattle.window_step.proofs.merge.MergeSteps.{laying_start, staying_left, leading_left, laid_staying, laid_fresh, laid_all}
+use Rattle.clocks.specs.cuts.EventLaws.{true-T}
+use Rattle.clocks.specs.Counts.{list_of}
+use Rattle.std.proofs.Common.{rules}
+use Rattle.window_step.proofs.merge.lay_all.Goals as goal
+use Rattle.window_step.proofs.merge.lay_all.Goals.{After-lay_fresh-arg-1, After-lay_staying-arg-1, Start}
+
+-- ---- Places in the walk: the start, the turn in which one is laid down, the one that is laid down
+
+-- The step's setting, and its marks.
+abbrev setting : Start → Setting
+setting c = setting_of c.args.fixed c.args.table.now
+
+marked : (c : Start) → let a = c.args in Marked (setting c) a.fixed.w a.window.now a.fixed.n a.marks.now
+marked c = c.requires.marked
+
+staying_told : (c : Start) → let a = c.args in Tells 0 (stays (setting c)) a.fixed.w a.window.now a.fixed.n a.marks.now
+staying_told c = tells_stays (setting c) _ _ _ c.args.marks.now (marked c)
+
+leading_told : (c : Start) → let a = c.args in Tells 1 (enabled_at (setting c)) a.fixed.w a.window.now a.fixed.n a.marks.now
+leading_told c = tells_enabled (setting c) _ _ _ c.args.marks.now (marked c)
+
+-- ---- The needs
+
+pub loop-m-init : goal.loop-m-init
+unfolding frontiers list_of
+loop-m-init c =
+    let s = setting (goal.at.loop-m-init c).Start in
+    let w = c.args.fixed.w in
+    let window = c.args.window.now in
+    let first = c.next_marked-i in
+    let leads = c.next_marked-j in (
+      search rules,
+      refl,
+      first.ensures.upper_bound,
+      leads.ensures.upper_bound,
+      laying_start s refl w window c.args.fixed.n c.args.fixed.kept c.requires.kept_value
+          first.result first.ensures.upper_bound (first.ensures.from_value (stays s) w window (staying_told (goal.at.loop-m-init c).Start)) (first.ensures.result_value (stays s) w window (staying_told (goal.at.loop-m-init c).Start))
+          leads.result leads.ensures.upper_bound (leads.ensures.from_value (enabled_at s) w window (leading_told (goal.at.loop-m-init c).Start)) (leads.ensures.result_value (enabled_at s) w window (leading_told (goal.at.loop-m-init c).Start)),
+    )
+
+pub fresh_first-requires-clause-width : goal.fresh_first-requires-clause-width
+unfolding enabled_at
+fresh_first-requires-clause-width c = search rules
+
+pub fresh_first-requires-clause-room_for : goal.fresh_first-requires-clause-room_for
+unfolding enabled_at
+fresh_first-requires-clause-room_for c = search rules
+
+pub fresh_first-requires-clause-j_value : goal.fresh_first-requires-clause-j_value
+unfolding enabled_at
+fresh_first-requires-clause-j_value c = c.loop-m.invariant.4.leading_here
+
+-- Where a new one comes first, there is one that the event leads on from.
+leading : (c : After-lay_fresh-arg-1) → c.loop-m.j < c.args.fixed.n
+leading c = leading_left (setting (goal.at.After-lay_fresh-arg-1 c).Start) c.args.fixed.event refl refl _ _ _ _ _ _ _ _ _ c.loop-m.invariant.4 (search rules) (sym c.fresh_first.ensures ∙ c.if-fresh_first.true)
+
+pub lay_fresh-ended-requires-clause-width : goal.lay_fresh-ended-requires-clause-width
+unfolding enabled_at
+lay_fresh-ended-requires-clause-width c =
+    let p = c.requires in
+    p.width
+
+pub lay_fresh-ended-requires-clause-fitting : goal.lay_fresh-ended-requires-clause-fitting
+unfolding enabled_at
+lay_fresh-ended-requires-clause-fitting c =
+    let p = c.requires in
+    p.fitting
+
+pub lay_fresh-ended-requires-clause-place_for : goal.lay_fresh-ended-requires-clause-place_for
+unfolding enabled_at
+lay_fresh-ended-requires-clause-place_for c =
+    let a = c.args.fixed in
+    let here : c.loop-m.j < a.n = leading (goal.at.lay_fresh-ended-requires-clause-place_for c).After-lay_fresh-arg-1 in
+    (omega arith, omega (arith, place-within c.loop-m.j a.n a.w here))
+
+pub lay_fresh-ended-requires-clause-place_for_2 : goal.lay_fresh-ended-requires-clause-place_for_2
+unfolding enabled_at
+lay_fresh-ended-requires-clause-place_for_2 c =
+    let a = c.args.fixed in
+    let room = place-within c.loop-m.m a.kept a.w (search rules) in
+    (omega arith, omega (arith, room))
+
+pub lay_fresh-ended-requires-clause-lines_bound : goal.lay_fresh-ended-requires-clause-lines_bound
+unfolding enabled_at
+lay_fresh-ended-requires-clause-lines_bound c =
+    let p = c.requires in
+    p.lines_bound
+
+pub lay_fresh-ended-requires-clause-k_bound : goal.lay_fresh-ended-requires-clause-k_bound
+unfolding enabled_at
+lay_fresh-ended-requires-clause-k_bound c =
+    let p = c.requires in
+    p.k_bound
+
+pub lay_fresh-ended-requires-clause-t : goal.lay_fresh-ended-requires-clause-t
+unfolding enabled_at
+lay_fresh-ended-requires-clause-t c =
+    let a = c.args.fixed in
+    let here : c.loop-m.j < a.n = leading (goal.at.lay_fresh-ended-requires-clause-t c).After-lay_fresh-arg-1 in
+    true-T (c.loop-m.invariant.4.leading_here here)
+
+pub lay_fresh-ended-requires-clause-full_value : goal.lay_fresh-ended-requires-clause-full_value
+unfolding enabled_at
+lay_fresh-ended-requires-clause-full_value c =
+    let full = c.full_bytes-full.ensures in
+    full
+
+pub overflow_add-j : goal.overflow_add-j
+overflow_add-j c = let here = leading (goal.at.overflow_add-j c).After-lay_fresh-arg-1 in search rules
+
+pub next_marked-j-requires-then-fresh_first-clause-n_in_bounds : goal.next_marked-j-requires-then-fresh_first-clause-n_in_bounds
+next_marked-j-requires-then-fresh_first-clause-n_in_bounds c = (c.requires.n_in_bounds, omega arith)
+
+pub next_marked-j-requires-then-fresh_first-clause-p_bound : goal.next_marked-j-requires-then-fresh_first-clause-p_bound
+next_marked-j-requires-then-fresh_first-clause-p_bound c = omega arith
+
+pub overflow_add-m : goal.overflow_add-m
+overflow_add-m c = let room = c.requires.room_for_2.0 in search rules
+
+pub loop-m-preserved-then-fresh_first : goal.loop-m-preserved-then-fresh_first
+loop-m-preserved-then-fresh_first c =
+    let s = setting (goal.at.loop-m-preserved-then-fresh_first c).Start in
+    let w = c.args.fixed.w in
+    let window = c.args.window.now in
+    let next = c.next_marked-j-then-fresh_first in (
+      search rules,
+      search rules,
+      search rules,
+      next.ensures.upper_bound,
+      laid_fresh s c.args.fixed.event refl refl w window _ _ _ _ _ _ _ c.loop-m.invariant.4 (search rules) (sym c.fresh_first.ensures ∙ c.if-fresh_first.true-raw)
+          _ c.lay_fresh-ended.ensures.m_after _ c.lay_fresh-ended.ensures.value
+          next.result next.ensures.upper_bound (next.ensures.from_value (enabled_at s) w window (leading_told (goal.at.loop-m-preserved-then-fresh_first c).Start)) (next.ensures.result_value (enabled_at s) w window (leading_told (goal.at.loop-m-preserved-then-fresh_first c).Start)),
+    )
+
+-- Where none comes first, there is one that stays.
+remains : (c : After-lay_staying-arg-1) → c.loop-m.i < c.args.fixed.n
+remains c = staying_left (setting (goal.at.After-lay_staying-arg-1 c).Start) c.args.fixed.event refl refl _ _ _ _ _ _ _ _ _ c.loop-m.invariant.4 (search rules) (sym c.fresh_first.ensures ∙ c.if-fresh_first.false)
+
+pub lay_staying-requires-clause-width : goal.lay_staying-requires-clause-width
+lay_staying-requires-clause-width c =
+    let p = c.requires in
+    p.width
+
+pub lay_staying-requires-clause-place_for : goal.lay_staying-requires-clause-place_for
+lay_staying-requires-clause-place_for c =
+    let a = c.args.fixed in
+    let here : c.loop-m.i < a.n = remains (goal.at.lay_staying-requires-clause-place_for c).After-lay_staying-arg-1 in
+    (omega arith, omega (arith, place-within c.loop-m.i a.n a.w here))
+
+pub lay_staying-requires-clause-place_for_2 : goal.lay_staying-requires-clause-place_for_2
+lay_staying-requires-clause-place_for_2 c =
+    let a = c.args.fixed in
+    let room = place-within c.loop-m.m a.kept a.w (search rules) in
+    (omega arith, omega (arith, room))
+
+pub overflow_add-i : goal.overflow_add-i
+overflow_add-i c = let here = remains (goal.at.overflow_add-i c).After-lay_staying-arg-1 in search rules
+
+pub next_marked-i-requires-else-fresh_first-clause-n_in_bounds : goal.next_marked-i-requires-else-fresh_first-clause-n_in_bounds
+next_marked-i-requires-else-fresh_first-clause-n_in_bounds c = (c.requires.n_in_bounds, omega arith)
+
+pub next_marked-i-requires-else-fresh_first-clause-p_bound : goal.next_marked-i-requires-else-fresh_first-clause-p_bound
+next_marked-i-requires-else-fresh_first-clause-p_bound c = omega arith
+
+pub overflow_add-m-else-fresh_first : goal.overflow_add-m-else-fresh_first
+overflow_add-m-else-fresh_first c = let room = c.requires.room_for_2.0 in search rules
+
+pub loop-m-preserved : goal.loop-m-preserved
+loop-m-preserved c =
+    let s = setting (goal.at.loop-m-preserved c).Start in
+    let w = c.args.fixed.w in
+    let window = c.args.window.now in
+    let next = c.next_marked-i-else-fresh_first in (
+      search rules,
+      search rules,
+      next.ensures.upper_bound,
+      search rules,
+      laid_staying s c.args.fixed.event refl refl w window _ _ _ _ _ _ _ c.loop-m.invariant.4 (search rules) (sym c.fresh_first.ensures ∙ c.if-fresh_first.false-raw)
+          _ c.lay_staying.ensures
+          next.result next.ensures.upper_bound (next.ensures.from_value (stays s) w window (staying_told (goal.at.loop-m-preserved c).Start)) (next.ensures.result_value (stays s) w window (staying_told (goal.at.loop-m-preserved c).Start)),
+    )
+
+pub returns : goal.returns
+returns c =
+    let l = c.loop-m in
+    let a = c.args.fixed in
+    let all : l.m ≡ a.kept = omega arith in
+    ap (frontiers a.w l.scratch) (sym all) ∙ laid_all (setting (goal.at.returns c).Start) a.event refl refl _ _ _ _ _ _ _ _ _ l.invariant.4 (omega arith)
