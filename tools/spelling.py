@@ -31,6 +31,7 @@ LAWS = {
     "crates/pactl/specs/": ["not_line", "as_line"],
     "crates/rules/specs/lines/LinesMean.antt": ["not_line", "as_line"],
     "crates/call_close/proofs/StayingSteps.antt": ["moved-to"],
+    "crates/call_close/proofs/staying/settle/": ["moved-to"],
 }
 
 

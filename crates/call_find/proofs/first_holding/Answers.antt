@@ -4,7 +4,6 @@ use native.Mathlib.Nat.{le_refl}
 use mathlib.Core.Path.{◌≡◌, sym, ap, ◌∙◌}
 use mathlib.Core.Bool.{true, false}
 use mathlib.Core.List.{List}
-use mathlib.Core.Logic.{⊎_elim}
 use borrow.Author.Tests.{ltb-true, ltb-false}
 use Rattle.codec.specs.Bit.{bit}
 use Rattle.frontiers.specs.BytesLaws.{count-within}
@@ -12,27 +11,17 @@ use Rattle.frontiers.specs.Bytes.{frontier_length, frontier_at}
 use Rattle.call_find.proofs.FindSteps.{find_further}
 use Rattle.call_find.specs.FindCode.{reply_from}
 use Rattle.std.proofs.Common.{rules}
+use Rattle.call_find.proofs.first_holding.Invariants.{NoneBefore, Seen}
 use Rattle.call_find.proofs.first_holding.Goals as goal
-use Rattle.call_find.proofs.first_holding.Goals.{After-has_bit}
+use Rattle.call_find.proofs.first_holding.Goals.{After-has_bit, then-has_bit, else-has_bit}
 
-module _ (w line : ℕ) (window : List ℕ) (kept : ℕ) where
-  -- The line holds at no frontier before this one.
-  abbrev NoneBefore : ℕ → Type 0
-  NoneBefore i = reply_from w line window kept 0 ≡ reply_from w line window kept i
+module _ (w line : ℕ) (window : List ℕ) (kept i : ℕ) (l : i < kept) (none : NoneBefore w line window kept i) where
+  seen_here : bit (frontier_at w window i).values line ≡ true → Seen w line window kept (i + 1) i
+  seen_here h = (omega arith, omega arith, λ q. absurd (omega arith), λ m. (none, h))
 
-  -- No place is found, and those before i are passed; or it is the first.
-  abbrev Seen : ℕ → ℕ → Type 0
-  Seen i place =
-      (i ≤ kept) × (place ≤ kept) × (place ≡ kept → NoneBefore i)
-      × (place < kept → NoneBefore place × (bit (frontier_at w window place).values line ≡ true))
-
-  module _ (i : ℕ) (l : i < kept) (none : NoneBefore i) where
-    seen_here : bit (frontier_at w window i).values line ≡ true → Seen (i + 1) i
-    seen_here h = (omega arith, omega arith, λ q. absurd (omega arith), λ m. (none, h))
-
-    seen_further : bit (frontier_at w window i).values line ≡ false → Seen (i + 1) kept
-    seen_further h =
-        (omega arith, le_refl _, λ q. none ∙ find_further w line window kept i l h, λ m. absurd (omega arith))
+  seen_further : bit (frontier_at w window i).values line ≡ false → Seen w line window kept (i + 1) kept
+  seen_further h =
+      (omega arith, le_refl _, λ q. none ∙ find_further w line window kept i l h, λ m. absurd (omega arith))
 
 pub loop-place-init : goal.loop-place-init
 loop-place-init c =
@@ -63,10 +52,10 @@ loop-place-preserved c =
     let q : l.place ≡ a.kept = omega arith in
     let m : l.i < a.kept = omega (arith, ltb-true) in
     let n : NoneBefore a.w a.line s a.kept l.i = l.invariant.2 q in
-    ⊎_elim
-    (λ x. rw x.1 (seen_here a.w a.line s a.kept l.i m n (here (goal.at.loop-place-preserved c).After-has_bit ∙ x.0.taken)))
-    (λ x. rw (x.1, q) (seen_further a.w a.line s a.kept l.i m n (here (goal.at.loop-place-preserved c).After-has_bit ∙ x.0.left)))
-    c.if-has_bit.branch
+    elim c.if-has_bit.branch [
+      | then-has_bit x ↦ rw x.place-is (seen_here a.w a.line s a.kept l.i m n (here (goal.at.loop-place-preserved c).After-has_bit ∙ x.if-has_bit.true))
+      | else-has_bit x ↦ rw (x.place-is, q) (seen_further a.w a.line s a.kept l.i m n (here (goal.at.loop-place-preserved c).After-has_bit ∙ x.if-has_bit.false))
+    ]
 
 -- None is left.
 pub returns-else-i-kept-clause-upper_bound : goal.returns-else-i-kept-clause-upper_bound

@@ -3,7 +3,6 @@ use mathlib.Core.Path.{◌≡◌, sym, ap, ◌∙◌}
 use Prim.Native.Nat.{ℕ, ◌≤◌, ◌<◌, ◌-◌, ◌+◌, ◌*◌}
 use mathlib.Core.Bool.{Bool}
 use lib.ListN.{length, get_or}
-use mathlib.Core.Logic.{⊎_elim}
 use Rattle.frontiers.specs.declared.Frontier.{Frontier}
 use Rattle.frontiers.specs.Bytes.{frontier_length, frontier_at}
 use Rattle.frontiers.specs.WindowLaws.{place-within}
@@ -11,6 +10,7 @@ use Rattle.window.specs.StepCode.{stays_with}
 use Rattle.call_close.proofs.StayingSteps.{laid_none, read_here, laid_next, laid_passed}
 use Rattle.std.proofs.Common.{rules}
 use Rattle.call_close.proofs.staying.keep_staying.Goals as goal
+use Rattle.call_close.proofs.staying.keep_staying.Goals.{then-stays, else-stays}
 
 pub loop-i-init : goal.loop-i-init
 loop-i-init c =
@@ -45,10 +45,10 @@ loop-i-preserved c =
     let next = laid_next t a.w s l.i bytes fits l.m l.window l.invariant.1 in
     let passed = laid_passed t a.w s l.i bytes fits l.m l.window l.invariant.1 in (
       search rules,
-      ⊎_elim
-          (λ v. rw v.6 (next c.if-stays.window (here ∙ v.0.taken) (v.5 ∙ v.2.ensures)))
-          (λ v. rw (v.1, v.2) (passed (here ∙ v.0.left)))
-          c.if-stays.branch,
+      elim c.if-stays.branch [
+        | then-stays v ↦ rw v.m-is (next c.if-stays.window (here ∙ v.if-stays.true) (v.window-is ∙ v.settle.ensures))
+        | else-stays v ↦ rw (v.window-is, v.m-is) (passed (here ∙ v.if-stays.false))
+      ],
     )
 
 pub returns-clause-value : goal.returns-clause-value

@@ -1,11 +1,11 @@
--- A frontier that stands there already is as good as moved; another is moved by the law `moved_to`.
+-- A frontier that stands there already is as good as moved; another is moved by the law `moved_to_lem`.
 use native.Mathlib.Omega.{arith}
 use mathlib.Core.Path.{◌≡◌, sym, ◌∙◌}
 use Prim.Native.Nat.{◌-◌, ◌+◌, ◌*◌}
 use native.Mathlib.Nat.{mul-le-mul_right}
 use Rattle.codec.specs.SetsLaws.{sets_same}
 use Rattle.frontiers.specs.Bytes.{frontier_length}
-use Rattle.call_close.proofs.StayingSteps.{moved_to}
+use Rattle.call_close.proofs.StayingSteps.{moved_to_lem}
 use Rattle.std.proofs.Common.{rules}
 use Rattle.call_close.proofs.staying.settle.Goals as goal
 
@@ -34,5 +34,5 @@ returns c =
     let there : to.result + (from.result - to.result) ≡ a.i * frontier_length a.w =
     omega (arith, mul-le-mul_right {m = a.m} {n = a.i} (frontier_length a.w) (search rules)) in
     c.move_down.ensures
-    ∙ moved_to a.window.now to.result (from.result - to.result) c.frontier_length.result a.m a.i
+    ∙ moved_to_lem a.window.now to.result (from.result - to.result) c.frontier_length.result a.m a.i
     (frontier_length a.w) to.ensures.0 there c.frontier_length.ensures.0

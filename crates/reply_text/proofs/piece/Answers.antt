@@ -1,0 +1,13 @@
+-- The number goes behind the bytes.
+use native.Mathlib.Omega.{arith}
+use Rattle.reply_text.proofs.TextSteps.{behind}
+use Rattle.codec.specs.Decimal.{numeral}
+use Rattle.reply_text.proofs.piece.Goals as goal
+
+pub returns-clause-upper_bound : goal.returns-clause-upper_bound
+returns-clause-upper_bound c = omega arith
+
+pub returns-clause-out_after : goal.returns-clause-out_after
+returns-clause-out_after c =
+    let p = c.put-end in
+    behind (numeral _) p.ensures.out_after c.put_number.ensures.out_after
