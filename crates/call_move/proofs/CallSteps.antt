@@ -91,5 +91,5 @@ module _ (v w : ℕ) (s window t target : List ℕ) where
       omega (arith, length-window_parts v room, right.whole) in
       let room_there : length target ≡ length_of w (window_parts room) =
       right.target_whole ∙ sym (length-window_parts w room) in
-      let both = all-written v w (window_parts room) window target read room_there in
+      let all = all-written v w (window_parts room) window target read room_there in
       (rw done, rw done b, rw done (f ∙ rw e all))

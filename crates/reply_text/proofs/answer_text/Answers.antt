@@ -58,20 +58,18 @@ pub returns-then-reply-2 : goal.returns-then-reply-2
 unfolding state_text verdict_text
 returns-then-reply-2 c =
     let a = c.args in
-    let both = (
-      omega (arith, c.requires.in_bounds),
-      says_state a.offered (taken_counts program_width a.«record».now) a.k a.reply _ true c.if-reply-ne0.false c.if-reply-eq0.false c.if-offered.false c.if-reply-2.true
-          (behind (41 ∷ 10 ∷ []) (behind (numeral _) (behind (ascii ") yes ") (c.put_counts-first.ensures.out_after ∙ ap (λ (n : List ℕ). ascii "(state (" ++ counts_text n a.k) c.taken_counts-counts.ensures) refl) c.piece-second-then-reply-2.ensures.out_after) c.put-then-reply-2.ensures.out_after),
-    ) in
-    record { upper_bound = both.0; text_promised = both.1 }
+    record {
+      upper_bound = omega (arith, c.requires.in_bounds);
+      text_promised = says_state a.offered (taken_counts program_width a.«record».now) a.k a.reply _ true c.if-reply-ne0.false c.if-reply-eq0.false c.if-offered.false c.if-reply-2.true
+          (behind (41 ∷ 10 ∷ []) (behind (numeral _) (behind (ascii ") yes ") (c.put_counts-first.ensures.out_after ∙ ap (λ (n : List ℕ). ascii "(state (" ++ counts_text n a.k) c.taken_counts-counts.ensures) refl) c.piece-second-then-reply-2.ensures.out_after) c.put-then-reply-2.ensures.out_after);
+    }
 
 pub returns : goal.returns
 unfolding state_text verdict_text
 returns c =
     let a = c.args in
-    let both = (
-      omega (arith, c.requires.in_bounds),
-      says_state a.offered (taken_counts program_width a.«record».now) a.k a.reply _ false c.if-reply-ne0.false c.if-reply-eq0.false c.if-offered.false c.if-reply-2.false
-          (behind (41 ∷ 10 ∷ []) (behind (numeral _) (behind (ascii ") no ") (c.put_counts-first.ensures.out_after ∙ ap (λ (n : List ℕ). ascii "(state (" ++ counts_text n a.k) c.taken_counts-counts.ensures) refl) c.piece-second-2.ensures.out_after) c.put-2.ensures.out_after),
-    ) in
-    record { upper_bound = both.0; text_promised = both.1 }
+    record {
+      upper_bound = omega (arith, c.requires.in_bounds);
+      text_promised = says_state a.offered (taken_counts program_width a.«record».now) a.k a.reply _ false c.if-reply-ne0.false c.if-reply-eq0.false c.if-offered.false c.if-reply-2.false
+          (behind (41 ∷ 10 ∷ []) (behind (numeral _) (behind (ascii ") no ") (c.put_counts-first.ensures.out_after ∙ ap (λ (n : List ℕ). ascii "(state (" ++ counts_text n a.k) c.taken_counts-counts.ensures) refl) c.piece-second-2.ensures.out_after) c.put-2.ensures.out_after);
+    }

@@ -30,5 +30,7 @@ pub returns : goal.returns
 returns c =
     let a = c.args in
     let l = c.loop-p in
-    let both = (omega arith, behind (more_counts _ _) c.piece-at.ensures.out_after l.invariant.4 ∙ counts_end (ascii "(state (") a.counts a.k l.p (omega arith)) in
-    record { upper_bound = both.0; out_after = both.1 }
+    record {
+      upper_bound = omega arith;
+      out_after = behind (more_counts _ _) c.piece-at.ensures.out_after l.invariant.4 ∙ counts_end (ascii "(state (") a.counts a.k l.p (omega arith);
+    }

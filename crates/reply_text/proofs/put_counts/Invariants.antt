@@ -8,7 +8,9 @@ use Rattle.reply_text.specs.Texts.{more_counts}
 use Rattle.reply_text.proofs.put_counts.Given as goal
 
 abbrev pub invariant-loop-p : goal.invariant-loop-p
-invariant-loop-p l = (1 ≤ p) × (p - 1 ≤ l.k - 1) × (l.p ≤ 7 + 21 * p) × (length l.at ≡ length l.initial.out) × (take l.p l.at ≡ take l.initial.at l.initial.out ++ more_counts l.counts (p - 1))
+invariant-loop-p l =
+    (1 ≤ l.p) × (l.p - 1 ≤ l.k - 1) × (l.at ≤ 7 + 21 * l.p) × (length l.out ≡ length l.initial.out)
+    × (take l.at l.out ≡ take l.initial.at l.initial.out ++ more_counts l.counts (l.p - 1))
 
 abbrev pub decreases-loop-p : goal.decreases-loop-p
-decreases-loop-p l = l.k - p
+decreases-loop-p l = l.k - l.p

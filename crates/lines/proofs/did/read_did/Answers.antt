@@ -14,4 +14,4 @@ returns c =
     c.value_of-n.ensures c.then_bytes.ensures c.then_list-counts.ensures
     c.then_close-second.ensures.0 c.then_bytes-2.ensures
     c.then_list-labels.ensures c.then_close-third.ensures.0 c.then_last-whole.ensures
-    c.Did-of.ensures
+    c.did_of.ensures

@@ -9,4 +9,4 @@ returns c =
     c.head.ensures
     c.then_spaced_list-labels.ensures
     c.then_close.ensures.0
-    c.then_end.ensures c.limited-whole.ensures c.start_of_lem.ensures
+    c.then_end.ensures c.limited-whole.ensures c.start_of.ensures
