@@ -2,7 +2,7 @@
 -- if it has none.
 use Rattle.std.specs.Prelude.{ℕ, ◌≡◌, refl, ◌↔◌, List}
 use Rattle.std.proofs.Common.{arith}
-use Rattle.std.proofs.Math.Logic.{Iff·trans}
+use mathlib.Core.Logic.Iff
 use Rattle.line_pieces.specs.declared.Read.{Read}
 use Rattle.line_pieces.specs.declared.Read.TheVariants.{At, Refused}
 use Rattle.line_pieces.specs.Reading.{limited}
@@ -41,10 +41,10 @@ watch-taken x (Refused m i) = (
 
 pub watch-first_fault : WatchFindsFirstFault
 watch-first_fault s n i =
-    rw (watch_read_lem s) (Iff·trans (watch-refused _ n i _) (refused_exactly s watch_pieces watch_ended n i))
+    rw (watch_read_lem s) (Iff.trans (watch-refused _ n i _) (refused_exactly s watch_pieces watch_ended n i))
 
 pub watch_faultless : WatchAcceptsFaultless
-watch_faultless s = rw (watch_read_lem s) (Iff·trans (watch-taken _ _) (read_exactly s watch_pieces watch_ended))
+watch_faultless s = rw (watch_read_lem s) (Iff.trans (watch-taken _ _) (read_exactly s watch_pieces watch_ended))
 
 -- ---- The line with the start labels
 
@@ -69,10 +69,10 @@ start_taken ls (Refused m i) = (
 
 pub start_first_fault : StartFindsFirstFault
 start_first_fault s k n i =
-    rw (start_read_lem s k) (Iff·trans (start_refused _ n i _) (refused_exactly s (start_pieces k) (start_ended k) n i))
+    rw (start_read_lem s k) (Iff.trans (start_refused _ n i _) (refused_exactly s (start_pieces k) (start_ended k) n i))
 
 pub start_faultless : StartAcceptsFaultless
-start_faultless s k = rw (start_read_lem s k) (Iff·trans (start_taken _ _) (read_exactly s (start_pieces k) (start_ended k)))
+start_faultless s k = rw (start_read_lem s k) (Iff.trans (start_taken _ _) (read_exactly s (start_pieces k) (start_ended k)))
 
 -- ---- An event's line
 
@@ -107,10 +107,10 @@ did_named s k m names =
 pub did_first_fault : DidFindsFirstFault
 did_first_fault s k m n i names =
     let w = did_named s k m names in
-    rw w.3 (Iff·trans (did_refused (named s) w.0 w.1 w.2 n i _)
+    rw w.3 (Iff.trans (did_refused (named s) w.0 w.1 w.2 n i _)
     (refused_exactly s (did_pieces k m) (did_ended k m) n i))
 
 pub did_faultless : DidAcceptsFaultless
 did_faultless s k m names =
     let w = did_named s k m names in
-    rw w.3 (Iff·trans (did_taken (named s) w.0 w.1 w.2 _) (read_exactly s (did_pieces k m) (did_ended k m)))
+    rw w.3 (Iff.trans (did_taken (named s) w.0 w.1 w.2 _) (read_exactly s (did_pieces k m) (did_ended k m)))
