@@ -27,9 +27,7 @@ ready-counted n e S t p l =
     above true next h = omega (arith, eqb→eq (count e p) (S p + 1) next)
     above false next h = absurd (true≢false (sym h))
 
--- ---- Places in the walk: the start, where the processes are counted, and the step's counts
-
--- ---- The needs
+-- ---- The goals
 
 pub apply-reached-requires : goal.apply-reached-requires
 unfolding ready_in

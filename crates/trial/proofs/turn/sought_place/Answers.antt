@@ -1,11 +1,11 @@
-use Prim.Native.Nat.{ℕ, ◌+◌, ◌-◌}
+use Prim.Native.Nat.{ℕ, ◌+◌}
 use native.Mathlib.Omega.{arith}
 use mathlib.Core.Path.{sym, ap, ◌∙◌}
-use mathlib.Core.Logic.{⊎_elim}
 use lib.ListN.{get_or}
 use Rattle.trial.proofs.TurnSteps.{remaining, sought-first, sought-here, sought_next, sought_pass, sought_over, sought-end}
 use Rattle.std.proofs.Common.{rules}
 use Rattle.trial.proofs.turn.sought_place.Goals as goal
+use Rattle.trial.proofs.turn.sought_place.Goals.{then-lowest_at-p+else-left-eq0, else-lowest_at-p}
 
 pub loop-p-init : goal.loop-p-init
 loop-p-init c =
@@ -40,14 +40,16 @@ loop-p-preserved c =
       search rules,
       search rules,
       l.invariant.2
-          ∙ ⊎_elim
-          (λ v. sought_next a.w a.«record».now l.p l.i (omega arith) l.left
-          (sym c.lowest_at.ensures.0 ∙ v.0.taken) v.1.left
-          ∙ ap (λ (left : ℕ). get_or (remaining a.w a.«record».now l.p (l.i + 1)) left 0) (sym v.2))
-          (λ v. sought_pass a.w a.«record».now l.p l.i (omega arith) l.left
-          (λ q. v.0.left (c.lowest_at.ensures.0 ∙ q))
-          ∙ ap (λ (left : ℕ). get_or (remaining a.w a.«record».now l.p (l.i + 1)) left 0) (sym v.1))
-          c.if-lowest_at-p.branch,
+          ∙ elim c.if-lowest_at-p.branch [
+            | then-lowest_at-p+else-left-eq0 w ↦
+                sought_next a.w a.«record».now l.p l.i (omega arith) l.left
+                (sym c.lowest_at.ensures.0 ∙ w.if-lowest_at-p.true) w.if-left-eq0.false
+                ∙ ap (λ (left : ℕ). get_or (remaining a.w a.«record».now l.p (l.i + 1)) left 0) (sym w.left-is)
+            | else-lowest_at-p w ↦
+                sought_pass a.w a.«record».now l.p l.i (omega arith) l.left
+                (λ q. w.if-lowest_at-p.false (c.lowest_at.ensures.0 ∙ q))
+                ∙ ap (λ (left : ℕ). get_or (remaining a.w a.«record».now l.p (l.i + 1)) left 0) (sym w.left-is)
+          ],
     )
 
 pub returns : goal.returns
