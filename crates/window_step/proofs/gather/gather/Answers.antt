@@ -1,7 +1,6 @@
 use Prim.Native.Nat.{ℕ, ◌-◌, ◌+◌}
 use native.Mathlib.Omega.{arith}
 use mathlib.Core.Path.{◌≡◌, refl, sym, ap, ◌∙◌}
-use mathlib.Core.Logic.{⊎_elim}
 use mathlib.Core.List.{List}
 use lib.Bits.{bit_or, bit_and}
 use lib.ListN.{length, get_or, length-set}
@@ -13,11 +12,10 @@ use Rattle.window_step.specs.Gathering.{sought_with}
 use Rattle.std.proofs.Common.{rules}
 use Rattle.window_step.proofs.gather.gather.Invariants.{sofar}
 use Rattle.window_step.proofs.gather.gather.Goals as goal
+use Rattle.window_step.proofs.gather.gather.Goals.{then-is_sought+then-place-m, then-is_sought+else-place-m, else-is_sought}
 
 same-gathered : {o a o' a' : ℕ} {b b' : List ℕ} → o ≡ o' → a ≡ a' → b ≡ b' → sofar o a b ≡ sofar o' a' b'
 same-gathered p q r = rw (p, q, r)
-
--- ---- Places in the walk: the start, the loop
 
 -- ---- The needs
 
@@ -41,24 +39,29 @@ loop-p-preserved c =
     let laid = frontiers a.w a.scratch.now a.m in
     let t = c.is_sought in (
       search rules,
-      ⊎_elim (λ x. ap length x.9 ∙ length-set l.begins l.p (x.2.result + 1) ∙ l.invariant.1)
-          (⊎_elim (λ x. ap length x.6 ∙ l.invariant.1) (λ x. ap length x.3 ∙ l.invariant.1))
-          c.if-is_sought.branch,
+      elim c.if-is_sought.branch [
+        | then-is_sought+then-place-m x ↦ ap length x.begins-is ∙ length-set l.begins l.p (x.seek-place.result + 1) ∙ l.invariant.1
+        | then-is_sought+else-place-m x ↦ ap length x.begins-is ∙ l.invariant.1
+        | else-is_sought x ↦ ap length x.begins-is ∙ l.invariant.1
+      ],
       λ s g h v n o q. let sought : sought_with a.mask (get_or g.masks l.p 0) l.p ≡ t.result = rw n (sym t.ensures) in
           let old = sofar l.ors l.ands l.begins in
-          ⊎_elim
-          (λ x. let e : values_at laid x.2.result ≡ x.4.result = values_at_lem a.w a.scratch.now a.m x.2.result x.3.taken ∙ sym x.4.ensures in
-          same-gathered (x.7 ∙ x.5.ensures ∙ ap (bit_or l.ors) (sym e)) (x.8 ∙ x.6.ensures ∙ ap (bit_and l.ands) (sym e)) x.9
-          ∙ sym (consider-found s a.mask h v laid g l.p old (sought ∙ x.0.taken) x.1.result (rw (n, o) x.1.ensures) x.2.result x.2.ensures
-          (rw (length-frontiers a.w a.scratch.now a.m) x.3.taken)))
-          (⊎_elim
-          (λ x. same-gathered x.4 x.5 x.6
-          ∙ sym (consider_missing s a.mask h v laid g l.p old (sought ∙ x.0.taken) x.1.result (rw (n, o) x.1.ensures) x.2.result x.2.ensures
-          (rw (length-frontiers a.w a.scratch.now a.m) x.3.left)))
-          (λ x. same-gathered x.1 x.2 x.3 ∙ sym (consider_passed s a.mask h v laid g l.p old (sought ∙ x.0.left))))
-          c.if-is_sought.branch
-          ∙ ap (consider s laid g l.p) (l.invariant.2 s g h v n o q)
-          ∙ sym (gathered_more s laid a.hints g l.p),
+          let turn : sofar c.if-is_sought.ors c.if-is_sought.ands c.if-is_sought.begins ≡ consider s laid g l.p old =
+          elim c.if-is_sought.branch [
+            | then-is_sought+then-place-m x ↦ let place = x.seek-place in
+                let e : values_at laid place.result ≡ x.values_at-values.result =
+                values_at_lem a.w a.scratch.now a.m place.result x.if-place-m.true ∙ sym x.values_at-values.ensures in
+                same-gathered (x.ors-is ∙ x.or_words-ors.ensures ∙ ap (bit_or l.ors) (sym e)) (x.ands-is ∙ x.and_words-ands.ensures ∙ ap (bit_and l.ands) (sym e)) x.begins-is
+                ∙ sym (consider-found s a.mask h v laid g l.p old (sought ∙ x.if-is_sought.true) x.minus-key.result (rw (n, o) x.minus-key.ensures) place.result place.ensures
+                (rw (length-frontiers a.w a.scratch.now a.m) x.if-place-m.true))
+            | then-is_sought+else-place-m x ↦ let place = x.seek-place in
+                same-gathered x.ors-is x.ands-is x.begins-is
+                ∙ sym (consider_missing s a.mask h v laid g l.p old (sought ∙ x.if-is_sought.true) x.minus-key.result (rw (n, o) x.minus-key.ensures) place.result place.ensures
+                (rw (length-frontiers a.w a.scratch.now a.m) x.if-place-m.false))
+            | else-is_sought x ↦ same-gathered x.ors-is x.ands-is x.begins-is
+                ∙ sym (consider_passed s a.mask h v laid g l.p old (sought ∙ x.if-is_sought.false))
+          ] in
+          turn ∙ ap (consider s laid g l.p) (l.invariant.2 s g h v n o q) ∙ sym (gathered_more s laid a.hints g l.p),
     )
 
 pub returns : goal.returns

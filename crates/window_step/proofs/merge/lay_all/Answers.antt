@@ -118,7 +118,9 @@ pub overflow_add-j : goal.overflow_add-j
 overflow_add-j c = let here = leading (goal.at.overflow_add-j c).After-lay_fresh-arg-1 in search rules
 
 pub next_marked-j-requires-then-fresh_first-clause-n_in_bounds : goal.next_marked-j-requires-then-fresh_first-clause-n_in_bounds
-next_marked-j-requires-then-fresh_first-clause-n_in_bounds c = (c.requires.n_in_bounds, omega arith)
+next_marked-j-requires-then-fresh_first-clause-n_in_bounds c =
+    let here = leading (goal.at.next_marked-j-requires-then-fresh_first-clause-n_in_bounds c).After-lay_fresh-arg-1 in
+    (c.requires.n_in_bounds, omega arith)
 
 pub next_marked-j-requires-then-fresh_first-clause-p_bound : goal.next_marked-j-requires-then-fresh_first-clause-p_bound
 next_marked-j-requires-then-fresh_first-clause-p_bound c = omega arith
@@ -136,7 +138,7 @@ loop-m-preserved-then-fresh_first c =
       search rules,
       search rules,
       next.ensures.upper_bound,
-      laid_fresh s c.args.fixed.event refl refl w window _ _ _ _ _ _ _ c.loop-m.invariant.4 (search rules) (sym c.fresh_first.ensures ∙ c.if-fresh_first.true-raw)
+      laid_fresh s c.args.fixed.event refl refl w window _ _ _ _ _ _ _ c.loop-m.invariant.4 (search rules) (sym c.fresh_first.ensures ∙ c.if-fresh_first.true)
           _ c.lay_fresh-ended.ensures.m_after _ c.lay_fresh-ended.ensures.value
           next.result next.ensures.upper_bound (next.ensures.from_value (enabled_at s) w window (leading_told (goal.at.loop-m-preserved-then-fresh_first c).Start)) (next.ensures.result_value (enabled_at s) w window (leading_told (goal.at.loop-m-preserved-then-fresh_first c).Start)),
     )
@@ -166,7 +168,9 @@ pub overflow_add-i : goal.overflow_add-i
 overflow_add-i c = let here = remains (goal.at.overflow_add-i c).After-lay_staying-arg-1 in search rules
 
 pub next_marked-i-requires-else-fresh_first-clause-n_in_bounds : goal.next_marked-i-requires-else-fresh_first-clause-n_in_bounds
-next_marked-i-requires-else-fresh_first-clause-n_in_bounds c = (c.requires.n_in_bounds, omega arith)
+next_marked-i-requires-else-fresh_first-clause-n_in_bounds c =
+    let here = remains (goal.at.next_marked-i-requires-else-fresh_first-clause-n_in_bounds c).After-lay_staying-arg-1 in
+    (c.requires.n_in_bounds, omega arith)
 
 pub next_marked-i-requires-else-fresh_first-clause-p_bound : goal.next_marked-i-requires-else-fresh_first-clause-p_bound
 next_marked-i-requires-else-fresh_first-clause-p_bound c = omega arith
@@ -184,7 +188,7 @@ loop-m-preserved c =
       search rules,
       next.ensures.upper_bound,
       search rules,
-      laid_staying s c.args.fixed.event refl refl w window _ _ _ _ _ _ _ c.loop-m.invariant.4 (search rules) (sym c.fresh_first.ensures ∙ c.if-fresh_first.false-raw)
+      laid_staying s c.args.fixed.event refl refl w window _ _ _ _ _ _ _ c.loop-m.invariant.4 (search rules) (sym c.fresh_first.ensures ∙ c.if-fresh_first.false)
           _ c.lay_staying.ensures
           next.result next.ensures.upper_bound (next.ensures.from_value (stays s) w window (staying_told (goal.at.loop-m-preserved c).Start)) (next.ensures.result_value (stays s) w window (staying_told (goal.at.loop-m-preserved c).Start)),
     )
