@@ -10,7 +10,6 @@ use lib.ListN.{length, drop, replicate, drop_of_length-le}
 use lib.Seq.{drop-cons}
 use borrow.Author.Tests.{lt-ltb, le-ltb}
 use Rattle.clocks.specs.declared.Event.{Event}
-use Rattle.clocks.specs.Counts.{at}
 use Rattle.frontiers.specs.declared.Frontier.{Frontier}
 use Rattle.frontiers.specs.Bytes.{frontier_at, frontiers}
 use Rattle.frontiers.specs.WindowLaws.{length-frontiers, get_d_frontiers}

@@ -1,5 +1,4 @@
 use mathlib.Core.Path.{ap, ◌∙◌}
-use Prim.Native.Nat.{◌-◌}
 use Rattle.clocks.specs.stored.CountsLaws.{filled, fill_next}
 use Rattle.window_step.specs.FullBytes.{full_byte}
 use Rattle.std.proofs.Common.{rules}

@@ -1,4 +1,3 @@
-use Prim.Native.Nat.{◌-◌}
 use Rattle.codec.specs.Bit.{bit}
 use Rattle.clocks.specs.stored.CountsLaws.{filled, fill_next}
 use Rattle.window.specs.Lists.{made_at}

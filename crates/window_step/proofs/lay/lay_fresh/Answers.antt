@@ -2,6 +2,7 @@
 use mathlib.Core.Path.{◌≡◌, refl, sym, ap, ◌∙◌, subst}
 use Prim.Native.Nat.{ℕ, ◌<◌, ◌+◌, ◌^◌}
 use mathlib.Core.List.{List, [], ◌∷◌, ◌++◌}
+use Rattle.codec.specs.Little.{Bytes}
 use Rattle.frontiers.specs.Bytes.{frontier_at, frontiers}
 use Rattle.frontiers.specs.WindowLaws.{frontiers_stored}
 use Rattle.frontiers.specs.Shaped.{Shaped}
@@ -17,23 +18,11 @@ use Rattle.std.proofs.Common.{rules}
 use Rattle.window_step.proofs.lay.lay_fresh.Goals as goal
 use Rattle.window_step.proofs.lay.lay_fresh.Goals.{After-advanced-g, After-judge-values}
 
--- ---- Places in the walk: the start, the new frontier, what was gathered for it
-
--- ---- The needs
-
-pub advanced-g-requires-clause-full_value : goal.advanced-g-requires-clause-full_value
-advanced-g-requires-clause-full_value c =
-    let p = c.requires in
-    p.full_value
-
 pub advanced-g-requires-clause-t : goal.advanced-g-requires-clause-t
 advanced-g-requires-clause-t c =
     let e = c.args.fixed.event in
     let p = c.requires in
     subst (λ (f : Frontier). T (ready 8 e (at f.counts))) (sym c.frontier_at-f.ensures) p.t
-
-pub judge-values-requires : goal.judge-values-requires
-judge-values-requires c = c.requires.lines_bound
 
 -- The new frontier, not judged yet, is that of the definition.
 leads : (c : After-advanced-g) → let a = c.args in
@@ -41,9 +30,9 @@ leads : (c : After-advanced-g) → let a = c.args in
 leads c s h v = c.advanced-g.ensures s h v ∙ ap (advanced s) c.frontier_at-f.ensures
 
 -- What is laid down is of proper shape.
-proper : (c : After-judge-values) → let g = c.advanced-g.result in
+proper : (c : After-judge-values) → Bytes c.args.window.now → let g = c.advanced-g.result in
     Shaped c.args.fixed.w (record { counts = g.counts; labels = g.labels; masks = g.masks; values = c.judge-values.result })
-proper c =
+proper c bytes =
     let a = c.args in
     let p = c.requires in
     let w = a.fixed.w in
@@ -51,25 +40,11 @@ proper c =
     let f = frontier_at w a.window.now a.j in
     let small : c.judge-values.result < 256 ^ 8 = search rules in
     subst (λ (g : Frontier). Shaped w (record { counts = g.counts; labels = g.labels; masks = g.masks; values = c.judge-values.result })) (sym (leads (goal.at.After-judge-values c).After-advanced-g s refl refl))
-    (shaped_advanced w s a.fixed.event f c.judge-values.result refl refl p.fitting (shaped_at w a.window.now a.j (λ i. (c.shared_slice_known-1.given i).fits) p.place_for.1) p.t small)
-
-pub lay_frontier-requires-clause-width : goal.lay_frontier-requires-clause-width
-lay_frontier-requires-clause-width c =
-    let p = c.requires in
-    p.width
-
-pub lay_frontier-requires-clause-i_bound : goal.lay_frontier-requires-clause-i_bound
-lay_frontier-requires-clause-i_bound c =
-    let p = c.requires in
-    p.place_for_2.0
-
-pub lay_frontier-requires-clause-w_in_bounds : goal.lay_frontier-requires-clause-w_in_bounds
-lay_frontier-requires-clause-w_in_bounds c =
-    let p = c.requires in
-    p.place_for_2.1
+    (shaped_advanced w s a.fixed.event f c.judge-values.result refl refl p.fitting (shaped_at w a.window.now a.j bytes p.place_for.1) p.t small)
 
 pub lay_frontier-requires-clause-by_index : goal.lay_frontier-requires-clause-by_index
-lay_frontier-requires-clause-by_index c = λ q. (proper (goal.at.lay_frontier-requires-clause-by_index c).After-judge-values).counts_fit q
+lay_frontier-requires-clause-by_index c =
+    (proper (goal.at.lay_frontier-requires-clause-by_index c).After-judge-values (λ i. (c.type_inv.window i).fits)).counts_fit
 
 pub returns-clause-value : goal.returns-clause-value
 returns-clause-value c =
@@ -96,5 +71,5 @@ returns-clause-m_after c =
     let new = leads (goal.at.returns-clause-m_after c).After-advanced-g s refl refl in
     let gathers = c.gather-found.ensures s refl refl in
     ap (λ (bs : List ℕ). frontiers w bs (a.m + 1)) c.lay_frontier.ensures
-    ∙ frontiers_stored w a.scratch.now a.m _ (proper (goal.at.returns-clause-m_after c).After-judge-values) c.requires.place_for_2.1
+    ∙ frontiers_stored w a.scratch.now a.m _ (proper (goal.at.returns-clause-m_after c).After-judge-values (λ i. (c.type_inv.window i).fits)) c.requires.place_for_2.1
     ∙ ap (λ (x : Frontier). laid ++ (x ∷ [])) (fresh_is s laid a.hints f g r new gathers c.judge-values.result c.judge-values.ensures)

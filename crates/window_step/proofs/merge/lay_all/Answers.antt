@@ -1,6 +1,8 @@
 use native.Mathlib.Omega.{arith}
 use mathlib.Core.Path.{◌≡◌, refl, sym, ap, ◌∙◌}
-use Prim.Native.Nat.{◌<◌, ◌-◌}
+use mathlib.Core.Bool.{true, false}
+use Rattle.window_step.specs.Laying.{fresh_at}
+use Prim.Native.Nat.{◌<◌}
 use Rattle.frontiers.specs.Bytes.{frontiers}
 use Rattle.frontiers.specs.WindowLaws.{place-within}
 use Rattle.window_step.specs.Fixed.{setting_of}
@@ -11,9 +13,7 @@ use Rattle.clocks.specs.cuts.EventLaws.{true-T}
 use Rattle.clocks.specs.Counts.{list_of}
 use Rattle.std.proofs.Common.{rules}
 use Rattle.window_step.proofs.merge.lay_all.Goals as goal
-use Rattle.window_step.proofs.merge.lay_all.Goals.{After-lay_fresh-arg-1, After-lay_staying-arg-1, Start}
-
--- ---- Places in the walk: the start, the turn in which one is laid down, the one that is laid down
+use Rattle.window_step.proofs.merge.lay_all.Goals.{Start, In-loop-m}
 
 -- The step's setting, and its marks.
 abbrev setting : Start → Setting
@@ -27,8 +27,6 @@ staying_told c = tells_stays (setting c) _ _ _ c.args.marks.now (marked c)
 
 leading_told : (c : Start) → let a = c.args in Tells 1 (enabled_at (setting c)) a.fixed.w a.window.now a.fixed.n a.marks.now
 leading_told c = tells_enabled (setting c) _ _ _ c.args.marks.now (marked c)
-
--- ---- The needs
 
 pub loop-m-init : goal.loop-m-init
 unfolding frontiers list_of
@@ -47,83 +45,40 @@ loop-m-init c =
           leads.result leads.ensures.upper_bound (leads.ensures.from_value (enabled_at s) w window (leading_told (goal.at.loop-m-init c).Start)) (leads.ensures.result_value (enabled_at s) w window (leading_told (goal.at.loop-m-init c).Start)),
     )
 
-pub fresh_first-requires-clause-width : goal.fresh_first-requires-clause-width
-unfolding enabled_at
-fresh_first-requires-clause-width c = search rules
-
-pub fresh_first-requires-clause-room_for : goal.fresh_first-requires-clause-room_for
-unfolding enabled_at
-fresh_first-requires-clause-room_for c = search rules
-
 pub fresh_first-requires-clause-j_value : goal.fresh_first-requires-clause-j_value
 unfolding enabled_at
 fresh_first-requires-clause-j_value c = c.loop-m.invariant.4.leading_here
 
 -- Where a new one comes first, there is one that the event leads on from.
-leading : (c : After-lay_fresh-arg-1) → c.loop-m.j < c.args.fixed.n
-leading c = leading_left (setting (goal.at.After-lay_fresh-arg-1 c).Start) c.args.fixed.event refl refl _ _ _ _ _ _ _ _ _ c.loop-m.invariant.4 (search rules) (sym c.fresh_first.ensures ∙ c.if-fresh_first.true)
-
-pub lay_fresh-ended-requires-clause-width : goal.lay_fresh-ended-requires-clause-width
-unfolding enabled_at
-lay_fresh-ended-requires-clause-width c =
-    let p = c.requires in
-    p.width
-
-pub lay_fresh-ended-requires-clause-fitting : goal.lay_fresh-ended-requires-clause-fitting
-unfolding enabled_at
-lay_fresh-ended-requires-clause-fitting c =
-    let p = c.requires in
-    p.fitting
+leading : (c : In-loop-m) → let l = c.loop-m in fresh_at c.args.fixed.event c.args.fixed.w c.args.window.now c.args.fixed.n l.i l.j ≡ true → l.j < c.args.fixed.n
+leading c e = leading_left (setting (goal.at.In-loop-m c).Start) c.args.fixed.event refl refl _ _ _ _ _ _ _ _ _ c.loop-m.invariant.4 (search rules) e
 
 pub lay_fresh-ended-requires-clause-place_for : goal.lay_fresh-ended-requires-clause-place_for
-unfolding enabled_at
 lay_fresh-ended-requires-clause-place_for c =
     let a = c.args.fixed in
-    let here : c.loop-m.j < a.n = leading (goal.at.lay_fresh-ended-requires-clause-place_for c).After-lay_fresh-arg-1 in
+    let here : c.loop-m.j < a.n = leading (goal.at.lay_fresh-ended-requires-clause-place_for c).In-loop-m (sym c.fresh_first.ensures ∙ c.if-fresh_first.true) in
     (omega arith, omega (arith, place-within c.loop-m.j a.n a.w here))
 
 pub lay_fresh-ended-requires-clause-place_for_2 : goal.lay_fresh-ended-requires-clause-place_for_2
-unfolding enabled_at
 lay_fresh-ended-requires-clause-place_for_2 c =
     let a = c.args.fixed in
     let room = place-within c.loop-m.m a.kept a.w (search rules) in
     (omega arith, omega (arith, room))
 
-pub lay_fresh-ended-requires-clause-lines_bound : goal.lay_fresh-ended-requires-clause-lines_bound
-unfolding enabled_at
-lay_fresh-ended-requires-clause-lines_bound c =
-    let p = c.requires in
-    p.lines_bound
-
-pub lay_fresh-ended-requires-clause-k_bound : goal.lay_fresh-ended-requires-clause-k_bound
-unfolding enabled_at
-lay_fresh-ended-requires-clause-k_bound c =
-    let p = c.requires in
-    p.k_bound
-
 pub lay_fresh-ended-requires-clause-t : goal.lay_fresh-ended-requires-clause-t
 unfolding enabled_at
 lay_fresh-ended-requires-clause-t c =
     let a = c.args.fixed in
-    let here : c.loop-m.j < a.n = leading (goal.at.lay_fresh-ended-requires-clause-t c).After-lay_fresh-arg-1 in
+    let here : c.loop-m.j < a.n = leading (goal.at.lay_fresh-ended-requires-clause-t c).In-loop-m (sym c.fresh_first.ensures ∙ c.if-fresh_first.true) in
     true-T (c.loop-m.invariant.4.leading_here here)
 
-pub lay_fresh-ended-requires-clause-full_value : goal.lay_fresh-ended-requires-clause-full_value
-unfolding enabled_at
-lay_fresh-ended-requires-clause-full_value c =
-    let full = c.full_bytes-full.ensures in
-    full
-
 pub overflow_add-j : goal.overflow_add-j
-overflow_add-j c = let here = leading (goal.at.overflow_add-j c).After-lay_fresh-arg-1 in search rules
+overflow_add-j c = let here = leading (goal.at.overflow_add-j c).In-loop-m (sym c.fresh_first.ensures ∙ c.if-fresh_first.true) in search rules
 
 pub next_marked-j-requires-then-fresh_first-clause-n_in_bounds : goal.next_marked-j-requires-then-fresh_first-clause-n_in_bounds
 next_marked-j-requires-then-fresh_first-clause-n_in_bounds c =
-    let here = leading (goal.at.next_marked-j-requires-then-fresh_first-clause-n_in_bounds c).After-lay_fresh-arg-1 in
+    let here = leading (goal.at.next_marked-j-requires-then-fresh_first-clause-n_in_bounds c).In-loop-m (sym c.fresh_first.ensures ∙ c.if-fresh_first.true) in
     (c.requires.n_in_bounds, omega arith)
-
-pub next_marked-j-requires-then-fresh_first-clause-p_bound : goal.next_marked-j-requires-then-fresh_first-clause-p_bound
-next_marked-j-requires-then-fresh_first-clause-p_bound c = omega arith
 
 pub overflow_add-m : goal.overflow_add-m
 overflow_add-m c = let room = c.requires.room_for_2.0 in search rules
@@ -144,18 +99,13 @@ loop-m-preserved-then-fresh_first c =
     )
 
 -- Where none comes first, there is one that stays.
-remains : (c : After-lay_staying-arg-1) → c.loop-m.i < c.args.fixed.n
-remains c = staying_left (setting (goal.at.After-lay_staying-arg-1 c).Start) c.args.fixed.event refl refl _ _ _ _ _ _ _ _ _ c.loop-m.invariant.4 (search rules) (sym c.fresh_first.ensures ∙ c.if-fresh_first.false)
-
-pub lay_staying-requires-clause-width : goal.lay_staying-requires-clause-width
-lay_staying-requires-clause-width c =
-    let p = c.requires in
-    p.width
+remains : (c : In-loop-m) → let l = c.loop-m in fresh_at c.args.fixed.event c.args.fixed.w c.args.window.now c.args.fixed.n l.i l.j ≡ false → l.i < c.args.fixed.n
+remains c e = staying_left (setting (goal.at.In-loop-m c).Start) c.args.fixed.event refl refl _ _ _ _ _ _ _ _ _ c.loop-m.invariant.4 (search rules) e
 
 pub lay_staying-requires-clause-place_for : goal.lay_staying-requires-clause-place_for
 lay_staying-requires-clause-place_for c =
     let a = c.args.fixed in
-    let here : c.loop-m.i < a.n = remains (goal.at.lay_staying-requires-clause-place_for c).After-lay_staying-arg-1 in
+    let here : c.loop-m.i < a.n = remains (goal.at.lay_staying-requires-clause-place_for c).In-loop-m (sym c.fresh_first.ensures ∙ c.if-fresh_first.false) in
     (omega arith, omega (arith, place-within c.loop-m.i a.n a.w here))
 
 pub lay_staying-requires-clause-place_for_2 : goal.lay_staying-requires-clause-place_for_2
@@ -165,15 +115,12 @@ lay_staying-requires-clause-place_for_2 c =
     (omega arith, omega (arith, room))
 
 pub overflow_add-i : goal.overflow_add-i
-overflow_add-i c = let here = remains (goal.at.overflow_add-i c).After-lay_staying-arg-1 in search rules
+overflow_add-i c = let here = remains (goal.at.overflow_add-i c).In-loop-m (sym c.fresh_first.ensures ∙ c.if-fresh_first.false) in search rules
 
 pub next_marked-i-requires-else-fresh_first-clause-n_in_bounds : goal.next_marked-i-requires-else-fresh_first-clause-n_in_bounds
 next_marked-i-requires-else-fresh_first-clause-n_in_bounds c =
-    let here = remains (goal.at.next_marked-i-requires-else-fresh_first-clause-n_in_bounds c).After-lay_staying-arg-1 in
+    let here = remains (goal.at.next_marked-i-requires-else-fresh_first-clause-n_in_bounds c).In-loop-m (sym c.fresh_first.ensures ∙ c.if-fresh_first.false) in
     (c.requires.n_in_bounds, omega arith)
-
-pub next_marked-i-requires-else-fresh_first-clause-p_bound : goal.next_marked-i-requires-else-fresh_first-clause-p_bound
-next_marked-i-requires-else-fresh_first-clause-p_bound c = omega arith
 
 pub overflow_add-m-else-fresh_first : goal.overflow_add-m-else-fresh_first
 overflow_add-m-else-fresh_first c = let room = c.requires.room_for_2.0 in search rules

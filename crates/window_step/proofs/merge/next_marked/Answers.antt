@@ -1,6 +1,6 @@
 use native.Mathlib.Omega.{arith}
 use mathlib.Core.Path.{◌≡◌, refl, sym, ap, ◌∙◌}
-use Prim.Native.Nat.{◌<◌, ◌-◌}
+use Prim.Native.Nat.{◌<◌}
 use native.Mathlib.Nat.{le_refl}
 use Rattle.window_step.specs.Laying.{rest_of}
 use Rattle.window_step.proofs.merge.MergeSteps.{rest_pass}

@@ -1,17 +1,15 @@
 -- The bytes of the frontiers, then zeros where there were more: the laws `copied_replaced` and `read_back`.
-use Prim.Native.Nat.{ℕ, ◌-◌, ◌<◌}
+use Prim.Native.Nat.{ℕ}
 use native.Mathlib.Omega.{arith}
 use mathlib.Core.Path.{ap, ◌∙◌}
 use mathlib.Core.List.{List}
-use lib.ListN.{get_or, length, replicate}
+use lib.ListN.{length, replicate}
 use lib.Seq.{sets}
+use Rattle.codec.specs.Little.{Bytes}
 use Rattle.frontiers.specs.Bytes.{frontiers, frontier_length}
 use Rattle.frontiers.specs.WindowLaws.{left_within, copied_replaced, read_back}
+use Rattle.std.proofs.Common.{rules}
 use Rattle.window_step.proofs.step.copy_back.Goals as goal
-
--- ---- Places in the walk: the start, where the bytes end, when they are moved, when what is left is cleared
-
--- ---- The needs
 
 pub clear-requires : goal.clear-requires
 clear-requires c =
@@ -22,15 +20,12 @@ clear-requires c =
 pub returns-clause-window_after : goal.returns-clause-window_after
 returns-clause-window_after c =
     let a = c.args in
-    let asked = c.requires in
     let far = c.frontier_place-count in
     let left = c.left_over in
-    let bytes : (i : ℕ) → get_or a.scratch.now i 0 < 256 = λ i. (c.slice_known-2-1.given i).fits in
-    let window =
+    let bytes : Bytes a.scratch.now = λ i. search rules in
     c.clear.ensures
     ∙ ap (λ (y : List ℕ). sets y far.result (replicate left.result 0)) c.copy_in.ensures
-    ∙ copied_replaced a.w a.window.now a.scratch.now a.n a.m far.result left.result bytes asked.room_for_3.1 far.ensures.0 left.ensures in
-    window
+    ∙ copied_replaced a.w a.window.now a.scratch.now a.n a.m far.result left.result bytes c.requires.room_for_3.1 far.ensures.0 left.ensures
 
 pub returns-clause-m_after : goal.returns-clause-m_after
 returns-clause-m_after c =
@@ -38,7 +33,7 @@ returns-clause-m_after c =
     let asked = c.requires in
     let far = c.frontier_place-count in
     let left = c.left_over in
-    let bytes : (i : ℕ) → get_or a.scratch.now i 0 < 256 = λ i. (c.slice_known-2-1.given i).fits in
+    let bytes : Bytes a.scratch.now = λ i. search rules in
     let window =
     c.clear.ensures
     ∙ ap (λ (y : List ℕ). sets y far.result (replicate left.result 0)) c.copy_in.ensures
