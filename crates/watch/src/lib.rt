@@ -1,6 +1,8 @@
-// The functions that C calls, on numbers and byte slices, for counts of two bytes: the five calls, and the move that
-// writes a watch of this form. Those of the other form are in `watch32`, compiled apart: so the compiler knows the width
-// of a count in every loop of either.
+// The calls that C makes, on numbers and byte slices, for counts of two bytes: the five calls, and the move that writes
+// a watch of this form. They are exported by `watch_c`. Those of the other form are in `watch32`, compiled apart: so the
+// compiler knows the width of a count in every loop of either.
+
+#![tactic(auto)]
 
 #![tactic(auto)]
 
@@ -15,14 +17,7 @@ ghost use Rattle.call_move.specs.Move.{move_call};
 ghost use Rattle.answers.specs.Answer.{reply_word};
 
 // Opens a watch with a rule's text, so many processes, and start labels that are the bytes of a word.
-#[unsafe(no_mangle)]
-pub extern "C" fn watch_open(
-    rule: &[u8],
-    k: u64,
-    labels: u64,
-    record: &mut [u8],
-    window: &mut [u8],
-) -> u64
+pub fn watch_open(rule: &[u8], k: u64, labels: u64, record: &mut [u8], window: &mut [u8]) -> u64
     ensures reply { result ≡ reply_word (open_call 2 rule.now k (unpack_labels labels)
         «record».old window.old).answer }
     ensures bytes { «record».new ≡ (open_call 2 rule.now k (unpack_labels labels)
@@ -36,8 +31,7 @@ pub extern "C" fn watch_open(
 
 // Offers an event. Its clock is in two words, process p's count at bits 16p of the first or 16(p - 4) of the second;
 // its labels are the bytes of a word.
-#[unsafe(no_mangle)]
-pub extern "C" fn watch_offer(mask: u64, low: u64, high: u64, labels: u64, record: &mut [u8]) -> u64
+pub fn watch_offer(mask: u64, low: u64, high: u64, labels: u64, record: &mut [u8]) -> u64
     ensures reply { result ≡ reply_word (offer_call 2 mask (unpack_counts 2 (low ∷ high ∷ [])) (unpack_labels labels)
         «record».old).answer }
     ensures bytes { «record».new ≡ (offer_call 2 mask (unpack_counts 2 (low ∷ high ∷ []))
@@ -49,8 +43,7 @@ pub extern "C" fn watch_offer(mask: u64, low: u64, high: u64, labels: u64, recor
 }
 
 // Takes the first pending event that is decided on.
-#[unsafe(no_mangle)]
-pub extern "C" fn watch_take(record: &mut [u8], window: &mut [u8], scratch: &mut [u8]) -> u64
+pub fn watch_take(record: &mut [u8], window: &mut [u8], scratch: &mut [u8]) -> u64
     ensures reply { result ≡ reply_word (take_call 2 «record».old window.old
         scratch.old).answer }
     ensures bytes { «record».new ≡ (take_call 2 «record».old window.old
@@ -64,16 +57,14 @@ pub extern "C" fn watch_take(record: &mut [u8], window: &mut [u8], scratch: &mut
 }
 
 // Finds the place of the first kept frontier at which a line holds.
-#[unsafe(no_mangle)]
-pub extern "C" fn watch_find(line: u64, record: &[u8], window: &[u8]) -> u64
+pub fn watch_find(line: u64, record: &[u8], window: &[u8]) -> u64
     ensures { result ≡ reply_word (find_call 2 line «record».now window.now) }
 {
     call_find::find(2, line, record, window)
 }
 
 // Closes a process that will send no more.
-#[unsafe(no_mangle)]
-pub extern "C" fn watch_close(process: u64, record: &mut [u8], window: &mut [u8]) -> u64
+pub fn watch_close(process: u64, record: &mut [u8], window: &mut [u8]) -> u64
     ensures reply { result ≡ reply_word (close_call 2 process «record».old window.old).answer }
     ensures bytes { «record».new
         ≡ (close_call 2 process «record».old window.old).bytes }
@@ -85,13 +76,7 @@ pub extern "C" fn watch_close(process: u64, record: &mut [u8], window: &mut [u8]
 
 // Writes a watch with counts of four bytes as one with counts of two, where every count has a place there (02 [6]). The
 // one that is read stays as it is.
-#[unsafe(no_mangle)]
-pub extern "C" fn watch_narrow(
-    record32: &[u8],
-    window32: &[u8],
-    record: &mut [u8],
-    window: &mut [u8],
-) -> u64
+pub fn watch_narrow(record32: &[u8], window32: &[u8], record: &mut [u8], window: &mut [u8]) -> u64
     ensures reply { result ≡ (move_call 4 2 record32.now window32.now «record».old
         window.old).number }
     ensures bytes { «record».new ≡ (move_call 4 2 record32.now window32.now

@@ -1,5 +1,8 @@
-// The functions that C calls, on numbers and byte slices, for counts of four bytes (02 [6]): the five calls, the move
-// that writes a watch of this form, the page, the busiest day, and the calls of watches that share a pool.
+// The calls that C makes, on numbers and byte slices, for counts of four bytes (02 [6]): the five calls, the move that
+// writes a watch of this form, the page, the busiest day, and the calls of watches that share a pool. They are exported
+// by `watch32_c`.
+
+#![tactic(auto)]
 
 #![tactic(auto)]
 
@@ -19,14 +22,7 @@ ghost use Rattle.answers.specs.Answer.{reply_word};
 ghost use Rattle.answers.specs.Result.{result_word};
 
 // Opens a watch with a rule's text, so many processes, and start labels that are the bytes of a word.
-#[unsafe(no_mangle)]
-pub extern "C" fn watch32_open(
-    rule: &[u8],
-    k: u64,
-    labels: u64,
-    record: &mut [u8],
-    window: &mut [u8],
-) -> u64
+pub fn watch32_open(rule: &[u8], k: u64, labels: u64, record: &mut [u8], window: &mut [u8]) -> u64
     ensures reply { result ≡ reply_word (open_call 4 rule.now k (unpack_labels labels)
         «record».old window.old).answer }
     ensures bytes { «record».new ≡ (open_call 4 rule.now k (unpack_labels labels)
@@ -40,8 +36,7 @@ pub extern "C" fn watch32_open(
 
 // Offers an event. Its clock is in four words of two counts each, the lower process in the lower half; its labels are
 // the bytes of a word.
-#[unsafe(no_mangle)]
-pub extern "C" fn watch32_offer(
+pub fn watch32_offer(
     mask: u64,
     c01: u64,
     c23: u64,
@@ -61,8 +56,7 @@ pub extern "C" fn watch32_offer(
 }
 
 // Takes the first pending event that is decided on.
-#[unsafe(no_mangle)]
-pub extern "C" fn watch32_take(record: &mut [u8], window: &mut [u8], scratch: &mut [u8]) -> u64
+pub fn watch32_take(record: &mut [u8], window: &mut [u8], scratch: &mut [u8]) -> u64
     ensures reply { result ≡ reply_word (take_call 4 «record».old window.old
         scratch.old).answer }
     ensures bytes { «record».new ≡ (take_call 4 «record».old window.old
@@ -76,16 +70,14 @@ pub extern "C" fn watch32_take(record: &mut [u8], window: &mut [u8], scratch: &m
 }
 
 // Finds the place of the first kept frontier at which a line holds.
-#[unsafe(no_mangle)]
-pub extern "C" fn watch32_find(line: u64, record: &[u8], window: &[u8]) -> u64
+pub fn watch32_find(line: u64, record: &[u8], window: &[u8]) -> u64
     ensures { result ≡ reply_word (find_call 4 line «record».now window.now) }
 {
     call_find::find(4, line, record, window)
 }
 
 // Closes a process that will send no more.
-#[unsafe(no_mangle)]
-pub extern "C" fn watch32_close(process: u64, record: &mut [u8], window: &mut [u8]) -> u64
+pub fn watch32_close(process: u64, record: &mut [u8], window: &mut [u8]) -> u64
     ensures reply { result ≡ reply_word (close_call 4 process «record».old window.old).answer }
     ensures bytes { «record».new
         ≡ (close_call 4 process «record».old window.old).bytes }
@@ -96,13 +88,7 @@ pub extern "C" fn watch32_close(process: u64, record: &mut [u8], window: &mut [u
 }
 
 // Writes a watch with counts of two bytes as one with counts of four. The one that is read stays as it is.
-#[unsafe(no_mangle)]
-pub extern "C" fn watch_widen(
-    record: &[u8],
-    window: &[u8],
-    record32: &mut [u8],
-    window32: &mut [u8],
-) -> u64
+pub fn watch_widen(record: &[u8], window: &[u8], record32: &mut [u8], window32: &mut [u8]) -> u64
     ensures reply { result ≡ (move_call 2 4 «record».now window.now record32.old
         window32.old).number }
     ensures bytes { record32.new ≡ (move_call 2 4 «record».now window.now
@@ -114,8 +100,7 @@ pub extern "C" fn watch_widen(
 }
 
 // Writes the kept frontiers as text, a row for each (02 [7]).
-#[unsafe(no_mangle)]
-pub extern "C" fn watch32_page(record: &[u8], window: &[u8], page: &mut [u8]) -> u64
+pub fn watch32_page(record: &[u8], window: &[u8], page: &mut [u8]) -> u64
     ensures reply { result
         ≡ result_word (page_call 4 «record».now window.now page.old).answer }
     ensures page { page.new
@@ -125,8 +110,7 @@ pub extern "C" fn watch32_page(record: &[u8], window: &[u8], page: &mut [u8]) ->
 }
 
 // Writes the events of a busiest day into a list (02 [8]).
-#[unsafe(no_mangle)]
-pub extern "C" fn watch32_busiest(k: u64, n: u64, events: &mut [u8]) -> u64
+pub fn watch32_busiest(k: u64, n: u64, events: &mut [u8]) -> u64
     ensures reply { result ≡ result_word (busiest_call 4 k n events.old).answer }
     ensures events { events.new ≡ (busiest_call 4 k n events.old).events }
 {
@@ -134,8 +118,7 @@ pub extern "C" fn watch32_busiest(k: u64, n: u64, events: &mut [u8]) -> u64
 }
 
 // Writes the shares of watches into a pool (02 [10]).
-#[unsafe(no_mangle)]
-pub extern "C" fn watch32_set_shares(shares: &[u16], pool: &mut [u8]) -> u64
+pub fn watch32_set_shares(shares: &[u16], pool: &mut [u8]) -> u64
     ensures reply { result ≡ result_word (set_shares shares.now pool.old).answer }
     ensures pool { pool.new ≡ (set_shares shares.now pool.old).pool }
 {
@@ -143,8 +126,7 @@ pub extern "C" fn watch32_set_shares(shares: &[u16], pool: &mut [u8]) -> u64
 }
 
 // Opens a watch that shares a pool, by its number there.
-#[unsafe(no_mangle)]
-pub extern "C" fn watch32_shared_open(
+pub fn watch32_shared_open(
     rule: &[u8],
     k: u64,
     labels: u64,
@@ -167,8 +149,7 @@ pub extern "C" fn watch32_shared_open(
 }
 
 // Takes the first pending event that is decided on, of a watch that shares a pool.
-#[unsafe(no_mangle)]
-pub extern "C" fn watch32_shared_take(
+pub fn watch32_shared_take(
     record: &mut [u8],
     window: &mut [u8],
     scratch: &mut [u8],
@@ -190,8 +171,7 @@ pub extern "C" fn watch32_shared_take(
 }
 
 // Closes a process of a watch that shares a pool.
-#[unsafe(no_mangle)]
-pub extern "C" fn watch32_shared_close(
+pub fn watch32_shared_close(
     process: u64,
     record: &mut [u8],
     window: &mut [u8],
