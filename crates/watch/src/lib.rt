@@ -4,8 +4,6 @@
 
 #![tactic(auto)]
 
-#![tactic(auto)]
-
 ghost use Rattle.std.specs.Prelude.{◌≡◌, [], ◌∷◌};
 ghost use Rattle.call_words.specs.Words.{unpack_counts, unpack_labels};
 ghost use Rattle.call_open.specs.Open.{open_call};
