@@ -4,7 +4,6 @@ use Rattle.std.proofs.Common.{arith, add-one, zero-add, suc-mul, add-zero, sym, 
 use Rattle.std.proofs.lemmas.List.Edits.{sets}
 use Rattle.codec.specs.Little.{bytes_of, put}
 use Rattle.codec.specs.SetsLaws.{sets-append, sets-tail}
-use Rattle.clocks.specs.Counts.{at}
 use Rattle.frontiers.specs.BytesLaws.{length-count_bytes, count_bytes-append, count_bytes-one}
 use Rattle.frontiers.specs.Bytes.{count_bytes, frontier_bytes}
 use Rattle.frontiers.specs.declared.Frontier.{Frontier}

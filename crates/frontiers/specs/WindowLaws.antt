@@ -8,7 +8,7 @@ use Rattle.std.proofs.lemmas.List.{length-replicate, replicate-append-replicate}
 use Rattle.std.proofs.lemmas.List.Edits.{sets, sets-eq}
 use Rattle.std.proofs.Math.Seq.{drop-append-add, length-take-le}
 use Rattle.codec.specs.Little.{Bytes, number}
-use Rattle.clocks.specs.Counts.{list_of, at}
+use Rattle.clocks.specs.Counts.{list_of}
 use Rattle.codec.specs.SetsLaws.{take-sets, part-sets, sets-append}
 use Rattle.clocks.specs.stored.CountsLaws.{length-list_of, get_d_list_of, filled, list_of-same}
 use Rattle.frontiers.specs.declared.Frontier.{Frontier}

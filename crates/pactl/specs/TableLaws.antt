@@ -1,5 +1,5 @@
 -- Laws of a table's bytes.
-use Rattle.std.specs.Prelude.{◌+◌, ◌*◌, ◌≡◌, refl, List, [], ◌∷◌, ◌++◌, length}
+use Rattle.std.specs.Prelude.{◌*◌, ◌≡◌, refl, List, [], ◌∷◌, ◌++◌, length}
 use Rattle.std.proofs.Common.{arith}
 use Rattle.pactl.specs.declared.Line.{Line}
 use Rattle.pactl.specs.Table.{table_bytes}

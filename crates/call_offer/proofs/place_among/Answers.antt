@@ -21,14 +21,14 @@ pub returns-then-not-key_before : goal.returns-then-not-key_before
 returns-then-not-key_before c =
     let a = c.args in
     let l = c.loop-i in
-    let place = place_here a.w a.«record».now a.e l.i (omega arith) (here (goal.at.returns-then-not-key_before c).After-key_before ∙ not-true _ c.if-not-key_before.true-raw) in
+    let place = place_here a.w a.«record».now a.e l.i (omega arith) (here (goal.at.returns-then-not-key_before c).After-key_before ∙ c.if-not-key_before.true) in
     (sym (l.invariant.2 ∙ place), omega arith)
 
 pub loop-i-preserved : goal.loop-i-preserved
 loop-i-preserved c =
     let a = c.args in
     let l = c.loop-i in
-    let place = place_further a.w a.«record».now a.e l.i (omega arith) (here (goal.at.loop-i-preserved c).After-key_before ∙ not-false _ c.if-not-key_before.false-raw) in
+    let place = place_further a.w a.«record».now a.e l.i (omega arith) (here (goal.at.loop-i-preserved c).After-key_before ∙ c.if-not-key_before.false) in
     (search rules, search rules, l.invariant.2 ∙ place)
 
 pub returns : goal.returns

@@ -1,8 +1,7 @@
-use Prim.Native.Nat.{ℕ, ◌-◌}
+use Prim.Native.Nat.{ℕ}
 use native.Mathlib.Omega.{arith}
 use mathlib.Core.Path.{◌≡◌, refl, sym, ap, ◌∙◌}
 use mathlib.Core.List.{List}
-use mathlib.Core.Logic.{⊎_elim}
 use Rattle.codec.specs.Bit.{bit}
 use Rattle.clocks.specs.Counts.{list_of, clock_rows, at}
 use Rattle.clocks.specs.Joined.{join_to}

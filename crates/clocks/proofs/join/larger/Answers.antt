@@ -1,4 +1,3 @@
-use Prim.Native.Nat.{◌-◌}
 use Rattle.clocks.specs.stored.CountsLaws.{filled, fill_next}
 use Rattle.std.proofs.Common.{rules}
 use Rattle.clocks.proofs.join.larger.Goals as goal

@@ -1,6 +1,6 @@
 -- Below 8 the count is the clock's; at 8, past the end of the clock, it is 0.
-use mathlib.Core.Path.{◌≡◌, sym, ◌∙◌}
-use lib.ListN.{length, length-map}
+use mathlib.Core.Path.{◌≡◌}
+use lib.ListN.{length}
 use Rattle.clocks.specs.stored.KeyLaws.{key_at, key_beyond}
 use Rattle.clocks.specs.Key.{lowest}
 use Rattle.std.proofs.Common.{rules}

@@ -1,7 +1,6 @@
-use Prim.Native.Nat.{◌-◌}
 use native.Mathlib.Omega.{arith}
 use mathlib.Core.Path.{◌≡◌, sym, ap, ◌∙◌}
-use mathlib.Core.Bool.{false, Bool, not, ◌&&◌}
+use mathlib.Core.Bool.{Bool, not, ◌&&◌}
 use lib.Dec.{eqb}
 use Rattle.clocks.specs.Counts.{at}
 use Rattle.clocks.specs.Refusal.{bad_labels, bad_label}

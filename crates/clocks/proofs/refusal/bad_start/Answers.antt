@@ -1,7 +1,5 @@
-use Prim.Native.Nat.{◌-◌}
 use native.Mathlib.Omega.{arith}
 use mathlib.Core.Path.{◌≡◌, sym, ◌∙◌}
-use mathlib.Core.Bool.{false}
 use Rattle.clocks.specs.Refusal.{bad_start, bad_start_label}
 use Rattle.clocks.specs.stored.BoundedTurns.{any_none, any_next, any_stop}
 use Rattle.std.proofs.Common.{rules}

@@ -1,4 +1,3 @@
-use Prim.Native.Nat.{◌-◌}
 use native.Mathlib.Omega.{arith}
 use mathlib.Core.Path.{◌≡◌, sym, ap, ◌∙◌}
 use mathlib.Core.Bool.{Bool}
@@ -27,12 +26,12 @@ pub returns-then-not-ready_at : goal.returns-then-not-ready_at
 unfolding ready
 returns-then-not-ready_at c =
     let a = c.args in
-    sym (all_stop 8 c.loop-p.p (test a.e a.counts) (search rules) (here (goal.at.returns-then-not-ready_at c).After-ready_at ∙ not-true _ c.if-not-ready_at.true-raw))
+    sym (all_stop 8 c.loop-p.p (test a.e a.counts) (search rules) (here (goal.at.returns-then-not-ready_at c).After-ready_at ∙ c.if-not-ready_at.true))
 
 pub loop-p-preserved : goal.loop-p-preserved
 loop-p-preserved c =
     let a = c.args in
-    (search rules, all_next c.loop-p.p (test a.e a.counts) c.loop-p.invariant.1 (here (goal.at.loop-p-preserved c).After-ready_at ∙ not-false _ c.if-not-ready_at.false-raw))
+    (search rules, all_next c.loop-p.p (test a.e a.counts) c.loop-p.invariant.1 (here (goal.at.loop-p-preserved c).After-ready_at ∙ c.if-not-ready_at.false))
 
 pub returns : goal.returns
 unfolding ready

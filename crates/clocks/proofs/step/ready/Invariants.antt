@@ -6,7 +6,7 @@ use mathlib.Core.Bool.{Bool, true}
 use Rattle.clocks.specs.Bounded.{all_below}
 use Rattle.clocks.specs.Counts.{at}
 use Rattle.clocks.specs.Event.{involved, count}
-use Rattle.clocks.specs.Tested.{ready_at, ready}
+use Rattle.clocks.specs.Tested.{ready_at}
 use Rattle.clocks.specs.declared.Event.{Event}
 use Rattle.clocks.proofs.step.ready.Given as goal
 

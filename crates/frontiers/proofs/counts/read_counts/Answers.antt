@@ -1,4 +1,4 @@
-use Prim.Native.Nat.{◌-◌, ◌+◌, ◌*◌}
+use Prim.Native.Nat.{◌+◌, ◌*◌}
 use native.Mathlib.Omega.{arith}
 use Rattle.clocks.specs.stored.CountsLaws.{fill_next, filled}
 use Rattle.codec.specs.Little.{number}

@@ -2,7 +2,6 @@ use Prim.Native.Nat.{ℕ, ◌+◌, ◌-◌}
 use native.Mathlib.Omega.{arith}
 use mathlib.Core.Path.{◌≡◌, ap, ◌∙◌}
 use mathlib.Core.List.{List}
-use mathlib.Core.Option.{none}
 use lib.ListN.{get_or, set}
 use Rattle.frontiers.proofs.moving.MovingSteps.{moved_up, up_none, up_next, up_all}
 use Rattle.std.proofs.Common.{rules}

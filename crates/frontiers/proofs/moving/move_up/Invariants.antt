@@ -1,5 +1,5 @@
 -- The bytes from number i on are moved, one more with each turn: the law `up_next`.
-use Prim.Native.Nat.{◌≤◌, ◌-◌}
+use Prim.Native.Nat.{◌≤◌}
 use mathlib.Core.Path.{◌≡◌}
 use lib.ListN.{length}
 use Rattle.frontiers.proofs.moving.MovingSteps.{moved_up}

@@ -27,12 +27,12 @@ returns-then-not-is_digit c =
     let s = c.args.line.now in
     let e : digits (drop l.end s) ≡ [] =
     digits-end s l.end
-    (rw (← c.byte_at-c.ensures) (sym c.is_digit.ensures ∙ not-true _ c.if-not-is_digit.true-raw))
+    (rw (← c.byte_at-c.ensures) (sym c.is_digit.ensures ∙ c.if-not-is_digit.true))
     in
     read s _ l.end l.value l.invariant.0 l.invariant.1 e
 
 pub grown-value-requires : goal.grown-value-requires
-grown-value-requires c = digit_bounds _ (sym c.is_digit.ensures ∙ not-false _ c.if-not-is_digit.false-raw)
+grown-value-requires c = digit_bounds _ (sym c.is_digit.ensures ∙ c.if-not-is_digit.false)
 
 pub loop-end-preserved : goal.loop-end-preserved
 loop-end-preserved c =
@@ -42,7 +42,7 @@ loop-end-preserved c =
     let e : digits (drop l.end s) ≡ byte_at s l.end ∷ digits (drop (l.end + 1) s) =
     digits_next s l.end
     (rw (← c.byte_at-c.ensures)
-    (sym c.is_digit.ensures ∙ not-false _ c.if-not-is_digit.false-raw))
+    (sym c.is_digit.ensures ∙ c.if-not-is_digit.false))
     in
     let g : c.grown-value.result ≡ grown l.value (byte_at s l.end) =
     rw (← c.byte_at-c.ensures) c.grown-value.ensures in (

@@ -1,5 +1,4 @@
 use native.Mathlib.Omega.{arith}
-use Prim.Native.Nat.{◌-◌}
 use Rattle.lookup.specs.OrderLaws.{before-drop-equal}
 use Rattle.std.proofs.Common.{rules}
 use Rattle.lookup.proofs.order.first_difference.Goals as goal

@@ -1,4 +1,4 @@
-use Prim.Native.Nat.{◌-◌, ◌+◌, ◌*◌}
+use Prim.Native.Nat.{◌+◌, ◌*◌}
 use native.Mathlib.Omega.{arith}
 use mathlib.Core.Path.{◌≡◌, sym, ◌∙◌}
 use Rattle.lookup.proofs.seek.SeekSteps.{gallop_past_keys, gallop_step_keys}
