@@ -33,18 +33,18 @@ known c =
 
 made : (c : After-open-reply) → let a = c.args in
     let call = open_call a.w a.rule.now a.k a.labels a.«record».now a.window.now in
-    Made call.answer call.bytes c.«open».result c.«open».new.1.1.1.1.0
+    Made call.answer call.bytes c.open-reply.result c.open-reply.new.«record»
 made c =
     let a = c.args in
     record {
       settled =
           open_settled a.w a.rule.now a.k a.labels a.«record».now a.window.now;
-      told = c.«open».ensures.0;
-      left = c.«open».ensures.1.0;
+      told = c.open-reply.ensures.reply;
+      left = c.open-reply.ensures.bytes;
     }
 
 record_stays : (c : After-open-reply)
-    → length c.«open».new.1.1.1.1.0 ≡ length c.args.«record».now
+    → length c.open-reply.new.«record» ≡ length c.args.«record».now
 record_stays c = search rules
 
 -- ---- The needs
@@ -98,7 +98,7 @@ settle_pool-requires-clause-i_lt_most_members c =
 pub settle_pool-requires-clause-in_bounds : goal.settle_pool-requires-clause-in_bounds
 settle_pool-requires-clause-in_bounds c =
     let k = known (goal.at.settle_pool-requires-clause-in_bounds c).Else-fault-ne0 in
-    let long : 8 ≤ length c.«open».last.1.1.1.1.0 = omega (arith, record_stays (goal.at.settle_pool-requires-clause-in_bounds c).After-open-reply, k.long) in
+    let long : 8 ≤ length c.open-reply.new.«record» = omega (arith, record_stays (goal.at.settle_pool-requires-clause-in_bounds c).After-open-reply, k.long) in
     long
 
 pub settle_pool-requires-clause-record_bound : goal.settle_pool-requires-clause-record_bound
@@ -107,20 +107,20 @@ settle_pool-requires-clause-record_bound c = made_few _ _ _ _ (made (goal.at.set
 pub returns-clause-reply : goal.returns-clause-reply
 returns-clause-reply c =
     let whole = (known (goal.at.returns-clause-reply c).Else-fault-ne0).whole in
-    let e = c.«open».ensures in
-    rw whole e.0
+    let e = c.open-reply.ensures in
+    rw whole e.reply
 
 pub returns-clause-bytes : goal.returns-clause-bytes
 returns-clause-bytes c =
     let whole = (known (goal.at.returns-clause-bytes c).Else-fault-ne0).whole in
-    let e = c.«open».ensures in
-    rw whole e.1.0
+    let e = c.open-reply.ensures in
+    rw whole e.bytes
 
 pub returns-clause-window : goal.returns-clause-window
 returns-clause-window c =
     let whole = (known (goal.at.returns-clause-window c).Else-fault-ne0).whole in
-    let e = c.«open».ensures in
-    rw whole e.1.1
+    let e = c.open-reply.ensures in
+    rw whole e.window
 
 pub returns-clause-pool : goal.returns-clause-pool
 returns-clause-pool c =
