@@ -17,7 +17,7 @@ returns-then-not-good_line c =
     let a = c.args in
     let l = c.loop-i in
     let g : good_line a.k l.i (line_at a.table.now l.i) ≡ false =
-    sym (c.good_line.ensures ∙ ap (good_line a.k l.i) c.read_line.ensures) ∙ not-true c.good_line.result c.if-not-good_line.true-raw in
+    sym (c.good_line.ensures ∙ ap (good_line a.k l.i) c.read_line.ensures) ∙ c.if-not-good_line.true in
     sym (l.invariant.1 ∙ good_from_next a.k a.table.now a.lines l.i c.loop-i-test.true ∙ rw g)
 
 pub loop-i-preserved : goal.loop-i-preserved
@@ -25,7 +25,7 @@ loop-i-preserved c =
     let a = c.args in
     let l = c.loop-i in
     let g : good_line a.k l.i (line_at a.table.now l.i) ≡ true =
-    sym (c.good_line.ensures ∙ ap (good_line a.k l.i) c.read_line.ensures) ∙ not-false c.good_line.result c.if-not-good_line.false-raw in
+    sym (c.good_line.ensures ∙ ap (good_line a.k l.i) c.read_line.ensures) ∙ c.if-not-good_line.false in
     (search rules, (l.invariant.1 ∙ good_from_next a.k a.table.now a.lines l.i c.loop-i-test.true ∙ rw g))
 
 pub returns : goal.returns

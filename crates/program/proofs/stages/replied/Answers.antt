@@ -1,0 +1,14 @@
+-- A refusal is known by its number, which is not 0.
+use mathlib.Core.Path.{refl, ◌∙◌}
+use Rattle.replies.specs.ReplyLaws.{refused_by}
+use Rattle.program.proofs.stages.replied.Goals as goal
+
+pub returns : goal.returns
+returns c =
+    let d = c.decode-reply in
+    record {
+      processes = refl;
+      frontiers = refl;
+      text = refl;
+      reply = λ a f e. (d.ensures a f e, c.next_stage.ensures ∙ rw (refused_by a d.result f (d.ensures a f e)));
+    }
