@@ -1,5 +1,5 @@
 -- There and back: parts that were moved come back as they were.
-use Rattle.std.specs.Prelude.{ℕ, ◌+◌, ◌*◌, ◌^◌, ◌≤◌, ◌<◌, ◌≡◌, false, length, take, drop}
+use Rattle.std.specs.Prelude.{ℕ, ◌*◌, ◌^◌, ◌≤◌, ◌<◌, ◌≡◌, false, length, take, drop}
 use Rattle.std.proofs.Common.{arith, ap, ◌∙◌, length-drop, drop_at, length-take-le}
 use Rattle.std.proofs.Math.Path.{refl}
 use mathlib.Core.List.{List, [], ◌∷◌, ◌++◌}

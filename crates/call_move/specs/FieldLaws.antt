@@ -1,5 +1,5 @@
 -- The fields of a record, and the frontiers of a window, are read after a move as they were before it.
-use Rattle.std.specs.Prelude.{ℕ, ◌+◌, ◌-◌, ◌*◌, ◌≤◌, ◌<◌, ◌≡◌, refl, false, List, length, get_or, take, drop}
+use Rattle.std.specs.Prelude.{ℕ, ◌+◌, ◌*◌, ◌≤◌, ◌<◌, ◌≡◌, refl, false, List, length, get_or, take, drop}
 use Rattle.std.proofs.Common.{arith, add-zero, zero-add, ◌∙◌, ext_get_or}
 use Rattle.std.proofs.Math.Nat.{add-mul, mul_assoc, mul_comm}
 use Rattle.std.proofs.Math.Path.{sym, ap}

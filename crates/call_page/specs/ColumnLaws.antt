@@ -1,5 +1,5 @@
 -- What a column says, read back.
-use Rattle.std.specs.Prelude.{ℕ, zero, suc, ◌+◌, ◌-◌, ◌^◌, ◌≤◌, ◌<◌, ◌≡◌, refl, Bool, true, false, cond, List, [], ◌∷◌, ◌++◌, leb, eqb, length, get_or, replicate}
+use Rattle.std.specs.Prelude.{ℕ, zero, suc, ◌-◌, ◌^◌, ◌≤◌, ◌<◌, ◌≡◌, refl, Bool, true, false, cond, List, [], ◌∷◌, ◌++◌, leb, eqb, length, get_or, replicate}
 use Rattle.std.proofs.Common.{arith, ap, ◌∙◌, lt-ltb, le-ltb, ne_eqb, leb-true}
 use Rattle.codec.specs.Decimal.{numeral, is_digit, digits}
 use Rattle.codec.specs.DecimalLaws.{digits-numeral, value-numeral, some_digit, no_leading_zero}

@@ -1,5 +1,5 @@
 -- A page, by the tests that decide its answer: what is true of every one.
-use Rattle.std.specs.Prelude.{ℕ, ◌+◌, ◌-◌, ◌*◌, ◌≤◌, ◌<◌, ◌≡◌, Bool, true, false, cond, ◌||◌, List, [], ◌∷◌, ◌++◌, length, drop}
+use Rattle.std.specs.Prelude.{ℕ, ◌-◌, ◌*◌, ◌≤◌, ◌<◌, ◌≡◌, Bool, true, false, cond, ◌||◌, List, [], ◌∷◌, ◌++◌, length, drop}
 use Rattle.std.proofs.Common.{arith, ◌∙◌, lit<, length-append, length-drop, drop_at, ltb-false}
 use Rattle.std.proofs.Math.Path.{refl}
 use Rattle.codec.specs.Ascii.{ascii}

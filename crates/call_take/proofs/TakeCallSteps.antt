@@ -1,5 +1,5 @@
 -- Take from its lengths on: what turns it back, and what is known where nothing does.
-use Prim.Native.Nat.{ℕ, ◌*◌, ◌≤◌, ◌<◌}
+use Prim.Native.Nat.{ℕ, ◌*◌, ◌≤◌}
 use native.Mathlib.Omega.{arith}
 use native.Mathlib.Nat.{min-eq_right}
 use mathlib.Core.Path.{◌≡◌, ap, ◌∙◌}

@@ -1,6 +1,6 @@
 -- Reported verdicts, and when they are true: as PaCTL, by source 000, has it for the formula whose text was opened,
 -- over all consistent cuts of a history.
-use Rattle.std.specs.Prelude.{ℕ, ◌-◌, ◌≡◌, Bool}
+use Rattle.std.specs.Prelude.{ℕ, ◌≡◌, Bool}
 use mathlib.Core.List.{List, Memᴰ}
 use Rattle.clocks.specs.declared.Event.{Event}
 use Rattle.pactl.specs.Truth.{holds}

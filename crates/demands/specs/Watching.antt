@@ -1,6 +1,6 @@
 -- The invariant of a watch that was written by calls only: its bytes are those of a history with these pending events,
 -- and its window holds the history's kept cuts.
-use Rattle.std.specs.Prelude.{ℕ, ◌*◌, ◌≤◌, ◌<◌, ◌+◌, ◌^◌, ◌≡◌, true, ◌⊎◌, length, get_or}
+use Rattle.std.specs.Prelude.{ℕ, ◌*◌, ◌≤◌, ◌<◌, ◌^◌, ◌≡◌, true, ◌⊎◌, length, get_or}
 use mathlib.Core.List.{List, Memᴰ, ◌++◌}
 use Rattle.frontiers.specs.declared.Frontier.{Frontier}
 use Rattle.pactl.specs.declared.Line.{Line}

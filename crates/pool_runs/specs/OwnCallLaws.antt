@@ -1,6 +1,6 @@
 -- One watch's own calls in a run, as calls of a watch that shares no pool: each take under the cap that the pool allows
 -- then.
-use Rattle.std.specs.Prelude.{ℕ, ◌<◌, Bool, ◌⊎◌, ◌≢◌}
+use Rattle.std.specs.Prelude.{ℕ, ◌<◌, Bool, ◌≢◌}
 use Rattle.std.proofs.Common.{arith, ◌∙◌}
 use Rattle.std.proofs.Math.Path.{◌≡◌, refl, sym, ap}
 use Rattle.std.proofs.Math.Bool.{true, false}

@@ -1,5 +1,5 @@
 -- The refusals' conditions, test by test, as the functions go through them.
-use Rattle.std.specs.Prelude.{ℕ, ◌+◌, ◌≤◌, ◌<◌, ◌-◌, ◌*◌, ◌%◌, ◌≡◌, refl, Bool, true, false, not, ◌&&◌, ◌||◌, List, ltb, eqb}
+use Rattle.std.specs.Prelude.{ℕ, ◌+◌, ◌≤◌, ◌<◌, ◌*◌, ◌%◌, ◌≡◌, refl, Bool, true, false, not, ◌&&◌, ◌||◌, List, ltb, eqb}
 use Rattle.std.proofs.Common.{arith, sym, ◌∙◌, true≢false, ltb-false, eqb-true, mul-le-mul_right, le-div_iff_mul-le}
 use Rattle.std.proofs.Math.Bool.{or_assoc}
 use Rattle.std.specs.Int.Bits.{bit_and}

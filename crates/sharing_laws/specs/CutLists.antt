@@ -1,6 +1,6 @@
 -- All cuts up to the counts of a sharing, and those of them that reach a count: as lists in ascending order, with as
 -- many elements as the products say.
-use Rattle.std.specs.Prelude.{ℕ, zero, suc, ◌+◌, ◌*◌, ◌≤◌, ◌<◌, ◌≡◌, refl, ◌⊎◌, ◌↔◌, T, length}
+use Rattle.std.specs.Prelude.{ℕ, zero, suc, ◌*◌, ◌≤◌, ◌<◌, ◌≡◌, refl, ◌↔◌, T, length}
 use Rattle.std.proofs.Common.{zero-mul, suc-mul, le_of_suc-le-suc, arith, sym, ap, ◌∙◌, subst, ⊎_elim, length-append}
 use Rattle.std.proofs.Math.Decide.{dec_lt}
 use Rattle.std.proofs.Math.Path.{fun_ext}

@@ -1,6 +1,6 @@
 use native.Mathlib.Omega.{arith}
 use mathlib.Core.Path.{◌≡◌, refl}
-use Prim.Native.Nat.{◌≤◌, ◌-◌, ◌+◌, ◌*◌}
+use Prim.Native.Nat.{◌≤◌, ◌+◌, ◌*◌}
 use Rattle.clocks.specs.Counts.{list_of}
 use Rattle.call_busiest.specs.Sharing.{evenly, sharing_keeps, product as product_of}
 use Rattle.call_busiest.specs.BusiestCode.{sharing}

@@ -1,7 +1,7 @@
 -- Two stores make the event, since all else of it is 0 already: the law `single_laid`.
 use native.Mathlib.Omega.{arith}
 use mathlib.Core.Path.{ap, ◌∙◌}
-use Prim.Native.Nat.{ℕ, ◌-◌, ◌+◌, ◌*◌}
+use Prim.Native.Nat.{ℕ, ◌+◌, ◌*◌}
 use lib.ListN.{set, length-set}
 use Rattle.codec.specs.Little.{put}
 use Rattle.call_busiest.specs.DayBytes.{number_fits}

@@ -1,6 +1,6 @@
 use native.Mathlib.Omega.{arith}
 use mathlib.Core.Path.{◌≡◌, refl, ◌∙◌}
-use Prim.Native.Nat.{◌-◌, ◌^◌}
+use Prim.Native.Nat.{◌^◌}
 use lib.Pow.{shl_exact}
 use native.Mathlib.Nat.{zero-mul, one-mul, add-mul}
 use Rattle.frontiers.specs.BytesLaws.{count-within}

@@ -1,8 +1,6 @@
-use Prim.Native.Nat.{◌-◌}
 use native.Mathlib.Omega.{arith}
 use native.Mathlib.Nat.{zero-add}
 use mathlib.Core.Path.{◌≡◌, sym, ◌∙◌}
-use borrow.Author.Tests.{not-true, not-false}
 use Rattle.clocks.specs.Key.{key_of, key_before}
 use Rattle.records.specs.Record.{pending_at}
 use Rattle.call_offer.proofs.OfferSteps.{place_here, place_further, place-last}

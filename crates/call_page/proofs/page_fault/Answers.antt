@@ -1,7 +1,6 @@
 -- The number that record and window turn back with, else 44 or none.
 use native.Mathlib.Omega.{arith}
 use mathlib.Core.Path.{◌≡◌, sym, ◌∙◌}
-use Prim.Native.Nat.{◌-◌}
 use lib.ListN.{length}
 use Rattle.refusals.specs.RefusalCode.{watch_fault}
 use Rattle.refusals.specs.FaultLaws.{Good, good_watch}

@@ -1,6 +1,6 @@
 use native.Mathlib.Omega.{arith}
 use mathlib.Core.Path.{◌≡◌}
-use Prim.Native.Nat.{◌≤◌, ◌-◌}
+use Prim.Native.Nat.{◌≤◌}
 use Rattle.frontiers.specs.Bytes.{frontier_length}
 use Rattle.codec.specs.Little.{Bytes}
 use Rattle.call_page.specs.RowLaws.{few_digits}

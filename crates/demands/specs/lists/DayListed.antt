@@ -1,6 +1,6 @@
 -- The list of a busiest day, read back: its events are the day's, each of a single process without messages, and a
 -- history in their order.
-use Rattle.std.specs.Prelude.{ℕ, suc, ◌+◌, ◌-◌, ◌*◌, ◌^◌, ◌≤◌, ◌<◌, ◌≡◌, refl, cond, ◌↔◌, eqb, length, get_or, take, drop}
+use Rattle.std.specs.Prelude.{ℕ, suc, ◌*◌, ◌^◌, ◌≤◌, ◌<◌, ◌≡◌, refl, cond, ◌↔◌, eqb, length, get_or, take, drop}
 use Rattle.std.proofs.Common.{zero-add, arith, sym, ap, ◌∙◌, ⊎_elim}
 use mathlib.Core.List.Memᴰ
 use mathlib.Core.List.{List, [], ◌∷◌, ◌++◌, reverse, reverse-cons, append-nil, Memᴰ}

@@ -1,6 +1,6 @@
 -- Find after a list of calls: the window's frontiers are those of the kept cuts, and bit i of a frontier's values is
 -- the truth of line i.
-use Rattle.std.specs.Prelude.{ℕ, suc, ◌≤◌, ◌<◌, ◌≡◌, Bool, cond, ◌⊎◌, ◌↔◌, ◌≢◌, leb, length, get_or, take, drop}
+use Rattle.std.specs.Prelude.{ℕ, suc, ◌≤◌, ◌<◌, ◌≡◌, Bool, cond, ◌↔◌, ◌≢◌, leb, length, get_or, take, drop}
 use Rattle.std.proofs.Common.{arith, sym, ap, subst, ◌∙◌, ⊎_elim, length-take-le}
 use Rattle.std.proofs.Math.Path.{refl}
 use Rattle.std.proofs.Math.Bool.{true, false}

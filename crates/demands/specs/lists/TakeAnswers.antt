@@ -1,5 +1,5 @@
 -- The answers of the next take after a list of calls, and exactly when each comes: from the cases of its trial.
-use Rattle.std.specs.Prelude.{ℕ, ◌+◌, ◌-◌, ◌≡◌, refl, true, ◌||◌, List, ◌∷◌, ◌++◌, ◌↔◌, ◌⊎◌, ◌≢◌, eqb, length}
+use Rattle.std.specs.Prelude.{ℕ, ◌≡◌, refl, true, ◌||◌, List, ◌∷◌, ◌++◌, ◌↔◌, ◌⊎◌, ◌≢◌, eqb, length}
 use Rattle.std.proofs.Common.{arith, sym, ap, ◌∙◌, inr, inl}
 use Rattle.std.proofs.Math.Bool.{Bool, false, not}
 use borrow.Author.Tests.{eq-eqb, eqb-true, not-false}

@@ -1,6 +1,6 @@
 -- What the next take of a watch written by calls comes to: its trial of the pending events as the bytes have it, said
 -- of the taken events; and that a take stops at one event.
-use Rattle.std.specs.Prelude.{ℕ, ◌<◌, ◌+◌, ◌-◌, suc, ◌≡◌, refl, Bool, false, true, ◌↔◌, ◌⊎◌, leb, T, length, get_or, take, drop}
+use Rattle.std.specs.Prelude.{ℕ, ◌<◌, ◌+◌, ◌-◌, suc, ◌≡◌, refl, Bool, false, true, ◌↔◌, leb, T, length, get_or, take, drop}
 use Rattle.std.proofs.Common.{arith, sym, ap, subst, ◌∙◌, inr, ⊎_elim, leb→le}
 use Rattle.std.proofs.Math.Path.{subst⁻¹}
 use mathlib.Core.List.Memᴰ

@@ -1,6 +1,5 @@
 use native.Mathlib.Omega.{arith}
 use mathlib.Core.Path.{refl, sym, ◌∙◌}
-use Prim.Native.Nat.{◌-◌}
 use mathlib.Core.List.{append-nil, [], ◌∷◌}
 use lib.ListN.{take}
 use Rattle.codec.specs.Decimal.{numeral}

@@ -1,6 +1,5 @@
 use native.Mathlib.Omega.{arith}
 use mathlib.Core.Path.{◌≡◌}
-use Prim.Native.Nat.{◌-◌}
 use lib.ListN.{drop}
 use Rattle.call_move.proofs.PartSteps.{copied_none, copied_more}
 use Rattle.std.proofs.Common.{rules}

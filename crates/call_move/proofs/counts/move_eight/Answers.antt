@@ -1,6 +1,5 @@
 -- The eight counts are read before they are written to the lent tail: the laws `lent_tail` and `eight_read`.
 use lib.ListN.{drop}
-use Prim.Native.Nat.{◌-◌}
 use Rattle.frontiers.specs.Bytes.{count_bytes}
 use Rattle.frontiers.specs.StoreLaws.{lent_tail}
 use Rattle.call_move.specs.Move.{counts_from}

@@ -1,6 +1,5 @@
 use native.Mathlib.Omega.{arith}
 use mathlib.Core.Path.{◌≡◌, sym}
-use Prim.Native.Nat.{◌-◌}
 use Rattle.clocks.specs.stored.BoundedTurns.{any_none, any_more}
 use Rattle.std.proofs.Common.{rules}
 use Rattle.call_move.proofs.counts.one_too_large.Invariants.{test}

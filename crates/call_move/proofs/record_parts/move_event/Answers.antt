@@ -1,5 +1,4 @@
 -- Three parts, each written behind those before it: the law `event-written`.
-use Prim.Native.Nat.{◌-◌}
 use Rattle.call_move.proofs.RecordSteps.{event-counts_fit, event-written}
 use Rattle.call_move.proofs.record_parts.move_event.Goals as goal
 

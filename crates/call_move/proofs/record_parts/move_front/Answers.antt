@@ -1,6 +1,5 @@
 -- Four parts, each written behind those before it: the law `front_written`.
 use native.Mathlib.Omega.{arith}
-use Prim.Native.Nat.{◌-◌}
 use Rattle.call_move.proofs.RecordSteps.{front_counts_fit, front_written}
 use Rattle.call_move.proofs.record_parts.move_front.Goals as goal
 

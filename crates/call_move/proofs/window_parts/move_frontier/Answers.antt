@@ -1,5 +1,4 @@
 -- The counts, and the rest written behind them: the law `frontier_written`.
-use Prim.Native.Nat.{◌-◌}
 use mathlib.Core.Path.{sym, ◌∙◌}
 use lib.ListN.{drop}
 use Rattle.frontiers.specs.Bytes.{frontier_length}

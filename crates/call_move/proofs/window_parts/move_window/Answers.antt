@@ -1,5 +1,4 @@
 use native.Mathlib.Omega.{arith}
-use Prim.Native.Nat.{◌-◌}
 use mathlib.Core.Path.{◌≡◌}
 use Rattle.frontiers.specs.Bytes.{frontier_length}
 use Rattle.frontiers.specs.BytesLaws.{count-within}

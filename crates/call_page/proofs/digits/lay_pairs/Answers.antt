@@ -1,6 +1,5 @@
 use native.Mathlib.Omega.{arith}
 use mathlib.Core.Path.{sym, ◌∙◌}
-use Prim.Native.Nat.{◌-◌}
 use lib.ListN.{length-set}
 use Rattle.call_page.proofs.PairSteps.{none, pairs_more, all}
 use Rattle.call_page.proofs.digits.lay_pairs.Goals as goal

@@ -1,6 +1,5 @@
 -- Digits go over the blanks from the right, two at a time: the law `pair_laid` for a turn, then one or two are left.
 use mathlib.Core.Path.{◌≡◌}
-use Prim.Native.Nat.{◌-◌}
 use lib.ListN.{length}
 use Rattle.call_page.proofs.CountSteps.{Laid}
 use Rattle.call_page.proofs.digits.put_count.Given as goal

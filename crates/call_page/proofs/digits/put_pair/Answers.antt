@@ -1,7 +1,6 @@
 -- Two bytes of the table, and both stored.
 use native.Mathlib.Omega.{arith}
 use mathlib.Core.Path.{refl}
-use Prim.Native.Nat.{◌-◌}
 use lib.ListN.{length-set}
 use native.Mathlib.Numerals.{add-one}
 use Rattle.call_page.proofs.digits.put_pair.Goals as goal

@@ -1,5 +1,4 @@
 -- Five bytes, by whether the rule holds.
-use Prim.Native.Nat.{◌-◌}
 use Rattle.call_page.proofs.RowSteps.{ending_yes, ending_no}
 use Rattle.call_page.proofs.row.put_ending.Goals as goal
 

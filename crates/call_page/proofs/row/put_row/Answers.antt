@@ -1,6 +1,6 @@
 use native.Mathlib.Omega.{arith}
 use mathlib.Core.Path.{◌≡◌, ap, ◌∙◌}
-use Prim.Native.Nat.{ℕ, ◌-◌}
+use Prim.Native.Nat.{ℕ}
 use lib.Seq.{sets}
 use Rattle.call_page.specs.Page.{columns}
 use Rattle.call_page.proofs.RowSteps.{no_columns, next_column, row_stands}

@@ -1,7 +1,6 @@
 use native.Mathlib.Omega.{arith}
 use mathlib.Core.Path.{◌≡◌, sym, ap, ◌∙◌}
 use mathlib.Core.Bool.{Bool}
-use borrow.Author.Tests.{not-true, not-false}
 use Rattle.clocks.specs.Counts.{at}
 use Rattle.clocks.specs.Event.{involved, count}
 use Rattle.clocks.specs.Tested.{ready_at, ready}

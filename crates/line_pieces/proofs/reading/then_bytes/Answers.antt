@@ -1,4 +1,3 @@
-use Prim.Native.Nat.{◌-◌}
 use mathlib.Core.Path.{refl, sym, ◌∙◌}
 use Rattle.line_pieces.proofs.reading.ReadingSteps.{then_bytes_next, then_bytes-end}
 use Rattle.std.proofs.Common.{rules}

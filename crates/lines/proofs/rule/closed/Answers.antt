@@ -1,5 +1,4 @@
 -- The answer on the text decides; an accepted text is not empty, so the line has a last byte behind it.
-use Prim.Native.Nat.{◌-◌}
 use native.Mathlib.Omega.{arith}
 use mathlib.Core.Path.{sym, ◌∙◌}
 use borrow.Author.Tests.{eq-eqb, ne_eqb}

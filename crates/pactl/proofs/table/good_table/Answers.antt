@@ -2,7 +2,6 @@ use Prim.Native.Nat.{◌-◌}
 use native.Mathlib.Omega.{arith}
 use mathlib.Core.Bool.{true, false}
 use mathlib.Core.Path.{◌≡◌, sym, ap, ◌∙◌}
-use borrow.Author.Tests.{not-true, not-false}
 use Rattle.pactl.specs.TableBytesLaws.{good_from_next, good_from-end}
 use Rattle.pactl.specs.TableBytes.{line_at}
 use Rattle.pactl.specs.Table.{good_line}

@@ -1,6 +1,5 @@
 use native.Mathlib.Omega.{arith}
 use mathlib.Core.Path.{refl, sym, ◌∙◌}
-use Prim.Native.Nat.{◌-◌}
 use mathlib.Core.List.{append-nil}
 use lib.Seq.{take_all, length-take-le}
 use lib.ListN.{length, take, length-set}

@@ -1,7 +1,7 @@
 -- With what is laid, the takes that are left come to the whole (`Ahead`); each turn is one take less (`ahead_step`),
 -- and each has room for its text.
 use mathlib.Core.Path.{◌≡◌}
-use Prim.Native.Nat.{◌≤◌, ◌-◌, ◌+◌, ◌*◌}
+use Prim.Native.Nat.{◌≤◌, ◌+◌, ◌*◌}
 use lib.ListN.{length, take}
 use Rattle.program.specs.Turn.{takes_while, most_takes}
 use Rattle.program.proofs.TurnSteps.{Ahead}

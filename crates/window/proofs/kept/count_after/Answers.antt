@@ -1,4 +1,4 @@
-use Rattle.std.proofs.Common.{◌≡◌, ◌-◌, sym, refl, arith, rules}
+use Rattle.std.proofs.Common.{◌≡◌, sym, refl, arith, rules}
 use Rattle.clocks.specs.Event.{one}
 use Rattle.clocks.specs.Counts.{at}
 use Rattle.clocks.specs.Tested.{ready}

@@ -1,4 +1,4 @@
-use Rattle.std.proofs.Common.{◌≡◌, ℕ, ◌-◌, ap, ◌∙◌, rules}
+use Rattle.std.proofs.Common.{◌≡◌, ℕ, ap, ◌∙◌, rules}
 use Rattle.clocks.specs.Counts.{at}
 use Rattle.clocks.specs.Event.{one, involved, count}
 use Rattle.clocks.specs.stored.CountsLaws.{filled, fill_next}

@@ -1,4 +1,4 @@
-use Rattle.std.proofs.Common.{◌≡◌, ◌-◌, ◌<◌, Bool, false, not, ◌&&◌, ltb, ap, ◌∙◌, arith, rules}
+use Rattle.std.proofs.Common.{◌≡◌, ◌<◌, Bool, false, not, ◌&&◌, ltb, ap, ◌∙◌, arith, rules}
 use Rattle.codec.specs.Bit.{bit}
 use Rattle.clocks.specs.stored.CountsLaws.{filled, fill_next}
 use Rattle.window.proofs.prepared.open_ones.Goals as goal

@@ -1,4 +1,4 @@
-use Rattle.std.proofs.Common.{◌≡◌, ℕ, ◌-◌, Bool, ◌||◌, sym, ap, ◌∙◌, arith, rules}
+use Rattle.std.proofs.Common.{◌≡◌, ℕ, Bool, ◌||◌, sym, ap, ◌∙◌, arith, rules}
 use Rattle.clocks.specs.Bounded.{any_below}
 use Rattle.clocks.specs.stored.BoundedTurns.{any_none, any_more}
 use Rattle.window.proofs.PreparedSteps.{complete_in, complete_open}
