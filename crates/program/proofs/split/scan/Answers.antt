@@ -36,7 +36,7 @@ loop-i-preserved-then-kept-line c =
       simp length-set (omega arith),
       length-set l.line _ _ ∙ l.invariant.2,
       unended_next a.bytes.now l.i (omega arith) c.if-byte-eq10.false l.invariant.3,
-      byte_kept l.line (take a.start a.line.now) a.bytes.now (length a.line.now) l.auto l.i (sym l.invariant.2) (omega arith) l.invariant.4 c.if-kept-line.true,
+      byte_kept l.line (take a.start a.line.now) a.bytes.now (length a.line.now) l.kept l.i (sym l.invariant.2) (omega arith) l.invariant.4 c.if-kept-line.true,
     )
 
 pub loop-i-preserved : goal.loop-i-preserved
@@ -47,7 +47,7 @@ loop-i-preserved c =
       omega arith,
       l.invariant.2,
       unended_next a.bytes.now l.i (omega arith) c.if-byte-eq10.false l.invariant.3,
-      byte_passed l.line (take a.start a.line.now) a.bytes.now (length a.line.now) l.auto l.i (sym l.invariant.2) (omega arith) l.invariant.4 c.if-kept-line.false,
+      byte_passed l.line (take a.start a.line.now) a.bytes.now (length a.line.now) l.kept l.i (sym l.invariant.2) (omega arith) l.invariant.4 c.if-kept-line.false,
     )
 
 pub returns : goal.returns

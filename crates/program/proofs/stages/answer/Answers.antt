@@ -45,12 +45,12 @@ returns-then-stage-eq2-clause-within_2 c =
 pub returns-clause-stands : goal.returns-clause-stands
 unfolding line_read
 returns-clause-stands c =
-    let r = c.Did-line in
+    let r = c.did_line in
     let a = c.args in
-    λ t h. rw (ne_eqb t.stage 0 (λ e. c.if-stage-eq0.false (h.stage ∙ e)), ne_eqb t.stage 1 (λ e. c.if-stage-eq1.false (h.stage ∙ e)), ne_eqb t.stage 2 (λ e. c.if-stage-eq2.false (h.stage ∙ e))) (r.ensures.0 t a.rule.now a.window.now h)
+    λ t h. rw (ne_eqb t.stage 0 (λ e. c.if-stage-eq0.false (h.stage ∙ e)), ne_eqb t.stage 1 (λ e. c.if-stage-eq1.false (h.stage ∙ e)), ne_eqb t.stage 2 (λ e. c.if-stage-eq2.false (h.stage ∙ e))) (r.ensures.stands t a.rule.now a.window.now h)
 
 pub returns-clause-within_2 : goal.returns-clause-within_2
 unfolding line_read
 returns-clause-within_2 c =
-    let r = c.Did-line in
-    r.ensures.1 _ c.requires.within
+    let r = c.did_line in
+    r.ensures.by_index _ c.requires.within

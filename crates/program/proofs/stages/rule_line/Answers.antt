@@ -10,14 +10,6 @@ use Rattle.program.proofs.stages.rule_line.Goals as goal
 pub slice_bounds-put-count : goal.slice_bounds-put-count
 slice_bounds-put-count c = let w = subst (RuleWithin _) c.in-Rule.is c.read_rule-read.ensures.rule_within in w.0
 
--- NO GOAL
-part-put-start : tie.Need-slice-bounds-put-start
-part-put-start c = let w = subst (RuleWithin _) c.before.before.read2.given.1 c.before.before.before.before.read-rule.ensures.1 in w.0
-
--- NO GOAL
-part-put-end : tie.Need-slice-bounds-put-end
-part-put-end c = let w = subst (RuleWithin _) c.before.before.read2.given.1 c.before.before.before.before.read-rule.ensures.1 in w.1
-
 pub put-text-requires : goal.put-text-requires
 put-text-requires c =
     let w = subst (RuleWithin _) c.in-Rule.is c.read_rule-read.ensures.rule_within in part-fits c.args.line.now _ _ _ w.0 w.1 c.requires.line_in_bounds

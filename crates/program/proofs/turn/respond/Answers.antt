@@ -24,8 +24,7 @@ window_long c = c.window-1.given.1 ∙ c.requires.record_len.1
 
 pub slice_bounds-answer-end-2 : goal.slice_bounds-answer-end-2
 slice_bounds-answer-end-2 c =
-    let p = c.requires.1.1 in
-    sym (length-take-le _ _ (omega (arith, p.0.frontiers, p.1.1)))
+    sym (length-take-le _ _ (omega (arith, c.requires.within_2.frontiers, c.requires.record_len.1)))
 
 pub lay-first-requires-clause-k_bound : goal.lay-first-requires-clause-k_bound
 lay-first-requires-clause-k_bound c = c.answer-next.ensures.within_2.processes
@@ -33,7 +32,7 @@ lay-first-requires-clause-k_bound c = c.answer-next.ensures.within_2.processes
 pub lay-first-requires-clause-record_len : goal.lay-first-requires-clause-record_len
 lay-first-requires-clause-record_len c =
     let p = c.requires.record_len in
-    c.«record».given ∙ p.0
+    c.record-1.given ∙ p.0
 
 pub lay-first-requires-clause-at_in_bounds : goal.lay-first-requires-clause-at_in_bounds
 lay-first-requires-clause-at_in_bounds c =
@@ -62,7 +61,7 @@ take_all-length-requires-clause-k_bound c = c.answer-next.ensures.within_2.proce
 pub take_all-length-requires-clause-record_len : goal.take_all-length-requires-clause-record_len
 take_all-length-requires-clause-record_len c =
     let p = c.requires.record_len in
-    c.«record».given ∙ p.0
+    c.record-1.given ∙ p.0
 
 pub take_all-length-requires-clause-start_in_bounds : goal.take_all-length-requires-clause-start_in_bounds
 take_all-length-requires-clause-start_in_bounds c =
@@ -76,37 +75,30 @@ take_all-length-requires-clause-start_in_bounds c =
 
 pub returns-clause-turned : goal.returns-clause-turned
 returns-clause-turned c =
-    let f = followed all.before.before.before.before in
-    let z = answered (lent f) in
-    let a = (start z).args in
+    let a = c.args in
     let rule = a.rule.now in
     let state = a.«record».now in
     let window = a.window.now in
-    let part = z.answer.last.1.1.1.1.0 in
+    let part = c.answer-next.new.window in
     let n = room_bytes a.session.room in
-    let inside : n ≤ length window = omega (arith, room_fits z, (start z).pre.1.1.1.1) in
-    let long = (lent f).window.given.0 ∙ length-take-le n window inside in
-    let laid = f.before.before.before.lay in
-    let e = all.take_all.ensures in
+    let fits = room_fits (goal.at.returns-clause-turned c).After-answer-next in
+    let inside : n ≤ length window = omega (arith, fits, c.requires.record_len.1) in
+    let long = c.window-1.given.0 ∙ length-take-le n window inside in
+    let e = c.take_all-length.ensures in
     λ t h.
-    let g = z.answer.ensures.0 (lent_part t) (cut_stands t a.session rule state window h) in
-    let next = z.answer.result in
+    let g = c.answer-next.ensures.stands (lent_part t) (cut_stands t a.session rule state window h) in
+    let next = c.answer-next.result in
     let line = a.line.now in
-    let told = answer_told t a.session next line rule state window _ _ part h g (start z).pre.0 in
+    let told = answer_told t a.session next line rule state window _ _ part h g c.requires.stage_lt_over_stage in
     responded t a.session next line rule state window _ _ part h g a.scratch.now _ _ _ _ _ _ _ _ long
-    (laid.ensures.1 _ told g.replied) (f.takes.ensures _ _ told g.replied)
-    e.1.0 e.1.1.0 e.1.1.1.0 e.1.1.1.1
+    (c.lay-first.ensures.out_after _ told g.replied) (c.takes.ensures _ _ told g.replied)
+    e.text e.bytes e.window e.scratch
 
 pub returns-clause-within : goal.returns-clause-within
-returns-clause-within c =
-    let f = followed all.before.before.before.before in
-    let z = answered (lent f) in
-    z.answer.ensures.1
+returns-clause-within c = c.answer-next.ensures.within_2
 
 pub returns-clause-length : goal.returns-clause-length
-returns-clause-length c =
-    let e = all.take_all.ensures in
-    e.0
+returns-clause-length c = c.take_all-length.ensures.end
 
 pub returns-clause-on : goal.returns-clause-on
 returns-clause-on c = refl

@@ -35,7 +35,7 @@ loop-left-preserved c =
     let few = not_more t.result.follows (l.left - 1) in
     let e = t.ensures in (
       omega (arith, e.end, few, c.turns-left-in-loop-left.ensures, l.invariant.0, c.out-1.given, c.loop-left-test.true),
-      c.«record».given ∙ l.invariant.1,
+      c.record-1.given ∙ l.invariant.1,
       c.window-1.given ∙ l.invariant.2,
       c.scratch-1.given ∙ l.invariant.3,
       c.out-1.given ∙ l.invariant.4,

@@ -23,4 +23,11 @@ returns c =
     let possible : Possible false (taken_counts program_width c.watch32_take.new.«record») o.answer =
     subst (λ (l : List ℕ). Possible false (taken_counts program_width l) o.answer) (sym left.bytes) told.1 in
     let laid = c.lay-end.ensures in
-    (laid.upper_bound, (laid.out_after o.answer possible parts, (c.takes_again.ensures _ o.answer told.1 parts, left.1)))
+    record {
+      end = laid.upper_bound;
+      text = laid.out_after o.answer possible parts;
+      follows = c.takes_again.ensures _ o.answer told.1 parts;
+      bytes = left.bytes;
+      window = left.window;
+      scratch = left.scratch;
+    }
