@@ -6,7 +6,7 @@ makes for proofs.
 usage: tools/spelling.py [--table FILE]      in the repository: rewrites crates/ in place
        --table FILE    writes a line `old new` for each name that changes
 
-It was run once, on the commit in which port.py ran. A second run changes nothing.
+It was run once, on the commit in which port.py ran, and refuses to run where no name is in the older spelling.
 """
 
 import glob
@@ -25,6 +25,15 @@ LIBRARY = set(
     "true false sum reverse concat filter mem ap refl sym all any min max Mem head last list insert remove trailing"
     " bit_and bit_or bit_xor shl shr".split()
 )
+# Constructors that would meet a definition.
+CONSTRUCTORS = {
+    "open-call": "pool_open",
+    "offer-call": "pool_offer",
+    "take-call": "pool_take",
+    "find-call": "pool_find",
+    "close-call": "pool_close",
+    "turned-back": "turns_back",
+}
 # Laws that an earlier script had spelled already, and that would now meet a definition: where they stand, and their names.
 LAWS = {
     "crates/demands/specs/": ["window_bytes", "room_of", "held_one", "joined_in"],
@@ -65,7 +74,7 @@ def is_old(token):
         return False
     if re.search(r"[\w'₀-₉]-[\w]", token):
         return True
-    return bool(re.match(r"[a-z][\w']*?[a-z0-9₀-₉][A-Z]", token))
+    return bool(re.match(r"[a-z](?:[\w']*?[a-z0-9₀-₉])?[A-Z]", token))
 
 
 class Names:
@@ -110,6 +119,8 @@ class Names:
         self.meet = {it for it in self.declared if "-" in it and it not in self.fields and self.spelled(it) in camel}
 
     def new(self, token):
+        if token in CONSTRUCTORS:
+            return CONSTRUCTORS[token]
         new = self.spelled(token)
         return new + "_lem" if token in self.meet else new
 
@@ -256,6 +267,9 @@ def main(argv):
     walks = [p for p in antt if is_walk(p)]
     specs = [p for p in antt if not is_walk(p)]
     names = Names(specs, walks)
+    if not any(re.match(r"[a-z]+[A-Z]", it) for it in names.declared):
+        print("no name is in the older spelling: nothing to do")
+        return 2
     table, news = {}, {}
     for path in antt:
         news[path] = turned_antt(path, read(path), names, table)

@@ -4,7 +4,7 @@ use Rattle.numbers.specs.Refusal.{grammar_number, line_limit_number}
 use Rattle.rules.specs.Text.{byte_at}
 use Rattle.codec.specs.Decimal.{digits, value}
 use Rattle.line_pieces.specs.Reading.{line_limit}
-use Rattle.line_laws.specs.Grammar.{Numeral, Numerals, spaced, between, Piece, aByte, a_number, list, spaced_list, PieceText, LineFault1}
+use Rattle.line_laws.specs.Grammar.{Numeral, Numerals, spaced, between, Piece, a_byte, a_number, list, spaced_list, PieceText, LineFault1}
 use Rattle.rules.specs.Fault.{Span}
 
 -- The digits at a place are a number's text, and the number is below `least` or above `most`.
@@ -29,7 +29,7 @@ Miscounted ns fewest fullest = (length ns < fewest) ⊎ (fullest < length ns)
 -- 10 in a piece that begins at place j: at a number's first digit, or at the closing bracket of a list of a wrong
 -- length.
 unfoldable pub TenIn : (piece : Piece) (s : List ℕ) (j i : ℕ) → Type 0
-TenIn (aByte b) s j i = ⊥
+TenIn (a_byte b) s j i = ⊥
 TenIn (a_number least most b) s j i = (i ≡ j) × NumberOut s i least most
 TenIn (list ascending most fewest fullest) s j i =
     ((ns : List (List ℕ)) × (Numerals ns × (Span s j (trailed ns) i × NumberOut s i (least_behind ascending 0 ns) most)))

@@ -5,7 +5,7 @@ use Rattle.codec.specs.Ascii.{ascii}
 use Rattle.rules.specs.Text.{byte_at}
 use Rattle.rules.specs.Fault.{StandsAt}
 use Rattle.codec.specs.Decimal.{is_digit}
-use Rattle.lines.specs.Lines.{kLimit, count_limit, label_limit, process_limit, room_limit}
+use Rattle.lines.specs.Lines.{k_limit, count_limit, label_limit, process_limit, room_limit}
 
 -- The text of a number: digits, the first of them no needless 0.
 unfoldable pub AllDigits : (xs : List ℕ) → Type 0
@@ -34,14 +34,14 @@ between (d ∷ ds) = d ++ spaced ds
 -- behind it; a list of numbers up to `most`, ascending or not, `fewest` to `fullest` many, and its closing bracket;
 -- such a list with a space before its first number too.
 pub data Piece : Type 0 where
-  aByte : (b : ℕ) → Piece
+  a_byte : (b : ℕ) → Piece
   a_number : (least most b : ℕ) → Piece
   list : (ascending : Bool) (most fewest fullest : ℕ) → Piece
   spaced_list : (most fewest fullest : ℕ) → Piece
 
 -- The texts of a piece, and of pieces one after the other.
 unfoldable pub PieceText : (piece : Piece) (x : List ℕ) → Type 0
-PieceText (aByte b) x = x ≡ b ∷ []
+PieceText (a_byte b) x = x ≡ b ∷ []
 PieceText (a_number least most b) x = (ds : List ℕ) × (Numeral ds × (x ≡ ds ++ b ∷ []))
 PieceText (list ascending most fewest fullest) x = (ns : List (List ℕ)) × (Numerals ns × (x ≡ between ns ++ 41 ∷ []))
 PieceText (spaced_list most fewest fullest) x = (ns : List (List ℕ)) × (Numerals ns × (x ≡ spaced ns ++ 41 ∷ []))
@@ -52,17 +52,17 @@ TextOf (p ∷ ps) t = (x y : List ℕ) × (PieceText p x × (TextOf ps y × (t �
 
 -- The lines: (watch k room), (start l ..) and (did (p ..) (c ..) (l ..)), for k processes of which n take part.
 unfoldable pub watch_pieces : List Piece
-watch_pieces = map aByte (ascii "(watch ") ++ a_number 0 kLimit 32 ∷ a_number 1 room_limit 41 ∷ []
+watch_pieces = map a_byte (ascii "(watch ") ++ a_number 0 k_limit 32 ∷ a_number 1 room_limit 41 ∷ []
 
 unfoldable pub start_pieces : (k : ℕ) → List Piece
-start_pieces k = map aByte (ascii "(start") ++ spaced_list label_limit k k ∷ []
+start_pieces k = map a_byte (ascii "(start") ++ spaced_list label_limit k k ∷ []
 
 unfoldable pub did_pieces : (k n : ℕ) → List Piece
 did_pieces k n =
-    map aByte (ascii "(did (") ++ list true process_limit 1 8
-    ∷ aByte 32 ∷ aByte 40 ∷ list false count_limit k k
-    ∷ aByte 32 ∷ aByte 40 ∷ list false label_limit n n
-    ∷ aByte 41 ∷ []
+    map a_byte (ascii "(did (") ++ list true process_limit 1 8
+    ∷ a_byte 32 ∷ a_byte 40 ∷ list false count_limit k k
+    ∷ a_byte 32 ∷ a_byte 40 ∷ list false label_limit n n
+    ∷ a_byte 41 ∷ []
 
 -- An event's line names n processes, if it names any.
 unfoldable pub Names : (s : List ℕ) (n : ℕ) → Type 0

@@ -14,7 +14,7 @@ use Rattle.lines.specs.declared.WatchLine.TheVariants.{Watch}
 use Rattle.lines.specs.declared.StartLine.TheVariants.{Start}
 use Rattle.lines.specs.declared.DidLine.TheVariants.{Did}
 use Rattle.lines.specs.declared.RuleLine.TheVariants.{Rule}
-use Rattle.lines.specs.Lines.{rule_text, rule_line, kLimit, count_limit, label_limit, process_limit, room_limit, watch_line, start_line, did_line}
+use Rattle.lines.specs.Lines.{rule_text, rule_line, k_limit, count_limit, label_limit, process_limit, room_limit, watch_line, start_line, did_line}
 use Rattle.line_laws.specs.Grammar.{Numeral, Numerals, spaced, between}
 
 -- Numbers that a list may have: none is above `most`, the first is not below `least`, and in an ascending list each
@@ -31,7 +31,7 @@ pub record WatchSays (s : List ℕ) (k room : ℕ) : Type 0 where
   pub numerals : Numeral k_digits × Numeral room_digits
   pub text : s ≡ ascii "(watch " ++ (k_digits ++ 32 ∷ (room_digits ++ 41 ∷ []))
   pub values : (value k_digits ≡ k) × (value room_digits ≡ room)
-  pub limits : (k ≤ kLimit) × ((1 ≤ room) × (room ≤ room_limit))
+  pub limits : (k ≤ k_limit) × ((1 ≤ room) × (room ≤ room_limit))
   pub short : length s ≤ line_limit
 
 -- (start l ..), with a label byte for each of k processes.

@@ -20,8 +20,8 @@ use Rattle.lines.specs.Words.{packed_word, placed}
 
 -- The limits on numbers (01, Turned back, from the input: 10): k, the number of processes; clock counts, which have 32
 -- bits (02 [6]); labels; a process's own number; and frontiers in a window.
-abbrev pub kLimit : ℕ
-kLimit = 65535
+abbrev pub k_limit : ℕ
+k_limit = 65535
 
 abbrev pub count_limit : ℕ
 count_limit = 4294967295
@@ -42,7 +42,7 @@ watch_of k (Refused n i) = WatchRefused n i
 
 unfoldable pub watch_line : (s : List ℕ) → WatchLine
 watch_line s =
-    let k = then_number s 0 kLimit (head_read s (ascii "(watch ")) in
+    let k = then_number s 0 k_limit (head_read s (ascii "(watch ")) in
     let room = then_number s 1 room_limit (then_byte s 32 k) in
     watch_of (value_read k) (then_last s room)
 

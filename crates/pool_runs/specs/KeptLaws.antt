@@ -32,7 +32,7 @@ use Rattle.demands.specs.Written.{Written, calls}
 use Rattle.demands.specs.statements.WindowExact.{WindowExact}
 use Rattle.demands.specs.statements.EveryWatch.{WatchExact}
 use Rattle.demands.specs.calls.KeptCutsLaws.{number_unique}
-use Rattle.demands.specs.calls.OpenLaws.{OpenCase, open_case, turned_back_lem, opens}
+use Rattle.demands.specs.calls.OpenLaws.{OpenCase, open_case, turns_back, opens}
 use Rattle.demands.specs.lists.Looked.{right_record}
 use Rattle.demands.specs.forms.Moves.{written_sound}
 use Rattle.demands.specs.forms.EveryWatch.{every-watch_exact}
@@ -210,7 +210,7 @@ pub open_keeps : (w : ℕ) (text : List ℕ) (k : ℕ) (labels s window : List �
 open_keeps w text k labels s window a = go (open_case w text k labels s window)
   where
     go : OpenCase w text k labels s window → kept_count (open_call w text k labels s window).bytes ≡ 1
-    go (turned_back_lem n i q) =
+    go (turns_back n i q) =
         let y : turned_back n i ≡ state a.0 a.1 a.2 = sym (ap (λ (o : Opened). o.answer) q) ∙ a.3 in
         let z : ◌≡◌ {A = ℕ} 0 1 = cc in absurd (omega arith)
     go (opens f i h6 h5 h9 h q) =

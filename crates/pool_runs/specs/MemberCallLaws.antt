@@ -19,7 +19,7 @@ use Rattle.call_take.specs.Take.{bad_lengths, take_capped}
 use Rattle.call_close.specs.Close.{close_call}
 use Rattle.call_shared.specs.Shared.{Shared, pool_after, shared_open, shared_take, shared_close}
 use Rattle.demands.specs.EveryList.{Accepts}
-use Rattle.demands.specs.calls.OpenLaws.{OpenCase, open_case, turned_back_lem, opens}
+use Rattle.demands.specs.calls.OpenLaws.{OpenCase, open_case, turns_back, opens}
 
 pub good_length : (pool : List ℕ) → length pool ≡ pool_length → bad_pool_length (length pool) ≡ false
 unfolding bad_pool_length
@@ -94,7 +94,7 @@ module _ (w : ℕ) (text : List ℕ) (k : ℕ) (labels s window pool : List ℕ)
       go : OpenCase w text k labels s window
           → SharedOpenCase w text k labels s window pool i
           (record { call = o; pool = pool_after pool i o.answer o.bytes })
-      go (turned_back_lem n x q) = rw q (refused_open refl refl)
+      go (turns_back n x q) = rw q (refused_open refl refl)
       go (opens f x h6 h5 h9 h q) =
           let a = ap (λ (z : Opened). z.answer) q in
           accepted_open share (_, _, _, a) (ap is_turned_back a) refl (rw (ap is_turned_back a))

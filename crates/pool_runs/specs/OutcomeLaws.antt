@@ -19,7 +19,7 @@ use Rattle.call_shared.specs.Shared.{Shared, pool_after, shared_open}
 use Rattle.demands.specs.Run.{Watch, offers, takes, finds, closes, after, opened}
 use Rattle.demands.specs.EveryList.{EightBytes, lent_window, next_take}
 use Rattle.demands.specs.Written.{Written, opens, calls}
-use Rattle.pool_runs.specs.Runs.{Member, Place, vacant, has, Pooled, PoolCall, open_call_lem, offer_call_lem, take_call_lem, find_call_lem, close_call_lem, mislent_call, PoolPassed, Numbered, with_watch, unchanged, outcome_of_open, outcome_of_offer, outcome_of_find, outcome_of_take, outcome_of_close, outcome, outcome_in}
+use Rattle.pool_runs.specs.Runs.{Member, Place, vacant, has, Pooled, PoolCall, pool_open, pool_offer, pool_take, pool_find, pool_close, mislent_call, PoolPassed, Numbered, with_watch, unchanged, outcome_of_open, outcome_of_offer, outcome_of_find, outcome_of_take, outcome_of_close, outcome, outcome_in}
 use Rattle.pool_runs.specs.statements.Within.{kept_at_place, kept_or_promised}
 use Rattle.pool_runs.specs.Running.{HasShare, IsWritten, Running}
 use Rattle.pool_runs.specs.RunningLaws.{Lawful}
@@ -143,7 +143,7 @@ module _ (w : ℕ) (pos : 0 < w) (shares : List ℕ) (G : Pooled) (R : Running w
     kept_before : kept_at_place (G.places i) ≡ kept_count W.bytes
     kept_before = ap kept_at_place here
 
-    offer_lawful : (mask : ℕ) (clock labels : List ℕ) → PoolPassed w (offer_call_lem mask clock labels)
+    offer_lawful : (mask : ℕ) (clock labels : List ℕ) → PoolPassed w (pool_offer mask clock labels)
         → Lawful w shares G i (outcome_of_offer w mask clock labels G.pool m)
     unfolding outcome_of_offer
     offer_lawful mask clock labels p =
@@ -244,13 +244,13 @@ module _ (w : ℕ) (pos : 0 < w) (shares : List ℕ) (G : Pooled) (R : Running w
     where
       go : (i : ℕ) (d : PoolCall) → PoolPassed w d → (P : Place) → G.places i ≡ P
           → Lawful w shares G i (outcome w i d G.pool P)
-      go i (open_call_lem text k labels s window) p P h = rw (← h) (open_lawful i text k labels s window p)
+      go i (pool_open text k labels s window) p P h = rw (← h) (open_lawful i text k labels s window p)
       go i (mislent_call x) p P h = idle i P _ h
-      go i (offer_call_lem mask clock labels) p vacant h = idle i vacant [] h
-      go i (offer_call_lem mask clock labels) p (has m) h = offer_lawful i m h mask clock labels p
-      go i (take_call_lem more scratch) p vacant h = idle i vacant [] h
-      go i (take_call_lem more scratch) p (has m) h = take_lawful i m h more scratch
-      go i (find_call_lem line) p vacant h = idle i vacant [] h
-      go i (find_call_lem line) p (has m) h = find_lawful i m h line
-      go i (close_call_lem q) p vacant h = idle i vacant [] h
-      go i (close_call_lem q) p (has m) h = close_lawful i m h q
+      go i (pool_offer mask clock labels) p vacant h = idle i vacant [] h
+      go i (pool_offer mask clock labels) p (has m) h = offer_lawful i m h mask clock labels p
+      go i (pool_take more scratch) p vacant h = idle i vacant [] h
+      go i (pool_take more scratch) p (has m) h = take_lawful i m h more scratch
+      go i (pool_find line) p vacant h = idle i vacant [] h
+      go i (pool_find line) p (has m) h = find_lawful i m h line
+      go i (pool_close q) p vacant h = idle i vacant [] h
+      go i (pool_close q) p (has m) h = close_lawful i m h q

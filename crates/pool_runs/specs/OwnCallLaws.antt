@@ -16,7 +16,7 @@ use Rattle.demands.specs.Run.{Call, offers, takes, finds, closes, Passed, after,
 use Rattle.demands.specs.EveryList.{AllPassed}
 use Rattle.demands.specs.statements.Empties.{if_take, take_answers, unrefused, NoOffers}
 use Rattle.demands.specs.lists.Unrefused.{unrefused-append}
-use Rattle.pool_runs.specs.Runs.{Member, has, Pooled, PoolMislent, shared_open_lent, shared_take_lent, shared_close_lent, plain_lent, pool_answer_to, PoolCall, open_call_lem, offer_call_lem, take_call_lem, find_call_lem, close_call_lem, mislent_call, PoolPassed, Numbered, AllPoolPassed, Outcome, with_watch, outcome_of_offer, outcome_of_find, outcome, outcome_in, after_pool_call, pool_run}
+use Rattle.pool_runs.specs.Runs.{Member, has, Pooled, PoolMislent, shared_open_lent, shared_take_lent, shared_close_lent, plain_lent, pool_answer_to, PoolCall, pool_open, pool_offer, pool_take, pool_find, pool_close, mislent_call, PoolPassed, Numbered, AllPoolPassed, Outcome, with_watch, outcome_of_offer, outcome_of_find, outcome, outcome_in, after_pool_call, pool_run}
 use Rattle.pool_runs.specs.Turns.{own_calls, own_turns}
 use Rattle.pool_runs.specs.statements.Empties.{of_take, own_take_answers, NoOwnOpens, NoOwnOffers}
 use Rattle.pool_runs.specs.Running.{Running}
@@ -30,7 +30,7 @@ data OwnStep (w : ℕ) (x : PoolCall) (m : Member) (o : Outcome) : Type 0 where
   skips : o.place ≡ has m → unrefused (of_take x o.answers) ≡ [] → OwnStep w x m o
   makes : (c : Call) → Passed w c → o.place ≡ with_watch m (after w c m.watch)
       → of_take x o.answers ≡ if_take w c m.watch
-      → ((mask : ℕ) (clock labels : List ℕ) → c ≡ offers mask clock labels → x ≡ offer_call_lem mask clock labels)
+      → ((mask : ℕ) (clock labels : List ℕ) → c ≡ offers mask clock labels → x ≡ pool_offer mask clock labels)
       → OwnStep w x m o
 
 -- lent other things, a take is refused
@@ -50,19 +50,19 @@ mislent_take w (plain_lent (close_lent c s window)) p = refl
 module _ (w : ℕ) (pos : 0 < w) (shares : List ℕ) where
   module _ (G : Pooled) (R : Running w shares G) (i : ℕ) (m : Member) (here : G.places i ≡ has m) where
     own_step : (x : PoolCall) → PoolPassed w x
-        → ((text : List ℕ) (k : ℕ) (labels s window : List ℕ) → open_call_lem text k labels s window ≡ x → ⊥)
+        → ((text : List ℕ) (k : ℕ) (labels s window : List ℕ) → pool_open text k labels s window ≡ x → ⊥)
         → OwnStep w x m (outcome w i x G.pool (has m))
     unfolding outcome outcome_of_offer outcome_of_find
-    own_step (open_call_lem text k labels s window) p none = absurd (none text k labels s window refl)
+    own_step (pool_open text k labels s window) p none = absurd (none text k labels s window refl)
     own_step (mislent_call l) p none = skips refl (mislent_take w l p)
-    own_step (offer_call_lem mask clock labels) p none =
+    own_step (pool_offer mask clock labels) p none =
         makes (offers mask clock labels) p refl refl (λ n c l q. cc)
-    own_step (take_call_lem more scratch) p none =
+    own_step (pool_take more scratch) p none =
         let o = take-outcome w pos shares G R i m here more scratch in
         makes (takes (allowance G.pool i) more scratch) tt (ap (λ (y : Outcome). y.place) o)
         (ap (λ (y : Outcome). y.answers) o) (λ n c l q. let z : ◌≡◌ {A = ℕ} 0 1 = cc in absurd (omega arith))
-    own_step (find_call_lem line) p none = makes (finds line) tt refl refl (λ n c l q. let z : ◌≡◌ {A = ℕ} 0 1 = cc in absurd (omega arith))
-    own_step (close_call_lem q) p none =
+    own_step (pool_find line) p none = makes (finds line) tt refl refl (λ n c l q. let z : ◌≡◌ {A = ℕ} 0 1 = cc in absurd (omega arith))
+    own_step (pool_close q) p none =
         let o = close_outcome w pos shares G R i m here q in
         makes (closes q) tt (ap (λ (y : Outcome). y.place) o) refl (λ n c l e. let z : ◌≡◌ {A = ℕ} 0 1 = cc in absurd (omega arith))
 

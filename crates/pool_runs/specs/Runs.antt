@@ -64,20 +64,20 @@ pool_answer_to w (plain_lent m) = answer_to w m
 -- with so many zeros appended, and a scratch of any length and content; a find; a close; or one that was lent other
 -- things and turned back for them by 6 or by 34.
 pub data PoolCall : Type 0 where
-  open_call_lem : (text : List ℕ) (k : ℕ) (labels s window : List ℕ) → PoolCall
-  offer_call_lem : (mask : ℕ) (clock labels : List ℕ) → PoolCall
-  take_call_lem : (more : ℕ) (scratch : List ℕ) → PoolCall
-  find_call_lem : (line : ℕ) → PoolCall
-  close_call_lem : (p : ℕ) → PoolCall
+  pool_open : (text : List ℕ) (k : ℕ) (labels s window : List ℕ) → PoolCall
+  pool_offer : (mask : ℕ) (clock labels : List ℕ) → PoolCall
+  pool_take : (more : ℕ) (scratch : List ℕ) → PoolCall
+  pool_find : (line : ℕ) → PoolCall
+  pool_close : (p : ℕ) → PoolCall
   mislent_call : (m : PoolMislent) → PoolCall
 
 -- The arguments are such as the machine passes.
 abbrev pub PoolPassed : (w : ℕ) (c : PoolCall) → Type 0
-PoolPassed w (open_call_lem text k labels s window) = EightBytes labels
-PoolPassed w (offer_call_lem mask clock labels) = Passed w (offers mask clock labels)
-PoolPassed w (take_call_lem more scratch) = Unit {0}
-PoolPassed w (find_call_lem line) = Unit {0}
-PoolPassed w (close_call_lem p) = Unit {0}
+PoolPassed w (pool_open text k labels s window) = EightBytes labels
+PoolPassed w (pool_offer mask clock labels) = Passed w (offers mask clock labels)
+PoolPassed w (pool_take more scratch) = Unit {0}
+PoolPassed w (pool_find line) = Unit {0}
+PoolPassed w (pool_close p) = Unit {0}
 PoolPassed w (mislent_call m) =
     (pool_answer_to w m ≡ turned_back length_number 0) ⊎ (pool_answer_to w m ≡ turned_back state_number 0)
 
@@ -158,16 +158,16 @@ outcome_of_close w i p pool m =
 
 -- A call of watch i, by the pool and the place that it finds.
 unfoldable pub outcome : (w i : ℕ) (c : PoolCall) (pool : List ℕ) (P : Place) → Outcome
-outcome w i (open_call_lem text k labels s window) pool P = outcome_of_open w i text k labels s window pool P
+outcome w i (pool_open text k labels s window) pool P = outcome_of_open w i text k labels s window pool P
 outcome w i (mislent_call m) pool P = unchanged pool P (pool_answer_to w m ∷ [])
-outcome w i (offer_call_lem mask clock labels) pool vacant = unchanged pool vacant []
-outcome w i (offer_call_lem mask clock labels) pool (has m) = outcome_of_offer w mask clock labels pool m
-outcome w i (take_call_lem more scratch) pool vacant = unchanged pool vacant []
-outcome w i (take_call_lem more scratch) pool (has m) = outcome_of_take w i more scratch pool m
-outcome w i (find_call_lem line) pool vacant = unchanged pool vacant []
-outcome w i (find_call_lem line) pool (has m) = outcome_of_find w line pool m
-outcome w i (close_call_lem p) pool vacant = unchanged pool vacant []
-outcome w i (close_call_lem p) pool (has m) = outcome_of_close w i p pool m
+outcome w i (pool_offer mask clock labels) pool vacant = unchanged pool vacant []
+outcome w i (pool_offer mask clock labels) pool (has m) = outcome_of_offer w mask clock labels pool m
+outcome w i (pool_take more scratch) pool vacant = unchanged pool vacant []
+outcome w i (pool_take more scratch) pool (has m) = outcome_of_take w i more scratch pool m
+outcome w i (pool_find line) pool vacant = unchanged pool vacant []
+outcome w i (pool_find line) pool (has m) = outcome_of_find w line pool m
+outcome w i (pool_close p) pool vacant = unchanged pool vacant []
+outcome w i (pool_close p) pool (has m) = outcome_of_close w i p pool m
 
 -- The same for all numbers but i.
 abbrev pub placed_at : (i : ℕ) (P : Place) (places : ℕ → Place) → ℕ → Place

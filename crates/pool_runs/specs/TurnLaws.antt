@@ -15,7 +15,7 @@ use Rattle.call_shared.specs.Shared.{Shared, shared_open}
 use Rattle.demands.specs.EveryList.{RightLengths}
 use Rattle.demands.specs.statements.Caps.{WouldPass}
 use Rattle.demands.specs.forms.EveryWatch.{caps_alike}
-use Rattle.pool_runs.specs.Runs.{Member, Place, vacant, has, Pooled, PoolCall, open_call_lem, offer_call_lem, take_call_lem, find_call_lem, close_call_lem, mislent_call, PoolPassed, Numbered, Outcome, with_watch, outcome_of_open, outcome_of_offer, outcome_of_find, outcome_of_take, outcome_of_close, outcome, outcome_in, after_pool_call}
+use Rattle.pool_runs.specs.Runs.{Member, Place, vacant, has, Pooled, PoolCall, pool_open, pool_offer, pool_take, pool_find, pool_close, mislent_call, PoolPassed, Numbered, Outcome, with_watch, outcome_of_open, outcome_of_offer, outcome_of_find, outcome_of_take, outcome_of_close, outcome, outcome_in, after_pool_call}
 use Rattle.pool_runs.specs.Turns.{turn_of}
 use Rattle.pool_runs.specs.statements.Within.{kept_at_place}
 use Rattle.pool_runs.specs.statements.Others.{MayPassShare}
@@ -127,24 +127,24 @@ module _ (w : ℕ) (pos : 0 < w) (shares : List ℕ) (i : ℕ) where
     -- no take of it would pass the share
     abbrev Modest : (c : PoolCall) (P : Place) → Type 0
     Modest c P =
-        (more : ℕ) (scratch : List ℕ) (m : Member) → c ≡ take_call_lem more scratch → P ≡ has m
+        (more : ℕ) (scratch : List ℕ) (m : Member) → c ≡ pool_take more scratch → P ≡ has m
         → RightLengths w m.watch more scratch → WouldPass m.processes (at shares i) m.watch.ledger → ⊥
 
     calls-alike : (c : PoolCall) (P : Place) → G.places i ≡ P → Modest c P
         → SameOutcome (outcome w i c G.pool P) (outcome w i c H.pool P)
     unfolding outcome outcome_of_offer outcome_of_find
-    calls-alike (open_call_lem text k labels s window) P h none = open_alike text k labels s window P
+    calls-alike (pool_open text k labels s window) P h none = open_alike text k labels s window P
     calls-alike (mislent_call x) P h none = record { places = refl; scratches = refl; answered = refl }
-    calls-alike (offer_call_lem mask clock labels) vacant h none =
+    calls-alike (pool_offer mask clock labels) vacant h none =
         record { places = refl; scratches = refl; answered = refl }
-    calls-alike (offer_call_lem mask clock labels) (has m) h none =
+    calls-alike (pool_offer mask clock labels) (has m) h none =
         record { places = refl; scratches = refl; answered = refl }
-    calls-alike (take_call_lem more scratch) vacant h none = record { places = refl; scratches = refl; answered = refl }
-    calls-alike (take_call_lem more scratch) (has m) h none = take-alike m h more scratch (none more scratch m refl refl)
-    calls-alike (find_call_lem line) vacant h none = record { places = refl; scratches = refl; answered = refl }
-    calls-alike (find_call_lem line) (has m) h none = record { places = refl; scratches = refl; answered = refl }
-    calls-alike (close_call_lem p) vacant h none = record { places = refl; scratches = refl; answered = refl }
-    calls-alike (close_call_lem p) (has m) h none = close_alike m h p
+    calls-alike (pool_take more scratch) vacant h none = record { places = refl; scratches = refl; answered = refl }
+    calls-alike (pool_take more scratch) (has m) h none = take-alike m h more scratch (none more scratch m refl refl)
+    calls-alike (pool_find line) vacant h none = record { places = refl; scratches = refl; answered = refl }
+    calls-alike (pool_find line) (has m) h none = record { places = refl; scratches = refl; answered = refl }
+    calls-alike (pool_close p) vacant h none = record { places = refl; scratches = refl; answered = refl }
+    calls-alike (pool_close p) (has m) h none = close_alike m h p
 
     -- ---- One turn of it, in each run
     module _ (x : PoolCall) (p : PoolPassed w x) where

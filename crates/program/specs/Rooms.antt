@@ -11,7 +11,7 @@ use Rattle.lines.specs.declared.WatchLine.TheVariants.{Watch, Refused as WatchRe
 use Rattle.codec.specs.Decimal.{digits, value}
 use Rattle.line_pieces.specs.Number.{number_of, number_at}
 use Rattle.line_pieces.specs.Reading.{line_limit, then_byte, then_number, then_end, limited, head_read, value_read, then_last}
-use Rattle.lines.specs.Lines.{watch_of, watch_line, kLimit, room_limit}
+use Rattle.lines.specs.Lines.{watch_of, watch_line, k_limit, room_limit}
 
 -- A reading's number is at most so much.
 abbrev AtMost : ℕ → Read → Type 0
@@ -63,7 +63,7 @@ made k (Refused n i) h = tt
 pub room_within : (s : List ℕ) → RoomWithin (watch_line s)
 unfolding watch_line then_last
 room_within s =
-    let k = then_number s 0 kLimit (head_read s (ascii "(watch ")) in
+    let k = then_number s 0 k_limit (head_read s (ascii "(watch ")) in
     let room = then_number s 1 room_limit (then_byte s 32 k) in
     made (value_read k) _ (limit_within s 1024 _ (end-within s 1024 _
     (byte_within s 41 1024 room (number-within s 1 room_limit (then_byte s 32 k)))))

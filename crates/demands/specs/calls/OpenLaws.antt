@@ -44,7 +44,7 @@ use Rattle.demands.specs.World.{world_of, Valid}
 use Rattle.demands.specs.calls.ValidRule.{valid_rule}
 
 pub data OpenCase (w : ℕ) (text : List ℕ) (k : ℕ) (labels s window : List ℕ) : Type 0 where
-  turned_back_lem : (n i : ℕ)
+  turns_back : (n i : ℕ)
       → open_call w text k labels s window ≡ record { answer = turned_back n i; bytes = s; window = window }
       → OpenCase w text k labels s window
   opens : (f : Formula) (i : ℕ) → bad_window_length w (length window) ≡ false → bad_processes k ≡ false
@@ -61,10 +61,10 @@ open_case w text k labels s window =
     go : (a : Bool) → bad_record_length w (length s) || bad_window_length w (length window) ≡ a
         → (b : Bool) → bad_processes k ≡ b → (c : Bool) → bad_start k labels ≡ c
         → (r : Reading) → read_rule text k ≡ r → OpenCase w text k labels s window
-    go true h6 b h5 c h9 r h = turned_back_lem 6 0 (rw h6)
-    go false h6 true h5 c h9 r h = turned_back_lem 5 0 (rw (h6, h5))
-    go false h6 false h5 true h9 r h = turned_back_lem 9 0 (rw (h6, h5, h9))
-    go false h6 false h5 false h9 (faulty n i) h = turned_back_lem n i (rw (h6, h5, h9, h))
+    go true h6 b h5 c h9 r h = turns_back 6 0 (rw h6)
+    go false h6 true h5 c h9 r h = turns_back 5 0 (rw (h6, h5))
+    go false h6 false h5 true h9 r h = turns_back 9 0 (rw (h6, h5, h9))
+    go false h6 false h5 false h9 (faulty n i) h = turns_back n i (rw (h6, h5, h9, h))
     go false h6 false h5 false h9 (formed i f) h =
         opens f i (or-false_e (bad_record_length w (length s)) (bad_window_length w (length window)) h6).1 h5 h9 h
         (rw (h6, h5, h9, h))

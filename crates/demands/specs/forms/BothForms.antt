@@ -17,7 +17,7 @@ use Rattle.call_move.specs.LengthLaws.{right_lengths}
 use Rattle.call_move.specs.MoveCases.{passes, window_written}
 use Rattle.demands.specs.Run.{Call, Watch, after, run, opened}
 use Rattle.demands.specs.EveryList.{Accepts, EightBytes, AllPassed}
-use Rattle.demands.specs.calls.OpenLaws.{OpenCase, open_case, turned_back_lem, opens, opened_long}
+use Rattle.demands.specs.calls.OpenLaws.{OpenCase, open_case, turns_back, opens, opened_long}
 use Rattle.demands.specs.Written.{moved_to}
 use Rattle.demands.specs.statements.Moves.{next_move}
 use Rattle.demands.specs.statements.BothForms.{SameCalls, BothFormsAlike, MovedGoesOn}
@@ -55,7 +55,7 @@ unfolding run open_table
 opened_as w pos text k labels eight s window a f i r = go (open_case w text k labels s window)
   where
     go : OpenCase w text k labels s window → OpenedAs w text k labels s window f
-    go (turned_back_lem n j q) =
+    go (turns_back n j q) =
         let x : turned_back n j ≡ state a.0 a.1 a.2 = sym (ap (λ (o : Opened). o.answer) q) ∙ a.3 in
         let z : ◌≡◌ {A = ℕ} 0 1 = cc in absurd (omega arith)
     go (opens g j h6 h5 h9 h q) =

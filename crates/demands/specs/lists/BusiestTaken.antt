@@ -36,7 +36,7 @@ use Rattle.demands.specs.Run.{run, opened}
 use Rattle.demands.specs.World.{Valid}
 use Rattle.demands.specs.EveryList.{Accepts, EightBytes, at_end}
 use Rattle.demands.specs.bytes.Sized.{Storable}
-use Rattle.demands.specs.calls.OpenLaws.{OpenCase, open_case, turned_back_lem, opens, opened_long}
+use Rattle.demands.specs.calls.OpenLaws.{OpenCase, open_case, turns_back, opens, opened_long}
 use Rattle.demands.specs.calls.WindowRooms.{bad_length}
 use Rattle.demands.specs.lists.SoundRun.{sound_run}
 use Rattle.demands.specs.lists.DayListed.{there, value, storable, read, in_reverse, day_is_listed}
@@ -99,7 +99,7 @@ unfolding open_table
 open_long w pos text k labels eight s window = go (open_case w text k labels s window)
   where
     go : OpenCase w text k labels s window → length (open_call w text k labels s window).window ≡ length window
-    go (turned_back_lem n i q) = rw q
+    go (turns_back n i q) = rw q
     go (opens f i h6 h5 h9 h q) =
         rw q (opened_long w text k labels window pos eight.0 eight.1 f i h6 h5 h)
 

@@ -12,7 +12,7 @@ use Rattle.demands.specs.lists.Reports.{Reporting, after_reporting, open_reporti
 use Rattle.demands.specs.Watching.{Rule}
 use Rattle.call_open.specs.Open.{Opened, open_table}
 use Rattle.answers.specs.Answer.{turned_back, state}
-use Rattle.demands.specs.calls.OpenLaws.{OpenCase, open_case, opened_rule, opened_right, turned_back_lem, opens, opened_start}
+use Rattle.demands.specs.calls.OpenLaws.{OpenCase, open_case, opened_rule, opened_right, turns_back, opens, opened_start}
 use Rattle.demands.specs.Ledger.{occurrences}
 use Rattle.demands.specs.Run.{Call, Passed, Watch, after, run, opened}
 use Rattle.demands.specs.lists.LedgerBalance.{WatchBalanced, after_balanced}
@@ -62,7 +62,7 @@ unfolding open_table occurrences
 sound_run w pos text k labels eight s window a cs p = go (open_case w text k labels s window)
   where
     go : OpenCase w text k labels s window → SoundAsRead w text k labels (at_end w text k labels s window cs)
-    go (turned_back_lem n i q) =
+    go (turns_back n i q) =
         let x : turned_back n i ≡ state a.0 a.1 a.2 = sym (ap (λ (o : Opened). o.answer) q) ∙ a.3 in
         let z : ◌≡◌ {A = ℕ} 0 1 = cc in absurd (omega arith)
     go (opens f i h6 h5 h9 h q) =

@@ -19,7 +19,7 @@ use Rattle.call_close.specs.CloseCases as closing
 use Rattle.call_close.specs.CloseCases.{CloseCase, close_case}
 use Rattle.demands.specs.Mislent.{answer_to}
 use Rattle.demands.specs.Run.{Call, offers, takes, finds, closes, mislends, Watch, answered_by, offered_ledger, accepted_by, after, run, opened}
-use Rattle.demands.specs.calls.OpenLaws.{OpenCase, open_case, turned_back_lem, opens}
+use Rattle.demands.specs.calls.OpenLaws.{OpenCase, open_case, turns_back, opens}
 use Rattle.demands.specs.statements.Again.{is_again, last_of, without_agains, other_answers, SameButAgains, AgainsMakeNoDifference}
 
 -- ---- Only offers are answered "again"
@@ -73,7 +73,7 @@ unfolding open_table state_of
 open_other w text k labels s window = go (open_case w text k labels s window)
   where
     go : OpenCase w text k labels s window → is_again (open_call w text k labels s window).answer ≡ false
-    go (turned_back_lem n i q) = rw q
+    go (turns_back n i q) = rw q
     go (opens f i h6 h5 h9 h q) = rw q
 
 -- ---- Which leaves the watch

@@ -9,7 +9,7 @@ use Rattle.rules.specs.grammar.FirstBytes.{Begun, begun_nil}
 use Rattle.line_pieces.specs.declared.Read.{Read}
 use Rattle.line_pieces.specs.declared.Read.TheVariants.{At, Refused}
 use Rattle.line_pieces.specs.Reading.{then_end, line_limit, limited}
-use Rattle.line_laws.specs.Grammar.{Piece, PieceText, LineFault1, a_number, list, spaced_list, aByte}
+use Rattle.line_laws.specs.Grammar.{Piece, PieceText, LineFault1, a_number, list, spaced_list, a_byte}
 use Rattle.line_laws.specs.Fault.{TenIn, TenFrom, Fault10, LineFault, FirstLineFault}
 use Rattle.line_laws.specs.pieces.ReadPieces.{read_piece, read_pieces, pieces_stay, Numbered, pieces_numbered}
 use Rattle.line_laws.specs.pieces.NumberTextRead.{if_known}
@@ -58,7 +58,7 @@ ten_sound s bs (p ∷ ps) j v i d b q =
 
 ten_in_from : (p : Piece) (s : List ℕ) (j i : ℕ) → TenIn p s j i → j ≤ i
 unfolding TenIn
-ten_in_from (aByte b) s j i t = absurd t
+ten_in_from (a_byte b) s j i t = absurd t
 ten_in_from (a_number least most b) s j i (e, o) = omega arith
 ten_in_from (list ascending most fewest fullest) s j i (inl (ns, (a, (p, o)))) = omega (arith, p.ends)
 ten_in_from (list ascending most fewest fullest) s j i (inr (ns, (a, (p, o)))) = omega (arith, p.ends)

@@ -4,7 +4,7 @@ use Rattle.std.proofs.Common.{arith}
 use Rattle.codec.specs.Ascii.{ascii}
 use Rattle.line_pieces.specs.Reading.{value_read, then_bytes, head_read, then_number, limited, then_last}
 use Rattle.line_pieces.specs.NumberList.{then_list, then_spaced_list, then_close, eight_values}
-use Rattle.lines.specs.Lines.{kLimit, label_limit, process_limit, watch_of, watch_line, start_of, start_line, did_of, did_line}
+use Rattle.lines.specs.Lines.{k_limit, label_limit, process_limit, watch_of, watch_line, start_of, start_line, did_of, did_line}
 use Rattle.line_laws.specs.Grammar.{watch_pieces, start_pieces, did_pieces}
 use Rattle.line_laws.specs.pieces.ReadPieces.{read_piece, read_pieces}
 use Rattle.line_laws.specs.pieces.PieceTextRead.{AllEnded}
@@ -24,7 +24,7 @@ unfolding did_pieces AllEnded
 did_ended k n = search (arith)
 
 pub watch_read_lem : (s : List ℕ)
-    → watch_line s ≡ watch_of (value_read (then_number s 0 kLimit (head_read s (ascii "(watch "))))
+    → watch_line s ≡ watch_of (value_read (then_number s 0 k_limit (head_read s (ascii "(watch "))))
     (limited s (line_read s watch_pieces))
 unfolding watch_pieces watch_line then_last then_bytes line_read read_piece read_pieces
 watch_read_lem s = refl

@@ -14,7 +14,7 @@ use Rattle.line_pieces.specs.NumberLaws.{inside, digit_bounds}
 use Rattle.line_pieces.specs.Reading.{value_read, then_bytes, head_read, then_end}
 use Rattle.line_pieces.specs.NumberList.{then_list, then_close}
 use Rattle.lines.specs.Lines.{count_limit, label_limit, process_limit}
-use Rattle.line_laws.specs.Grammar.{AllDigits, Numeral, Numerals, spaced, between, Piece, aByte, list, did_pieces, Names}
+use Rattle.line_laws.specs.Grammar.{AllDigits, Numeral, Numerals, spaced, between, Piece, a_byte, list, did_pieces, Names}
 use Rattle.line_laws.specs.FirstFaults.{EachLineNames}
 use Rattle.line_laws.specs.pieces.ReadPieces.{read_piece, read_pieces, pieces_stay}
 use Rattle.line_laws.specs.faults.GrammarTheorem.{line_read}
@@ -28,7 +28,7 @@ unfoldable pub first_read : List ℕ → Read
 first_read s = then_close s 1 8 (then_list s true process_limit (head_read s (ascii "(did ("))).read
 
 abbrev pub rest : ℕ → ℕ → List Piece
-rest k n = aByte 32 ∷ aByte 40 ∷ list false count_limit k k ∷ aByte 32 ∷ aByte 40 ∷ list false label_limit n n ∷ aByte 41
+rest k n = a_byte 32 ∷ a_byte 40 ∷ list false count_limit k k ∷ a_byte 32 ∷ a_byte 40 ∷ list false label_limit n n ∷ a_byte 41
     ∷ []
 
 pub line_after : (s : List ℕ) (k n : ℕ) → line_read s (did_pieces k n) ≡ then_end s (read_pieces s (rest k n) (first_read s))

@@ -8,7 +8,7 @@ use Rattle.line_pieces.specs.declared.Read.TheVariants.{At, Refused}
 use Rattle.codec.specs.Decimal.{is_digit, digits, value}
 use Rattle.line_pieces.specs.Number.{number_of, number_at}
 use Rattle.line_pieces.specs.NumberLaws.{digits_next, digits-end, digits-first}
-use Rattle.line_laws.specs.Grammar.{Numeral, Numerals, spaced, between, Piece, aByte, a_number, list, spaced_list}
+use Rattle.line_laws.specs.Grammar.{Numeral, Numerals, spaced, between, Piece, a_byte, a_number, list, spaced_list}
 use Rattle.line_laws.specs.pieces.ReadPieces.{if_test, read_piece}
 use Rattle.line_laws.specs.Fault.{NumberOut, trailed, least_behind, Miscounted, TenIn}
 use Rattle.line_laws.specs.pieces.NumberTextRead.{if_known}
@@ -226,7 +226,7 @@ byte_not_ten s b k v i q =
 
 pub piece_ten : (s : List ℕ) (p : Piece) (j v i : ℕ) → read_piece s p (At j v) ≡ Refused 10 i → TenIn p s j i
 unfolding read_piece TenIn then_number then_byte Judged
-piece_ten s (aByte b) j v i q = byte_not_ten s b j v i q
+piece_ten s (a_byte b) j v i q = byte_not_ten s b j v i q
 piece_ten s (a_number least most b) j v i q = go (number_at s j least most) (number_judged s j least most) q
   where
     go : (r : Read) → Judged s j least most r → then_byte s b r ≡ Refused 10 i → (i ≡ j) × NumberOut s i least most

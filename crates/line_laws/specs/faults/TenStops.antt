@@ -13,7 +13,7 @@ use Rattle.line_pieces.specs.Number.{number_of, number_at}
 use Rattle.line_pieces.specs.NumberLaws.{inside, digit_bounds, digits_next, digits-end}
 use Rattle.line_pieces.specs.Reading.{then_byte, then_number}
 use Rattle.line_pieces.specs.NumberList.{after_number, numbers_at, all_numbers_at, then_list, then_spaced_list, then_close}
-use Rattle.line_laws.specs.Grammar.{AllDigits, Numeral, Numerals, spaced, between, Piece, aByte, a_number, list, spaced_list, PieceText}
+use Rattle.line_laws.specs.Grammar.{AllDigits, Numeral, Numerals, spaced, between, Piece, a_byte, a_number, list, spaced_list, PieceText}
 use Rattle.line_laws.specs.Fault.{NumberOut, trailed, least_behind, TenIn}
 use Rattle.line_laws.specs.pieces.ReadPieces.{if_test, read_piece}
 use Rattle.line_laws.specs.pieces.NumberTextRead.{plain-test}
@@ -303,7 +303,7 @@ span_then s j i b x p e = (span_append p (span_byte s i b e)).stands
 
 pub piece_stops : (s : List ℕ) (p : Piece) (j v i : ℕ) → TenIn p s j i → Stops i (read_piece s p (At j v))
 unfolding TenIn read_piece then_number then_byte then_list then_spaced_list StandsAt
-piece_stops s (aByte b) j v i t = absurd t
+piece_stops s (a_byte b) j v i t = absurd t
 piece_stops s (a_number least most b) j v i (e, o) = let q : number_at s j least most ≡ Refused 10 j =
     number_stops s j least most (rw e at o) in
     rw q (10, j, (refl, omega arith))
@@ -335,7 +335,7 @@ Passes e r = ((w : ℕ) × (r ≡ At e w)) ⊎ StopsBefore e r
 pub piece_passes : (s : List ℕ) (p : Piece) (x : List ℕ) (j v e : ℕ) → PieceText p x → Ended p → Span s j x e
     → Passes e (read_piece s p (At j v))
 unfolding PieceText read_piece then_number then_byte StandsAt Passes
-piece_passes s (aByte b) x j v e t d p =
+piece_passes s (a_byte b) x j v e t d p =
     let p' : Span s j (b ∷ []) e = rw t at p in
     let z : e ≡ j + 1 = p'.ends in
     rw (z, eq-eqb (byte_at s j) b p'.stands.0) (inl (v, refl))

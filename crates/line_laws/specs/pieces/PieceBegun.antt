@@ -12,7 +12,7 @@ use Rattle.line_pieces.specs.declared.Read.TheVariants.{At, Refused}
 use Rattle.codec.specs.Decimal.{is_digit, digits, value}
 use Rattle.line_pieces.specs.Number.{number_of, number_at}
 use Rattle.line_pieces.specs.NumberLaws.{digit_bounds, digits-first}
-use Rattle.line_laws.specs.Grammar.{AllDigits, Numeral, Numerals, spaced, between, Piece, aByte, a_number, list, spaced_list, PieceText, TextOf}
+use Rattle.line_laws.specs.Grammar.{AllDigits, Numeral, Numerals, spaced, between, Piece, a_byte, a_number, list, spaced_list, PieceText, TextOf}
 use Rattle.line_pieces.specs.Reading.{then_byte, then_number}
 use Rattle.line_pieces.specs.NumberList.{ListRead, after_number, numbers_at, then_list, then_spaced_list, then_close}
 use Rattle.line_laws.specs.pieces.ReadPieces.{if_test, read_piece, read_pieces, pieces_stay}
@@ -235,7 +235,7 @@ numeral_stood s bs (Refused n j) q = q
 pub piece_stood : (s bs : List ℕ) (p : Piece) (i v : ℕ) → Ended p → Begun s bs i
     → Stood (PieceText p) s bs (read_piece s p (At i v))
 unfolding read_piece PieceText then_number Stood
-piece_stood s bs (aByte b) i v d g =
+piece_stood s bs (a_byte b) i v d g =
     stood_byte (λ (x : List ℕ). x ≡ []) (λ (x : List ℕ). x ≡ b ∷ []) s bs b (At i v) d (λ x e. rw e) (here g)
   where
     here : Begun s bs i → Stood (λ (x : List ℕ). x ≡ []) s bs (At i v)
@@ -258,7 +258,7 @@ piece_stood s bs (spaced_list most fewest fullest) i v d g =
 -- Each piece has a text.
 sample : (p : Piece) → (x : List ℕ) × PieceText p x
 unfolding PieceText Numerals between spaced
-sample (aByte b) = (b ∷ [], refl)
+sample (a_byte b) = (b ∷ [], refl)
 sample (a_number least most b) = (48 ∷ b ∷ [], (48 ∷ [], (numeral-one 48 refl, refl)))
 sample (list ascending most fewest fullest) = (41 ∷ [], ([], (tt, refl)))
 sample (spaced_list most fewest fullest) = (41 ∷ [], ([], (tt, refl)))

@@ -12,7 +12,7 @@ use Rattle.line_pieces.specs.Number.{number_at}
 use Rattle.line_pieces.specs.NumberLaws.{inside, digit_bounds}
 use Rattle.line_pieces.specs.Reading.{then_byte, then_number}
 use Rattle.line_pieces.specs.NumberList.{ListRead, after_number, numbers_at, all_numbers_at, then_list, then_spaced_list, then_close}
-use Rattle.line_laws.specs.Grammar.{AllDigits, Numeral, Numerals, spaced, between, Piece, aByte, a_number, list, spaced_list, PieceText, TextOf}
+use Rattle.line_laws.specs.Grammar.{AllDigits, Numeral, Numerals, spaced, between, Piece, a_byte, a_number, list, spaced_list, PieceText, TextOf}
 use Rattle.line_laws.specs.pieces.ReadPieces.{read_piece, read_pieces, place_in, if_test, numbers_from, piece_from, piece_stays}
 use Rattle.line_laws.specs.pieces.NumberTextRead.{Behind, Near, byte_met, number_met}
 
@@ -159,7 +159,7 @@ spaced_met m s most i v (d ∷ ds) a h =
 
 -- A piece whose own bytes are bytes, and whose number ends at its byte.
 abbrev pub Ended : Piece → Type 0
-Ended (aByte b) = b < 256
+Ended (a_byte b) = b < 256
 Ended (a_number least most b) = (is_digit b ≡ false) × (b < 256)
 Ended (list ascending most fewest fullest) = Unit {0}
 Ended (spaced_list most fewest fullest) = Unit {0}
@@ -180,7 +180,7 @@ byte_near m s b i (Refused n j) h (inr q) = inr q
 piece_read : (m : ℕ) (s : List ℕ) (p : Piece) (x : List ℕ) (i v : ℕ) → PieceText p x → Ended p → StandsTo m s i x
     → Near m (i + length x) (read_piece s p (At i v))
 unfolding PieceText read_piece StandsTo then_number
-piece_read m s (aByte b) x i v e d h = let h' : StandsTo m s i (b ∷ []) = rw e at h in
+piece_read m s (a_byte b) x i v e d h = let h' : StandsTo m s i (b ∷ []) = rw e at h in
     rw e (byte_met m s b i (At i v) h'.0 (v, refl))
 piece_read m s (a_number least most b) x i v (ds, (n, e)) d h =
     let h' : StandsTo m s i (ds ++ b ∷ []) = rw e at h in

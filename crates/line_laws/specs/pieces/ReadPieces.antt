@@ -8,11 +8,11 @@ use Rattle.codec.specs.Decimal.{digits, value}
 use Rattle.line_pieces.specs.Number.{number_of, number_at}
 use Rattle.line_pieces.specs.Reading.{then_byte, then_number}
 use Rattle.line_pieces.specs.NumberList.{ListRead, after_number, numbers_at, then_list, then_spaced_list, then_close}
-use Rattle.line_laws.specs.Grammar.{Piece, aByte, a_number, list, spaced_list}
+use Rattle.line_laws.specs.Grammar.{Piece, a_byte, a_number, list, spaced_list}
 
 -- A piece read, and pieces one after the other.
 unfoldable pub read_piece : List ℕ → Piece → Read → Read
-read_piece s (aByte b) r = then_byte s b r
+read_piece s (a_byte b) r = then_byte s b r
 read_piece s (a_number least most b) r = then_byte s b (then_number s least most r)
 read_piece s (list ascending most fewest fullest) r = then_close s fewest fullest (then_list s ascending most r).read
 read_piece s (spaced_list most fewest fullest) r = then_close s fewest fullest (then_spaced_list s most r).read
@@ -100,7 +100,7 @@ then_number_from s least most (Refused n i) = omega arith
 
 pub piece_from : (s : List ℕ) (p : Piece) (r : Read) → place_in r ≤ place_in (read_piece s p r)
 unfolding read_piece
-piece_from s (aByte b) r = byte_from s b r
+piece_from s (a_byte b) r = byte_from s b r
 piece_from s (a_number least most b) r =
     let x = then_number_from s least most r in
     let y = byte_from s b (then_number s least most r) in
@@ -126,7 +126,7 @@ pieces_from s (p ∷ ps) r =
 
 pub piece_stays : (s : List ℕ) (p : Piece) (n i : ℕ) → read_piece s p (Refused n i) ≡ Refused n i
 unfolding read_piece then_byte then_number then_list then_spaced_list then_close
-piece_stays s (aByte b) n i = refl
+piece_stays s (a_byte b) n i = refl
 piece_stays s (a_number least most b) n i = refl
 piece_stays s (list ascending most fewest fullest) n i = refl
 piece_stays s (spaced_list most fewest fullest) n i = refl
@@ -182,7 +182,7 @@ close_numbered s fewest fullest (Refused n i) h = h
 
 piece_numbered : (s : List ℕ) (p : Piece) (r : Read) → Numbered r → Numbered (read_piece s p r)
 unfolding read_piece then_number then_list then_spaced_list Numbered
-piece_numbered s (aByte b) r h = byte_numbered s b r h
+piece_numbered s (a_byte b) r h = byte_numbered s b r h
 piece_numbered s (a_number least most b) (At i v) h =
     byte_numbered s b (number_at s i least most) (number_numbered s i least most)
 piece_numbered s (a_number least most b) (Refused n i) h = byte_numbered s b (Refused n i) h

@@ -7,7 +7,7 @@ use Rattle.line_pieces.specs.declared.Read.TheVariants.{At, Refused}
 use Rattle.line_pieces.specs.Reading.{value_read, then_bytes, head_read, line_limit, limited}
 use Rattle.lines.specs.Lines.{process_limit, watch_of, watch_line, start_of, start_line, did_of, did_line, rule_of, rule_line}
 use Rattle.line_laws.specs.LinePrefix.{FirstBytesDecide}
-use Rattle.line_laws.specs.Grammar.{Piece, aByte, list, watch_pieces, start_pieces, did_pieces}
+use Rattle.line_laws.specs.Grammar.{Piece, a_byte, list, watch_pieces, start_pieces, did_pieces}
 use Rattle.line_laws.specs.pieces.ReadPieces.{read_piece, read_pieces, pieces_from}
 use Rattle.line_laws.specs.pieces.NumberTextRead.{if_known}
 use Rattle.line_laws.specs.faults.GrammarTheorem.{line_read}
@@ -73,7 +73,7 @@ start_enough s k = answer_enough (λ (l : List ℕ). start_line l k) StartRefuse
 -- In an event's line the first list is read alike, and then with the same number of processes; or both readings are
 -- behind the limit.
 first_pieces : List Piece
-first_pieces = map aByte (ascii "(did (") ++ list true process_limit 1 8 ∷ []
+first_pieces = map a_byte (ascii "(did (") ++ list true process_limit 1 8 ∷ []
 
 first_modest : AllModest first_pieces
 unfolding first_pieces AllModest
@@ -129,11 +129,11 @@ did_enough s k = go (leb (length s) enough) refl
         ∙ sym (did_refuses k s w.0 w.1 w.2)
 
 -- A rule's line over the limit is turned back by its head, or by its length.
-head_is : (s : List ℕ) → head_read s (ascii "(rule ") ≡ read_pieces s (map aByte (ascii "(rule ")) (At 0 0)
+head_is : (s : List ℕ) → head_read s (ascii "(rule ") ≡ read_pieces s (map a_byte (ascii "(rule ")) (At 0 0)
 unfolding read_pieces read_piece then_bytes
 head_is s = refl
 
-head_modest : AllModest (map aByte (ascii "(rule "))
+head_modest : AllModest (map a_byte (ascii "(rule "))
 unfolding AllModest
 head_modest = search (arith)
 
@@ -155,7 +155,7 @@ rule_enough s k = go (leb (length s) enough) refl
         let g = head_read (take enough s) (ascii "(rule ") in
         let near : Same h g =
         rw (head_is s, head_is (take enough s))
-        (pieces_same f (map aByte (ascii "(rule ")) (At 0 0) (At 0 0) head_modest (inl refl)) in
+        (pieces_same f (map a_byte (ascii "(rule ")) (At 0 0) (At 0 0) head_modest (inl refl)) in
         let head = limited-same f h g near in
         let w = over_refused s (head_read s (ascii "(rule ")) (omega (arith, long)) in
         rule_refuses k (take enough s) w.0 w.1 (sym head ∙ w.2) ∙ sym (rule_refuses k s w.0 w.1 w.2)

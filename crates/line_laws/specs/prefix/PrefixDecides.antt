@@ -19,7 +19,7 @@ use Rattle.line_pieces.specs.Reading.{then_byte, then_number, then_end, line_lim
 use Rattle.line_laws.specs.faults.GrammarTheorem.{line_read}
 use Rattle.line_pieces.specs.NumberList.{list_read, after_number, numbers_at, all_numbers_at, then_list, then_spaced_list, then_close}
 use Rattle.line_laws.specs.pieces.ReadPieces.{read_piece, read_pieces, place_in, if_test, numbers_from, byte_from, close_from, piece_from, piece_stays}
-use Rattle.line_laws.specs.Grammar.{Piece, aByte, a_number, list, spaced_list}
+use Rattle.line_laws.specs.Grammar.{Piece, a_byte, a_number, list, spaced_list}
 use Rattle.line_laws.specs.faults.TenIsFault.{not_at, Judged, number_judged}
 use Rattle.line_laws.specs.prefix.LongNumbers.{most_digits, Short, long_at}
 
@@ -35,7 +35,7 @@ pub record Front (s front : List ℕ) : Type 0 where
 
 -- No number of a piece has more digits.
 abbrev pub Modest : Piece → Type 0
-Modest (aByte b) = Unit {0}
+Modest (a_byte b) = Unit {0}
 Modest (a_number least most b) = Short most
 Modest (list ascending most fewest fullest) = Short most
 Modest (spaced_list most fewest fullest) = Short most
@@ -213,7 +213,7 @@ module _ {s front : List ℕ} (f : Front s front) where
   piece_near : (p : Piece) (i v : ℕ) → Modest p → i ≤ line_limit
       → Same (read_piece s p (At i v)) (read_piece front p (At i v))
   unfolding read_piece then_number
-  piece_near (aByte b) i v m h = byte_same b (At i v) (At i v) (inl refl)
+  piece_near (a_byte b) i v m h = byte_same b (At i v) (At i v) (inl refl)
   piece_near (a_number least most b) i v m h =
       byte_same b (number_at s i least most) (number_at front i least most) (inl (sym (number_front i least most h m)))
   piece_near (list ascending most fewest fullest) i v m h =

@@ -17,7 +17,7 @@ use Rattle.lines.specs.declared.WatchLine.TheVariants.{Watch}
 use Rattle.lines.specs.declared.StartLine.TheVariants.{Start}
 use Rattle.lines.specs.declared.DidLine.TheVariants.{Did}
 use Rattle.lines.specs.Words.{packed_word}
-use Rattle.lines.specs.Lines.{kLimit, count_limit, label_limit, process_limit, room_limit, watch_of, watch_line, start_of, start_line, did_of, did_line}
+use Rattle.lines.specs.Lines.{k_limit, count_limit, label_limit, process_limit, room_limit, watch_of, watch_line, start_of, start_line, did_of, did_line}
 use Rattle.line_laws.specs.Grammar.{Numeral, between}
 use Rattle.line_laws.specs.LineSays.{WatchSays, StartSays, DidSays}
 use Rattle.line_laws.specs.pieces.NumberTextRead.{if_known}
@@ -221,14 +221,14 @@ unfolding watch_line value_read
 watch_said s k room h = let a = watch_answers _ _ k room h in said a.0 a.1.0 a.1.1
   where
     said : (i : ℕ) → then_last s
-        (then_number s 1 room_limit (then_byte s 32 (then_number s 0 kLimit (head_read s (ascii "(watch ")))))
+        (then_number s 1 room_limit (then_byte s 32 (then_number s 0 k_limit (head_read s (ascii "(watch ")))))
         ≡ At i room
-        → value_read (then_number s 0 kLimit (head_read s (ascii "(watch "))) ≡ k → WatchSays s k room
+        → value_read (then_number s 0 k_limit (head_read s (ascii "(watch "))) ≡ k → WatchSays s k room
     said i q e =
         last-before s _ i room q (λ e₂ q₂ last end short.
         number-before s 1 room_limit _ e₂ room q₂ (λ j₂ v₂ r r₂ numeral₂ span₂ is₂ low₂ high₂.
         byte_before s 32 _ j₂ v₂ r₂ (λ e₁ q₁ space.
-        number-before s 0 kLimit (head_read s (ascii "(watch ")) e₁ v₂ q₁
+        number-before s 0 k_limit (head_read s (ascii "(watch ")) e₁ v₂ q₁
         (λ j₁ v₁ p r₁ numeral₁ span₁ is₁ low₁ high₁.
         let same : v₂ ≡ k = sym (ap value_read q₁) ∙ e in
         record {

@@ -16,7 +16,7 @@ use Rattle.line_pieces.specs.NumberList.{list_read, after_number, numbers_at, th
 use Rattle.lines.specs.declared.WatchLine.TheVariants.{Watch}
 use Rattle.lines.specs.declared.StartLine.TheVariants.{Start}
 use Rattle.lines.specs.Words.{packed_word}
-use Rattle.lines.specs.Lines.{kLimit, count_limit, label_limit, process_limit, room_limit, watch_of, watch_line, start_of, start_line, did_of, did_line}
+use Rattle.lines.specs.Lines.{k_limit, count_limit, label_limit, process_limit, room_limit, watch_of, watch_line, start_of, start_line, did_of, did_line}
 use Rattle.line_laws.specs.Grammar.{AllDigits, Numeral, Numerals, spaced, between}
 use Rattle.line_laws.specs.LineSays.{InLimits, WatchSays, StartSays, DidSays}
 use Rattle.line_laws.specs.pieces.NumberTextRead.{plain-test}
@@ -206,7 +206,7 @@ unfolding watch_line watch_of value_read then_byte StandsAt
 watch_said_read s k room x =
     pass_bytes s (ascii "(watch ") (x.k_digits ++ 32 ∷ (x.room_digits ++ 41 ∷ [])) 0 0 (ends-all s _ x.text)
     (λ j head h₁.
-    pass_number s 0 kLimit j 0 32 x.k_digits (x.room_digits ++ 41 ∷ []) x.numerals.0 refl (omega arith)
+    pass_number s 0 k_limit j 0 32 x.k_digits (x.room_digits ++ 41 ∷ []) x.numerals.0 refl (omega arith)
     (omega (arith, x.values.0, x.limits.0)) h₁ (λ e₁ first h₂.
     pass_number s 1 room_limit (e₁ + 1) (value x.k_digits) 41 x.room_digits [] x.numerals.1 refl
     (omega (arith, x.values.1, x.limits.1.0))

@@ -11,17 +11,17 @@ use Rattle.answers.specs.Answer.{Answer}
 use Rattle.demands.specs.Mislent.{offer_lent, take_lent, find_lent, close_lent}
 use Rattle.demands.specs.Run.{Watch}
 use Rattle.demands.specs.statements.Empties.{NoneRefused, unrefused, Emptied}
-use Rattle.pool_runs.specs.Runs.{Member, Pooled, PoolCall, shared_open_lent, shared_take_lent, shared_close_lent, plain_lent, open_call_lem, offer_call_lem, take_call_lem, find_call_lem, close_call_lem, mislent_call, Numbered, AllPoolPassed, with_watch, pool_run}
+use Rattle.pool_runs.specs.Runs.{Member, Pooled, PoolCall, shared_open_lent, shared_take_lent, shared_close_lent, plain_lent, pool_open, pool_offer, pool_take, pool_find, pool_close, mislent_call, Numbered, AllPoolPassed, with_watch, pool_run}
 use Rattle.pool_runs.specs.Turns.{own_calls, Turn, own_turns}
 use Rattle.pool_runs.specs.statements.Members.{OfEveryMember}
 
 -- What a call answered, if it is a take.
 abbrev pub of_take : (c : PoolCall) (answers : List Answer) → List Answer
-of_take (open_call_lem text k labels s window) answers = []
-of_take (offer_call_lem mask clock labels) answers = []
-of_take (take_call_lem more scratch) answers = answers
-of_take (find_call_lem line) answers = []
-of_take (close_call_lem p) answers = []
+of_take (pool_open text k labels s window) answers = []
+of_take (pool_offer mask clock labels) answers = []
+of_take (pool_take more scratch) answers = answers
+of_take (pool_find line) answers = []
+of_take (pool_close p) answers = []
 of_take (mislent_call (shared_open_lent text k labels s window pool number)) answers = []
 of_take (mislent_call (shared_take_lent s window scratch pool number)) answers = answers
 of_take (mislent_call (shared_close_lent p s window pool number)) answers = []
@@ -38,10 +38,10 @@ own_take_answers (t ∷ ts) = of_take t.call t.answers ++ own_take_answers ts
 -- It is not opened anew, and no event is offered to it.
 abbrev pub NoOwnOpens : (cs : List PoolCall) → Type 0
 NoOwnOpens cs =
-    (text : List ℕ) (k : ℕ) (labels s window : List ℕ) → Memᴰ (open_call_lem text k labels s window) cs → ⊥
+    (text : List ℕ) (k : ℕ) (labels s window : List ℕ) → Memᴰ (pool_open text k labels s window) cs → ⊥
 
 abbrev pub NoOwnOffers : (cs : List PoolCall) → Type 0
-NoOwnOffers cs = (mask : ℕ) (clock labels : List ℕ) → Memᴰ (offer_call_lem mask clock labels) cs → ⊥
+NoOwnOffers cs = (mask : ℕ) (clock labels : List ℕ) → Memᴰ (pool_offer mask clock labels) cs → ⊥
 
 -- Any calls of all watches follow. Of watch i and its own calls among them, as of one that shares no pool (demands
 -- statements/Empties):

@@ -6,14 +6,14 @@ use mathlib.Core.List.{List, Memᴰ}
 use Rattle.clocks.specs.Counts.{at}
 use Rattle.demands.specs.EveryList.{RightLengths}
 use Rattle.demands.specs.statements.Caps.{WouldPass}
-use Rattle.pool_runs.specs.Runs.{Member, has, IsSet, begun, take_call_lem, Numbered, AllPoolPassed}
+use Rattle.pool_runs.specs.Runs.{Member, has, IsSet, begun, pool_take, Numbered, AllPoolPassed}
 use Rattle.pool_runs.specs.Turns.{own_calls, Turn, own_turns}
 
 -- A take, lent right lengths, in which some pending event is ready and has a true clock, and the cuts kept with it are
 -- more than the share: whether it fits or not. It goes by what the watch's own calls left alone.
 abbrev pub MayPassShare : (w share : ℕ) (t : Turn) → Type 0
 MayPassShare w share t =
-    (more : ℕ) × (scratch : List ℕ) × (m : Member) × (t.call ≡ take_call_lem more scratch) × (t.found ≡ has m)
+    (more : ℕ) × (scratch : List ℕ) × (m : Member) × (t.call ≡ pool_take more scratch) × (t.found ≡ has m)
     × RightLengths w m.watch more scratch × WouldPass m.processes share m.watch.ledger
 
 -- Of each of watch i's first n calls: what it found and left of the watch, record and window among it, the scratch that
