@@ -219,7 +219,7 @@ module _ (v w k : ℕ) (f : Formula) (start : Cut) (Y Z : Watch) (t : Twins v w 
   after_same (offers mask clock labels) d s p q =
       subst (λ (e : Call). Twins v w k f start (after v (offers mask clock labels) Y) (after w e Z)) (sym s)
       (after-offers mask clock labels p (subst (Passed w) s q))
-  after_same (takes cap zeros scratch) d (more, far, scratch', z, l, l', e) p q =
+  after_same (takes cap _ scratch) d (more, far, scratch', z, l, l', e) p q =
       subst (λ (n : ℕ). Twins v w k f start (after v (takes cap n scratch) Y) (after w d Z)) (sym z)
       (subst (λ (c : Call). Twins v w k f start (after v (takes cap (more * frontier_length v) scratch) Y) (after w c Z))
       (sym e) (after-takes cap more far scratch scratch' l l'))

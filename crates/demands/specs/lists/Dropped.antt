@@ -77,7 +77,7 @@ close_later p L absent = no_later L
 after_later : (w : ℕ) (c : Call) (W : Watch) → Later W.ledger (after w c W).ledger
 unfolding after
 after_later w (offers mask clock labels) W = offer_later w W.bytes _ W.ledger _
-after_later w (takes cap zeros scratch) W = take_later w W.bytes _ W.ledger _
+after_later w (takes cap _ scratch) W = take_later w W.bytes _ W.ledger _
 after_later w (finds line) W = no_later W.ledger
 after_later w (closes p) W = close_later p W.ledger _
 after_later w (mislends m) W = no_later W.ledger

@@ -103,7 +103,7 @@ module _ (w k : ℕ) (table : List Line) (start : Cut) (R : Rule w k table start
 -- a call's answer is the newest, and those before it stay
 earlier_more : (w : ℕ) (c : Call) (W : Watch) → (a : Answer) × ((earlier_after w c W).answers ≡ a ∷ W.answers)
 unfolding earlier_after after
-earlier_more w (takes cap zeros scratch) W = (_, refl)
+earlier_more w (takes cap _ scratch) W = (_, refl)
 earlier_more w (offers mask clock labels) W = (_, refl)
 earlier_more w (finds line) W = (_, refl)
 earlier_more w (closes p) W = (_, refl)
