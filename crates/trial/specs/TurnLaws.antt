@@ -5,6 +5,7 @@ use Rattle.std.proofs.Common.{arith, ap, ◌∙◌, ⊎_elim, leb→le, eq-eqb, 
 use Rattle.std.proofs.Math.Decide.{dec_lt}
 use Rattle.std.proofs.Math.Path.{refl}
 use mathlib.Core.List.{List, [], ◌∷◌, Memᴰ}
+use mathlib.Core.List.Memᴰ as member
 use Rattle.std.proofs.lemmas.Nat.{trailing_le}
 use Rattle.std.proofs.Math.ListN.{length-append}
 use Rattle.clocks.specs.declared.Event.{Event}
@@ -105,21 +106,21 @@ length-turn i (e ∷ es) =
 
 places_below : (p i : ℕ) (es : List Event) (j : ℕ) → Memᴰ j (places_of p i es) → j < i + length es
 unfolding places_of
-places_below p i [] j m = absurd (mathlib.Core.List.Memᴰ.not-nil m)
+places_below p i [] j m = absurd (member.not-nil m)
 places_below p i (e ∷ es) j m = go (eqb (lowest e) p) refl (places_below p (i + 1) es j)
   where
     go : (b : Bool) → eqb (lowest e) p ≡ b → (Memᴰ j (places_of p (i + 1) es) → j < i + 1 + length es)
         → j < i + length (e ∷ es)
     go true q rest =
         let n : Memᴰ j (i ∷ places_of p (i + 1) es) = rw q at m in
-        ⊎_elim (λ s. omega arith) (λ t. omega (arith, rest t)) (mathlib.Core.List.Memᴰ.cases_cons n)
+        ⊎_elim (λ s. omega arith) (λ t. omega (arith, rest t)) (member.cases_cons n)
     go false q rest = let n : Memᴰ j (places_of p (i + 1) es) = rw q at m in omega (arith, rest n)
 
 pub turn_below : (n p i : ℕ) (es : List Event) (j : ℕ) → Memᴰ j (places_from n p i es) → j < i + length es
 unfolding places_from
-turn_below zero p i es j m = absurd (mathlib.Core.List.Memᴰ.not-nil m)
+turn_below zero p i es j m = absurd (member.not-nil m)
 turn_below (suc n) p i es j m =
-    ⊎_elim (places_below p i es j) (turn_below n (p + 1) i es j) (mathlib.Core.List.Memᴰ.append_cases (places_of p i es) m)
+    ⊎_elim (places_below p i es j) (turn_below n (p + 1) i es j) (member.append_cases (places_of p i es) m)
 
 -- ---- Where the lowest processes ascend
 

@@ -5,6 +5,7 @@ use Rattle.std.proofs.Common.{arith, sym, ap, subst, ◌∙◌, ⊎_elim, length
 use Rattle.std.proofs.Math.Path.{refl}
 use Rattle.std.proofs.Math.Bool.{true, false}
 use mathlib.Core.List.{List, map, Memᴰ}
+use mathlib.Core.List.Memᴰ as member
 use Rattle.std.proofs.lemmas.List.{length-map}
 use Rattle.std.proofs.Math.Seq.{split_at}
 use borrow.Author.Tests.{le-leb, lt-leb, leb-true, leb-false}
@@ -97,7 +98,7 @@ module _ (line : ℕ) (F : Cut → Frontier) (has : Property)
       back : Case → FirstAt has cuts i → find_from line 0 (map F cuts) ≡ found i
       back (here j q x) y = q ∙ ap found (first_unique has cuts j i x y)
       back (nowhere-here q n) y =
-          let m : Memᴰ y.cut cuts = rw y.cuts_are (mathlib.Core.List.Memᴰ.append_right y.earlier (mathlib.Core.List.Memᴰ.head refl)) in
+          let m : Memᴰ y.cut cuts = rw y.cuts_are (member.append_right y.earlier (Memᴰ.head refl)) in
           let z : ◌≡◌ {A = Bool} false true = sym (n y.cut m) ∙ y.here in
           let u : ◌≡◌ {A = ℕ} 0 1 = cc in absurd (omega arith)
 
@@ -110,7 +111,7 @@ module _ (line : ℕ) (F : Cut → Frontier) (has : Property)
 
       back : Case → ((S : Cut) → Memᴰ S cuts → has S ≡ false) → find_from line 0 (map F cuts) ≡ absent
       back (here j q x) n =
-          let m : Memᴰ x.cut cuts = rw x.cuts_are (mathlib.Core.List.Memᴰ.append_right x.earlier (mathlib.Core.List.Memᴰ.head refl)) in
+          let m : Memᴰ x.cut cuts = rw x.cuts_are (member.append_right x.earlier (Memᴰ.head refl)) in
           let z : ◌≡◌ {A = Bool} false true = sym (n x.cut m) ∙ x.here in
           let u : ◌≡◌ {A = ℕ} 0 1 = cc in absurd (omega arith)
       back (nowhere-here q n) r = q
