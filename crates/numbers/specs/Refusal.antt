@@ -78,7 +78,7 @@ no_room_number = 36
 abbrev pub not_open_number : ℕ
 not_open_number = 41
 
--- refusals Refusals: namedBy at close, names_closed at offer.
+-- refusals Refusals: named_by at close, names_closed at offer.
 abbrev pub named_number : ℕ
 named_number = 42
 

@@ -42,7 +42,7 @@ pub const FALSE_CLOCK: u64 = 35;
 pub const NO_ROOM: u64 = 36;
 // refusals Refusals: not_open.
 pub const NOT_OPEN: u64 = 41;
-// refusals Refusals: namedBy at close, names_closed at offer.
+// refusals Refusals: named_by at close, names_closed at offer.
 pub const NAMED: u64 = 42;
 // call_move Move: overflows.
 pub const TOO_LARGE: u64 = 43;
