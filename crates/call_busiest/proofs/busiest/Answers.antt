@@ -40,7 +40,7 @@ room : (c : Else-kept-gt-FRONTIERS)
     ≤ 1024
 room c = omega (arith, c.kept_by-kept.ensures, c.if-kept-gt-FRONTIERS.false)
 
--- ---- Needs
+-- ---- The goals
 
 pub returns-then-bad_processes : goal.returns-then-bad_processes
 unfolding result_word

@@ -7,8 +7,6 @@ use Rattle.call_close.proofs.CloseSteps.{Fit, close_turned, close_goes, close_fi
 use Rattle.call_close.proofs.close.Goals as goal
 use Rattle.call_close.proofs.close.Goals.{Else-fault-ne0}
 
--- ---- Places in the walk: the start, and where nothing turns the call back
-
 -- ---- What is known there
 
 none : (c : Else-fault-ne0) → let a = c.args in
@@ -21,7 +19,7 @@ fit c =
     let a = c.args in
     close_fit a.w a.process a.«record».now a.window.now (none c)
 
--- ---- The needs
+-- ---- The goals
 
 pub returns-then-fault-ne0-clause-reply : goal.returns-then-fault-ne0-clause-reply
 returns-then-fault-ne0-clause-reply c =

@@ -8,10 +8,7 @@ use Rattle.call_close.specs.Close.{closing}
 use Rattle.call_close.proofs.CloseSteps.{closed_by}
 use Rattle.call_close.proofs.close_process.Goals as goal
 
--- ---- Places in the walk: the start, when the number kept is read, the taken counts, the mask, and when the others
--- are dropped
-
--- ---- The needs
+-- ---- The goals
 
 pub drop_others-kept-requires-clause-room_for : goal.drop_others-kept-requires-clause-room_for
 drop_others-kept-requires-clause-room_for c =

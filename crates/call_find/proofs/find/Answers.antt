@@ -11,7 +11,7 @@ use Rattle.call_find.proofs.FindSteps.{find_faulted, find_passed}
 use Rattle.call_find.proofs.find.Goals as goal
 use Rattle.call_find.proofs.find.Goals.{Else-fault-ne0}
 
--- ---- Places in the walk: the start, and where 6 and 34 have let the call pass
+-- ---- What is known where 6 and 34 have let the call pass
 
 none : (c : Else-fault-ne0) → let a = c.args in
     watch_fault a.w a.«record».now (length a.window.now) ≡ 0
@@ -23,7 +23,7 @@ good c =
     let a = c.args in
     good_watch a.w a.«record».now (length a.window.now) (none c)
 
--- ---- Needs
+-- ---- The goals
 
 pub returns-then-fault-ne0 : goal.returns-then-fault-ne0
 returns-then-fault-ne0 c =

@@ -6,7 +6,7 @@ use Rattle.call_move.proofs.CallSteps.{move_turned, move_right, move_fits, windo
 use Rattle.call_move.proofs.move_watch.Goals as goal
 use Rattle.call_move.proofs.move_watch.Goals.{Else-fault-ne0}
 
--- ---- Places in the walk: the start, and where nothing turns the move back
+-- ---- What is known where nothing turns the move back
 
 -- No number was found.
 none : (c : Else-fault-ne0) → let a = c.args in
@@ -14,7 +14,7 @@ none : (c : Else-fault-ne0) → let a = c.args in
     (length a.target_window.now) ≡ 0
 none c = sym c.move_fault-fault.ensures ∙ c.if-fault-ne0.false
 
--- ---- Needs
+-- ---- The goals
 
 pub returns-then-fault-ne0-clause-reply : goal.returns-then-fault-ne0-clause-reply
 returns-then-fault-ne0-clause-reply c =

@@ -49,7 +49,7 @@ insert_event-requires-clause-by_index c =
     let counts = c.requires.by_index in
     λ p. rw c.offered_event-e.ensures (counts p)
 
--- The walk's own equations turn these into the code's words; few names here, since each is one more for them.
+-- The steps' own equations turn these into the code's words; few names here, since each is one more for them.
 pub returns-clause-reply : goal.returns-clause-reply
 returns-clause-reply c =
     let a = c.args in

@@ -22,9 +22,6 @@ use Rattle.std.proofs.Common.{rules}
 use Rattle.call_offer.proofs.unaccepted_word.Goals as goal
 use Rattle.call_offer.proofs.unaccepted_word.Goals.{After-already_taken-taken, After-event_fault-fault, After-names_closed-closed, After-pending_alike-conflict, After-sent_again-again, Else-bad_record_length, Else-bad_state, Else-fault-ne0, Start}
 
--- ---- Places in the walk: the start, the tests passed (the length, the state, the event's own), the event made, and
--- where its processes and the pending events were looked at
-
 -- ---- The offered event and the record, as the definition has them
 
 abbrev event : Start → Event
@@ -84,7 +81,7 @@ again_read : (c : After-sent_again-again)
     → repeated (event (goal.at.After-sent_again-again c).Start) (pending_events c.args.w (bytes (goal.at.After-sent_again-again c).Start)) ≡ c.sent_again-again.result
 again_read c = cc
 
--- ---- The needs
+-- ---- The goals
 
 pub returns-then-bad_record_length : goal.returns-then-bad_record_length
 unfolding unaccepted_word

@@ -15,7 +15,7 @@ use Rattle.call_page.proofs.PageSteps.{page_turned, page_good, page_written_lem}
 use Rattle.call_page.proofs.write_page.Goals as goal
 use Rattle.call_page.proofs.write_page.Goals.{Else-fault-ne0}
 
--- ---- Places in the walk: the start, and where nothing turns the call back
+-- ---- What is known where nothing turns the call back
 
 -- No number was found: record and window are good, and the page is long enough.
 none : (c : Else-fault-ne0) → let a = c.args in
@@ -29,7 +29,7 @@ good c =
     let a = c.args in
     page_good a.w a.«record».now a.window.now a.page.now (none c)
 
--- ---- Needs
+-- ---- The goals
 
 pub returns-then-fault-ne0-clause-reply : goal.returns-then-fault-ne0-clause-reply
 returns-then-fault-ne0-clause-reply c =

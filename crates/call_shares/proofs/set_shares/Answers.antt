@@ -19,7 +19,7 @@ good_shares : (c : Else-bad_shares)
     → bad_shares c.args.shares.now ≡ false
 good_shares c = sym c.bad_shares.ensures ∙ c.if-bad_shares.false
 
--- ---- Needs
+-- ---- The goals
 
 pub returns-then-bad_pool_length : goal.returns-then-bad_pool_length
 unfolding result_word

@@ -16,9 +16,7 @@ use Rattle.std.proofs.Common.{rules}
 use Rattle.call_take.proofs.step_window.Goals as goal
 use Rattle.call_take.proofs.step_window.Goals.{After-table_place-place, Start}
 
--- ---- Places in the walk: the start, and where the processes are counted
-
--- ---- The needs
+-- ---- The goals
 
 pub apply-reached-requires : goal.apply-reached-requires
 unfolding ready_in

@@ -8,9 +8,7 @@ use Rattle.call_take.specs.Take.{decided}
 use Rattle.call_take.proofs.TakenSteps.{pending_fits, taken_answer, taken_bytes}
 use Rattle.call_take.proofs.take_event.Goals as goal
 
--- ---- Places in the walk: the start, and where each part is done
-
--- ---- The needs
+-- ---- The goals
 
 pub step_window-requires-clause-fitting : goal.step_window-requires-clause-fitting
 step_window-requires-clause-fitting c =

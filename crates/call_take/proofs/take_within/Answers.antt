@@ -20,9 +20,7 @@ use Rattle.call_take.proofs.take_within.Goals.{After-decide-choice}
 abbrev kept : ℕ → List ℕ → List ℕ → List Frontier
 kept w s window = frontiers w window (kept_count s)
 
--- ---- Places in the walk: the start, and where each part is done
-
--- ---- The needs
+-- ---- The goals
 
 pub decide-choice-requires-clause-room_for : goal.decide-choice-requires-clause-room_for
 decide-choice-requires-clause-room_for c =

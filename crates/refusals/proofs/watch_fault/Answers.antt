@@ -9,8 +9,6 @@ use Rattle.refusals.specs.RefusalLaws.{right_length}
 use Rattle.refusals.proofs.watch_fault.Goals as goal
 use Rattle.refusals.proofs.watch_fault.Goals.{After-bad_state, Else-bad_record_length, Else-bad_window_length}
 
--- ---- Places in the walk: the start, and where 6 has let the call pass
-
 -- ---- The tests that let it pass
 
 length_passed : (c : Else-bad_record_length) → bad_record_length c.args.w (length c.args.«record».now) ≡ false
@@ -27,7 +25,7 @@ state_read c =
     let room = c.room_of in
     sym (c.bad_state.ensures ∙ ap (λ (n : ℕ). bad_state a.w n a.«record».now) room.ensures)
 
--- ---- Needs
+-- ---- The goals
 
 pub returns-then-bad_record_length : goal.returns-then-bad_record_length
 unfolding watch_fault

@@ -12,8 +12,6 @@ use Rattle.call_close.proofs.CloseSteps.{open_below}
 use Rattle.call_close.proofs.refused.close_fault.Goals as goal
 use Rattle.call_close.proofs.refused.close_fault.Goals.{After-not_open, Else-fault-ne0, Else-not_open}
 
--- ---- Places in the walk: the start, and where 6 and 34, and 41, have let the call pass
-
 -- ---- The tests that let it pass
 
 none : (c : Else-fault-ne0) → let a = c.args in watch_fault a.w a.«record».now a.n ≡ 0
@@ -52,7 +50,7 @@ behind : (c : Else-fault-ne0) → let a = c.args in
 unfolding close_fault
 behind c = let a = c.args in fault_passed a.w a.«record».now a.n _ (none c)
 
--- ---- Needs
+-- ---- The goals
 
 pub returns-then-fault-ne0 : goal.returns-then-fault-ne0
 unfolding close_fault

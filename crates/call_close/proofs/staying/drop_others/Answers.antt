@@ -11,9 +11,7 @@ use Rattle.call_close.proofs.StayingSteps.{cleared_behind}
 use Rattle.std.proofs.Common.{rules}
 use Rattle.call_close.proofs.staying.drop_others.Goals as goal
 
--- ---- Places in the walk: the start, when those that stay are moved, and when what is left is measured
-
--- ---- The needs
+-- ---- The goals
 
 pub clear-requires : goal.clear-requires
 clear-requires c =

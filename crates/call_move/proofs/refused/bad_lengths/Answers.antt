@@ -6,8 +6,6 @@ use Rattle.call_move.specs.Move.{bad_move_lengths}
 use Rattle.call_move.proofs.refused.bad_lengths.Goals as goal
 use Rattle.call_move.proofs.refused.bad_lengths.Goals.{Else-bad_record_length, Else-bad_record_length-2, Else-bad_window_length, Else-bad_window_length-2}
 
--- ---- Places in the walk: the start, and where a length is right
-
 -- ---- The tests that let it pass
 
 record_passed : (c : Else-bad_record_length) → let a = c.args in bad_record_length a.v a.record_len ≡ false
@@ -24,7 +22,7 @@ room_passed : (c : Else-bad_window_length-2) → let a = c.args in
     bad_window_length a.w a.target_window_len ≡ false
 room_passed c = sym c.bad_window_length-2.ensures ∙ c.if-bad_window_length-2.false
 
--- ---- Needs
+-- ---- The goals
 
 pub returns-then-bad_record_length : goal.returns-then-bad_record_length
 unfolding bad_move_lengths

@@ -14,8 +14,6 @@ use Rattle.call_move.specs.LengthLaws.{frontiers-within, Lengths, right_lengths}
 use Rattle.call_move.proofs.refused.move_fault.Goals as goal
 use Rattle.call_move.proofs.refused.move_fault.Goals.{After-bad_state, After-window_too_large, Else-bad_lengths, Else-bad_state, Else-record_too_large}
 
--- ---- Places in the walk: the start, and where 6, 34 and the record's counts have let the move pass
-
 -- ---- The tests that let it pass
 
 lengths_good : (c : Else-bad_lengths) → let a = c.args in
@@ -56,7 +54,7 @@ window_read c =
     sym (c.window_too_large.ensures
     ∙ ap (λ (n : ℕ). some_too_large a.v a.w (window_parts n) a.window.now) room.ensures)
 
--- ---- Needs
+-- ---- The goals
 
 pub returns-then-bad_lengths : goal.returns-then-bad_lengths
 unfolding move_fault

@@ -11,7 +11,7 @@ use Rattle.std.proofs.Common.{rules}
 use Rattle.call_page.proofs.digits.put_count.Goals as goal
 use Rattle.call_page.proofs.digits.put_count.Goals.{At-loop-rest}
 
--- ---- Places in the walk: from the loop's head, the blanks and the start
+-- ---- Digits from the last up
 
 -- Two digits more; the last two; the last one.
 turn : (h : At-loop-rest) → let l = h.loop-rest in 100 ≤ l.rest
@@ -38,7 +38,7 @@ stands h page =
     column_stands h.fill.new.s h.args.at h.args.count (omega arith)
     h.args.page.now page h.fill.ensures
 
--- ---- Needs
+-- ---- The goals
 
 pub loop-rest-init : goal.loop-rest-init
 loop-rest-init c =

@@ -13,8 +13,6 @@ use Rattle.std.proofs.Common.{rules}
 use Rattle.call_shared.proofs.closing.close.Goals as goal
 use Rattle.call_shared.proofs.closing.close.Goals.{After-close-reply, After-shared_fault-fault, Else-fault-ne0}
 
--- ---- Places in the walk: the start, where nothing turns the call back, and after the plain call
-
 -- ---- What is known there
 
 number_is : (c : After-shared_fault-fault) → let a = c.args in
@@ -45,7 +43,7 @@ record_stays : (c : After-close-reply)
     → length c.close-reply.new.«record» ≡ length c.args.«record».now
 record_stays c = search rules
 
--- ---- The needs
+-- ---- The goals
 
 pub returns-then-fault-ne0-clause-reply : goal.returns-then-fault-ne0-clause-reply
 unfolding reply_word

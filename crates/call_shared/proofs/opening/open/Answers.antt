@@ -13,8 +13,6 @@ use Rattle.std.proofs.Common.{rules}
 use Rattle.call_shared.proofs.opening.open.Goals as goal
 use Rattle.call_shared.proofs.opening.open.Goals.{After-open-reply, After-shared_fault-fault, Else-fault-ne0}
 
--- ---- Places in the walk: the start, where nothing turns the call back, and after the plain call
-
 -- ---- What is known there
 
 number_is : (c : After-shared_fault-fault) → let a = c.args in
@@ -47,7 +45,7 @@ record_stays : (c : After-open-reply)
     → length c.open-reply.new.«record» ≡ length c.args.«record».now
 record_stays c = search rules
 
--- ---- The needs
+-- ---- The goals
 
 pub returns-then-fault-ne0-clause-reply : goal.returns-then-fault-ne0-clause-reply
 unfolding reply_word

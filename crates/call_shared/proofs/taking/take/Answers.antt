@@ -16,8 +16,6 @@ use Rattle.std.proofs.Common.{rules}
 use Rattle.call_shared.proofs.taking.take.Goals as goal
 use Rattle.call_shared.proofs.taking.take.Goals.{After-shared_fault-fault, After-smaller-allowed, After-take_within-reply, Else-fault-ne0}
 
--- ---- Places in the walk: the start, where nothing turns the call back, what is allowed, and after the plain call
-
 -- ---- What is known there
 
 number_is : (c : After-shared_fault-fault) → let a = c.args in
@@ -83,7 +81,7 @@ record_stays : (c : After-take_within-reply)
     → length c.take_within-reply.new.«record» ≡ length c.args.«record».now
 record_stays c = search rules
 
--- ---- The needs
+-- ---- The goals
 
 pub returns-then-fault-ne0-clause-reply : goal.returns-then-fault-ne0-clause-reply
 unfolding reply_word

@@ -2,7 +2,6 @@
 use Rattle.lines.proofs.did.DidSteps.{did_made}
 use Rattle.lines.proofs.did.read_did.Goals as goal
 
--- The places in the walk: the whole line, the labels, the counts, and the number of processes read.
 pub did_of-requires : goal.did_of-requires
 did_of-requires c = rw c.value_of-n.ensures c.then_close-first.ensures.1
 

@@ -17,7 +17,7 @@ use Rattle.window_step.proofs.gather.gather.Goals.{then-is_sought+then-place-m, 
 same-gathered : {o a o' a' : ℕ} {b b' : List ℕ} → o ≡ o' → a ≡ a' → b ≡ b' → sofar o a b ≡ sofar o' a' b'
 same-gathered p q r = rw (p, q, r)
 
--- ---- The needs
+-- ---- The goals
 
 pub loop-p-init : goal.loop-p-init
 loop-p-init c =
