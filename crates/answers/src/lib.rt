@@ -3,7 +3,10 @@
 #![tactic(auto)]
 
 ghost use Rattle.std.specs.Prelude.{◌+◌, ◌*◌, ◌<◌, ◌≡◌};
+ghost use Rattle.numbers.specs.RefusalNumber.{number_of};
 ghost use Rattle.answers.specs.Answer.{flag};
+
+use numbers::fault::Fault;
 
 // The word of an offer answered "again": the flag alone.
 pub const AGAIN: u64 = 256;
@@ -12,14 +15,13 @@ pub const AGAIN: u64 = 256;
 pub fn state_word(holds: bool, kept: u32) -> u64
     ensures { result ≡ 256 * flag holds + 65536 * kept }
 {
-    let value = 65536 * (kept as u64);
-    if holds { 256 + value } else { value }
+    256 * u64::from(holds) + 65536 * u64::from(kept)
 }
 
-// The word of a refusal: its number, and the byte's place.
-pub fn turned_word(number: u8, place: usize) -> u64
-    requires { place < 1024 }
-    ensures { result ≡ number + 4294967296 * place }
+// The word of a rule that was turned back: the refusal's number, and the byte's place.
+pub fn turned_word(fault: Fault) -> u64
+    requires { fault.place < 1024 }
+    ensures { result ≡ number_of fault.refusal + 4294967296 * fault.place }
 {
-    (number as u64) + 4294967296 * (place as u64)
+    u64::from(fault.refusal) + 4294967296 * (fault.place as u64)
 }

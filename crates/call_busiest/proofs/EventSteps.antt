@@ -4,9 +4,10 @@ use native.Mathlib.Nat.{zero-mul, suc-mul, le_of_suc-le-suc}
 use native.Mathlib.Omega.{arith}
 use mathlib.Core.Path.{◌≡◌, refl, sym, ap, ◌∙◌}
 use mathlib.Core.Bool.{cond}
-use mathlib.Core.List.{List, [], ◌∷◌, ◌++◌, append_assoc}
+use mathlib.Core.List.{List, ◌∷◌, ◌++◌, append_assoc}
 use lib.Dec.{eqb, eqb-zero-suc, eqb-suc-zero, eqb-suc-suc}
 use lib.ListN.{length, get_or, set, replicate, length-replicate, replicate-append-replicate}
+use Rattle.std.proofs.lemmas.List.{set-get_or}
 use lib.Seq.{sets, get_or-set_other}
 use Rattle.codec.specs.Little.{bytes_of, put}
 use Rattle.codec.specs.SetsLaws.{sets-append, get_d_sets-after}
@@ -21,9 +22,7 @@ use Rattle.call_busiest.specs.BusiestCode.{Blank}
 -- ---- Zeros that stand there
 
 set-zero : (s : List ℕ) (i : ℕ) → get_or s i 0 ≡ 0 → set s i 0 ≡ s
-set-zero [] i h = refl
-set-zero (x ∷ xs) zero h = ap (λ (y : ℕ). y ∷ xs) (sym h)
-set-zero (x ∷ xs) (suc i) h = ap (λ (l : List ℕ). x ∷ l) (set-zero xs i h)
+set-zero s i h = rw h at (set-get_or s i 0)
 
 zeros_stay : (s : List ℕ) (at n : ℕ) → Blank s at → sets s at (replicate n 0) ≡ s
 zeros_stay s at zero b = refl

@@ -1,5 +1,5 @@
 -- One process more: how many frontiers are kept, by numbers that stay small as long as these do.
-use Prim.Native.Nat.{ℕ, ◌+◌, ◌-◌, ◌*◌, ◌≤◌, ◌<◌, min}
+use Prim.Native.Nat.{ℕ, ◌+◌, ◌-◌, ◌*◌, ◌≤◌, ◌<◌}
 use native.Mathlib.Nat.{mul-le-mul}
 use native.Mathlib.Numerals.{add-one}
 use native.Mathlib.Omega.{arith}
@@ -18,7 +18,7 @@ module _ (f : ℕ → ℕ) where
 
   -- Passed once, the room stays passed.
   pub kept_passed : (p k : ℕ) → p < k → 1024 < sharing_keeps (list_of (p + 1) f)
-      → 1025 ≡ min 1025 (sharing_keeps (list_of k f))
+      → 1024 < sharing_keeps (list_of k f)
   kept_passed p k l h =
       let all : k - (p + 1) + (p + 1) ≡ k = omega arith in
       let more : sharing_keeps (list_of (p + 1) f) ≤ sharing_keeps (list_of k f) =

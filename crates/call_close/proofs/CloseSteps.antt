@@ -51,12 +51,12 @@ module _ (w p : ℕ) (s window : List ℕ) where
       (turn (named_by p (pending_events w s)) 42 end))))
       turned (close_process w p s window) (lit< tt, (lit< tt, (lit< tt, (lit< tt, tt))))
 
-  pub close_turned : (n : ℕ) → n ≡ fault → (n ≡ 0 → ⊥)
+  pub close_turned : (n : ℕ) → n ≡ fault → 0 < n
       → (n ≡ reply_word (close_call w p s window).answer) × (s ≡ (close_call w p s window).bytes)
       × (window ≡ (close_call w p s window).window)
   unfolding turned reply_word
   close_turned n e h =
-      let whole : close_call w p s window ≡ turned n = close_by ∙ rw (← e, ne_eqb n 0 h) in
+      let whole : close_call w p s window ≡ turned n = close_by ∙ rw (← e, ne_eqb n 0 (λ z. omega arith)) in
       (rw whole (omega arith), rw whole, rw whole)
 
   pub close_goes : fault ≡ 0 → close_call w p s window ≡ close_process w p s window

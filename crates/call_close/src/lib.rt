@@ -15,6 +15,7 @@ ghost use Rattle.call_close.specs.Close.{closing, close_process, close_call};
 
 use crate::refused::close_fault;
 use crate::staying::drop_others;
+use frontiers::width::CountWidth;
 use records::fields::{closed_mask, kept_count, process_count, taken_counts};
 
 // The mask of the closed processes with process p.
@@ -23,7 +24,7 @@ fn with_process(closed: u64, p: u32) -> u64
     requires p_bound { p < 8 }
     ensures { (result ≡ closing closed p) × (result < 256) }
 {
-    codec::or_words(closed, 1 << p)
+    closed | (1 << p)
 }
 
 // Stores the mask of the closed processes and the number of frontiers kept.
@@ -37,8 +38,7 @@ fn set_closed(record: &mut [u8], closed: u64, kept: u32)
 }
 
 // Closes process p: the reply, and the bytes of both buffers after it.
-fn close_process(w: usize, p: u32, record: &mut [u8], window: &mut [u8]) -> u64
-    requires width { Width w }
+fn close_process(w: CountWidth, p: u32, record: &mut [u8], window: &mut [u8]) -> u64
     requires p_bound { p < 8 }
     requires record_len { length «record».old ≡ record_length w }
     requires record_bound { process_count «record».old ≤ 8 }
@@ -52,7 +52,7 @@ fn close_process(w: usize, p: u32, record: &mut [u8], window: &mut [u8]) -> u64
     let n = kept_count(record) as usize;
     let k = process_count(record);
     let reached = taken_counts(record, w);
-    let before = closed_mask(record) as u64;
+    let before = u64::from(closed_mask(record));
     let closed = with_process(before, p);
     let kept = drop_others(window, w, n, k, closed, reached);
     set_closed(record, closed, kept as u32);
@@ -61,6 +61,7 @@ fn close_process(w: usize, p: u32, record: &mut [u8], window: &mut [u8]) -> u64
 
 // Closes a process: the reply, and the bytes of both buffers after it.
 pub fn close(w: usize, process: u64, record: &mut [u8], window: &mut [u8]) -> u64
+    // By hand, as promised: docs/PROOF-MAP.md names this function, so it asks for a number as before.
     requires { Width w }
     ensures reply { result ≡ reply_word (close_call w process «record».old window.old).answer }
     ensures bytes { «record».new
@@ -68,9 +69,9 @@ pub fn close(w: usize, process: u64, record: &mut [u8], window: &mut [u8]) -> u6
     ensures window { window.new
         ≡ (close_call w process «record».old window.old).window }
 {
-    let fault = close_fault(w, process, record, window.len());
-    if fault != 0 {
-        return fault;
+    let width = CountWidth::of(w);
+    match close_fault(width, process, record, window.len()) {
+        Err(refusal) => refusal.into(),
+        Ok(()) => close_process(width, process as u32, record, window),
     }
-    close_process(w, process as u32, record, window)
 }

@@ -1,12 +1,13 @@
 // What a close is turned back for (02 [5]: 41, 42; 01, Turned back: 6, 34).
 
 ghost use Rattle.std.specs.Prelude.{◌≤◌, ◌<◌, ◌≡◌, length};
-ghost use Rattle.frontiers.specs.Width.{Width};
+ghost use Rattle.numbers.specs.RefusalNumber.{refused};
 ghost use Rattle.records.specs.Record.{record_length, pending_count, pending_events};
 ghost use Rattle.refusals.specs.Refusals.{not_open, named_by};
 ghost use Rattle.call_close.specs.CloseCode.{close_fault};
 
-use numbers::refusal::{NAMED, NOT_OPEN};
+use frontiers::width::CountWidth;
+use numbers::refusal::Refusal;
 use records::fields::{closed_mask, pending_count, pending_place, process_count};
 use refusals::watch_fault;
 
@@ -15,46 +16,29 @@ pub fn not_open(k: u32, closed: u32, process: u64) -> bool
     requires { k ≤ 8 }
     ensures { result ≡ not_open k closed process }
 {
-    if k as u64 <= process {
-        return true;
-    }
-    codec::has_bit(closed as u64, process as u32)
+    u64::from(k) <= process || codec::has_bit(u64::from(closed), process as u32)
 }
 
 // 42: a pending event names process p. Of each event only the mask is read.
-pub fn named_by(record: &[u8], w: usize, p: u32) -> bool
-    requires width { Width w }
+pub fn named_by(record: &[u8], w: CountWidth, p: u32) -> bool
     requires record_len { length «record».now ≡ record_length w }
     requires record_bound { pending_count «record».now ≤ 32 }
     requires p_bound { p < 8 }
     ensures { result ≡ named_by p (pending_events w «record».now) }
 {
-    let n = pending_count(record);
-    let mut i = 0;
-    while i < n {
-        let place = pending_place(w, i);
-        if codec::has_bit(record[place] as u64, p) {
-            return true;
-        }
-        i += 1;
-    }
-    false
+    (0..pending_count(record)).any(|i| codec::has_bit(u64::from(record[pending_place(w, i)]), p))
 }
 
-// The number that a close is turned back with; 0 for none.
-pub fn close_fault(w: usize, process: u64, record: &[u8], n: usize) -> u64
-    requires { Width w }
-    ensures { result ≡ close_fault w process «record».now n }
+// What a close is turned back for, in their order.
+pub fn close_fault(w: CountWidth, process: u64, record: &[u8], n: usize) -> Result<(), Refusal>
+    ensures { refused result ≡ close_fault w process «record».now n }
 {
-    let fault = watch_fault(w, record, n);
-    if fault != 0 {
-        return fault;
-    }
+    watch_fault(w.bytes(), record, n)?;
     if not_open(process_count(record), closed_mask(record), process) {
-        return NOT_OPEN;
+        return Err(Refusal::NotOpen);
     }
     if named_by(record, w, process as u32) {
-        return NAMED;
+        return Err(Refusal::Named);
     }
-    0
+    Ok(())
 }

@@ -2,7 +2,6 @@
 
 ghost use Rattle.std.specs.Prelude.{◌≤◌, ◌≡◌, length};
 ghost use Rattle.std.proofs.lemmas.List.Edits.{sets};
-ghost use Rattle.frontiers.specs.Width.{Width};
 ghost use Rattle.frontiers.specs.Bytes.{framed, replaced};
 ghost use Rattle.window.specs.Room.{RoomFor, PlaceFor};
 ghost use Rattle.call_close.specs.CloseCode.{staying, moved_to};
@@ -10,11 +9,11 @@ ghost use Rattle.call_close.specs.CloseCode.{staying, moved_to};
 use frontiers::moving::{clear, move_down};
 use frontiers::place::{frontier_length, frontier_place};
 use frontiers::stored::counts_at;
+use frontiers::width::CountWidth;
 use window::prepared::{open_ones, stays};
 
 // Moves frontier number i down to place m. (It stands there already where all before it stay.)
-fn settle(window: &mut [u8], w: usize, i: usize, m: usize)
-    requires width { Width w }
+fn settle(window: &mut [u8], w: CountWidth, i: usize, m: usize)
     requires place_for { PlaceFor w i window.old }
     requires m_le_i { m ≤ i }
     ensures { window.new ≡ moved_to w window.old i m }
@@ -30,13 +29,12 @@ fn settle(window: &mut [u8], w: usize, i: usize, m: usize)
 // Moves those of n frontiers that stay to the window's start, in their order: how many they are.
 fn keep_staying(
     window: &mut [u8],
-    w: usize,
+    w: CountWidth,
     n: usize,
     k: u32,
     closed: u64,
     reached: [u32; 8],
 ) -> usize
-    requires width { Width w }
     requires room_for { RoomFor w n window.old }
     requires k_bound { k ≤ 8 }
     ensures upper_bound { result ≤ n }
@@ -46,14 +44,12 @@ fn keep_staying(
 {
     let opens = open_ones(k, closed);
     let mut m = 0;
-    let mut i = 0;
-    while i < n {
+    for i in 0..n {
         let counts = counts_at(window, w, i);
         if stays(opens, reached, counts) {
             settle(window, w, i, m);
             m += 1;
         }
-        i += 1;
     }
     m
 }
@@ -61,13 +57,12 @@ fn keep_staying(
 // Drops those of n frontiers that do not stay, and clears what they leave behind: how many are kept.
 pub fn drop_others(
     window: &mut [u8],
-    w: usize,
+    w: CountWidth,
     n: usize,
     k: u32,
     closed: u64,
     reached: [u32; 8],
 ) -> usize
-    requires width { Width w }
     requires room_for { RoomFor w n window.old }
     requires k_bound { k ≤ 8 }
     ensures upper_bound { result ≤ 1024 }

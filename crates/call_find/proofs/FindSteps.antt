@@ -1,7 +1,10 @@
 -- Find, test by test, as its functions go through it.
-use Prim.Native.Nat.{ℕ, ◌+◌, ◌*◌, ◌≤◌, ◌<◌}
+use Prim.Native.Nat.{ℕ, zero, suc, ◌+◌, ◌-◌, ◌*◌, ◌/◌, ◌≤◌, ◌<◌}
+use native.Mathlib.Nat.{le_refl, mul-le-mul_right}
 use native.Mathlib.Omega.{arith}
-use mathlib.Core.Path.{◌≡◌, sym, ap, ◌∙◌}
+use mathlib.Core.Path.{◌≡◌, refl, sym, ap, ◌∙◌}
+use Rattle.std.proofs.Common.{Option, None, Some}
+use Rattle.std.specs.Option.{MatchOption, unwrap_or, IsNone, IfSome}
 use mathlib.Core.Bool.{Bool, true, false, cond, ◌||◌}
 use mathlib.Core.List.{List}
 use lib.Bits.{bit_or}
@@ -18,25 +21,25 @@ use Rattle.call_find.specs.Find.{find_from, find_call}
 use Rattle.answers.specs.Answer.{turned_back, reply_word}
 use Rattle.clocks.specs.stored.CountsLaws.{rest_next, rest_end}
 use Rattle.clocks.specs.stored.BoundedLaws.{or-false_e}
-use Rattle.call_find.specs.FindCode.{reply_from, four_values}
+use Rattle.call_find.specs.FindCode.{reply_from, IsFirst, four_values}
 
 -- ---- The number
 
 -- What record and window turn back, and what a find comes to where they turn nothing back.
 module _ (w line : ℕ) (s window : List ℕ) where
-  pub find_faulted : (fault : ℕ) → fault ≡ watch_fault w s (length window) → (fault ≡ 0 → ⊥)
+  pub find_faulted : (fault : ℕ) → fault ≡ watch_fault w s (length window) → 0 < fault
       → fault ≡ reply_word (find_call w line s window)
   unfolding find_call reply_word watch_fault
   find_faulted fault e some =
       go (bad_record_length w (length s) || bad_window_length w (length window)) (bad_state w (room_of w (length window)) s)
       fault e some
     where
-      go : (a b : Bool) (n : ℕ) → n ≡ cond a 6 (cond b 34 0) → (n ≡ 0 → ⊥)
+      go : (a b : Bool) (n : ℕ) → n ≡ cond a 6 (cond b 34 0) → 0 < n
           → n ≡ reply_word (cond a (turned_back 6 0) (cond b (turned_back 34 0)
           (cond (leb (line_total s) line) (turned_back 11 0) (find_from line 0 (frontiers w window (kept_count s))))))
       go true b n q h = q
       go false true n q h = q
-      go false false n q h = absurd (h q)
+      go false false n q h = absurd (omega arith)
 
   pub find_passed : watch_fault w s (length window) ≡ 0
       → find_call w line s window
@@ -84,3 +87,59 @@ find_further_four w line window kept i l h =
     further : (j k : ℕ) → j < kept → j + 1 ≡ k → bit (v j) line ≡ false
         → reply_from w line window kept j ≡ reply_from w line window kept k
     further j k b q e = find_further w line window kept j b e ∙ ap (reply_from w line window kept) q
+
+-- ---- Searches
+
+-- The line holds at none of the four; and not at this one.
+abbrev pub NoneOfFour : ℕ → ℕ → List ℕ → ℕ → Type 0
+NoneOfFour w line window four = bit (four_values w window (4 * four)) line ≡ false
+
+abbrev pub NotAt : ℕ → ℕ → List ℕ → ℕ → Type 0
+NotAt w line window i = bit (frontier_at w window i).values line ≡ false
+
+-- Four frontiers stand in the bytes of all.
+pub four_within : (four kept size n : ℕ) → four < kept / 4 → kept * size ≤ n → (4 * four + 4) * size ≤ n
+four_within four kept size n l within =
+    let few : 4 * four + 4 ≤ kept = omega arith in
+    omega (arith, mul-le-mul_right size few)
+
+module _ (w line : ℕ) (window : List ℕ) (kept : ℕ) where
+  abbrev from : ℕ → ℕ
+  from = reply_from w line window kept
+
+  fours_passed : (n : ℕ) → 4 * n ≤ kept → ((k : ℕ) → k < n → NoneOfFour w line window k) → from 0 ≡ from (4 * n)
+  fours_passed zero l none = refl
+  fours_passed (suc n) l none =
+      fours_passed n (omega arith) (λ k m. none k (omega arith))
+      ∙ find_further_four w line window kept (4 * n) (omega arith) (none n (omega arith))
+      ∙ ap from (omega arith)
+
+  pub fours_end : (r : Option ℕ) → let n = kept / 4 in
+      MatchOption r ((k : ℕ) → 0 ≤ k → k < n → NoneOfFour w line window k)
+      (λ i. (0 ≤ i) × (i < n) × Unit {0} × ((k : ℕ) → 0 ≤ k → k < i → NoneOfFour w line window k))
+      → (unwrap_or r n ≤ n) × (from 0 ≡ from (4 * unwrap_or r n))
+  fours_end None none = (omega arith, fours_passed (kept / 4) (omega arith) (λ k l. none k (omega arith) l))
+  fours_end (Some i) found =
+      (omega (arith, found.1), fours_passed i (omega (arith, found.1)) (λ k l. found.3 k (omega arith) l))
+
+  ones_passed : (start n : ℕ) → start + n ≤ kept → ((k : ℕ) → start ≤ k → k < start + n → NotAt w line window k)
+      → from start ≡ from (start + n)
+  ones_passed start zero l none = ap from (omega arith)
+  ones_passed start (suc n) l none =
+      ones_passed start n (omega arith) (λ k a b. none k a (omega arith))
+      ∙ find_further w line window kept (start + n) (omega arith) (none (start + n) (omega arith) (omega arith))
+      ∙ ap from (omega arith)
+
+  ones_to : (start i : ℕ) → start ≤ i → i ≤ kept → ((k : ℕ) → start ≤ k → k < i → NotAt w line window k) → from start ≡ from i
+  ones_to start i l m none =
+      let whole : start + (i - start) ≡ i = omega arith in
+      ones_passed start (i - start) (omega arith) (λ k a b. none k a (omega arith)) ∙ ap from whole
+
+  pub first_end : (r : Option ℕ) (start : ℕ) → start ≤ kept → from 0 ≡ from start
+      → MatchOption r ((k : ℕ) → start ≤ k → k < kept → NotAt w line window k)
+      (λ i. (start ≤ i) × (i < kept) × (bit (frontier_at w window i).values line ≡ true)
+      × ((k : ℕ) → start ≤ k → k < i → NotAt w line window k))
+      → (IsNone r → from 0 ≡ from kept) × IfSome r (IsFirst w line window kept)
+  first_end None start l so_far none = (λ _. so_far ∙ ones_to start kept l (le_refl _) none, tt)
+  first_end (Some i) start l so_far found =
+      (λ q. cc, (found.1, found.2, so_far ∙ ones_to start i found.0 (omega (arith, found.1)) found.3))

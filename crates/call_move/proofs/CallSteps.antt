@@ -2,7 +2,7 @@
 use Prim.Native.Nat.{ℕ, ◌*◌, ◌≤◌}
 use native.Mathlib.Omega.{arith}
 use mathlib.Core.Path.{◌≡◌, sym, ◌∙◌}
-use mathlib.Core.Bool.{false, cond}
+use mathlib.Core.Bool.{Bool, true, false, cond, ◌||◌, or_assoc}
 use mathlib.Core.List.{List}
 use lib.Dec.{eqb, lit<}
 use lib.ListN.{length}
@@ -19,6 +19,22 @@ use Rattle.call_move.specs.MoveCode.{move_fault}
 use Rattle.call_move.specs.PartLaws.{length-window_parts}
 use Rattle.call_move.specs.LengthLaws.{Lengths, right_lengths}
 use Rattle.call_move.proofs.PartSteps.{all-written}
+
+-- ---- Two tests, the second made only where the first does not hold
+
+pub first_holds : {value first a : Bool} (b : Bool) → first ≡ a → first ≡ true → value ≡ first → value ≡ (a || b)
+first_holds b p h e = rw (← p, h) (e ∙ h)
+
+pub second_decides : {value first second a b : Bool} → first ≡ a → first ≡ false → second ≡ b → value ≡ second
+    → value ≡ (a || b)
+second_decides p h q e = rw (← p, h) (e ∙ q)
+
+-- Four such tests, and a last one.
+pub five_tests : (a b c d e x y z : Bool) → x ≡ (a || b) → y ≡ (x || c) → z ≡ (y || d)
+    → (z || e) ≡ (a || (b || (c || (d || e))))
+five_tests a b c d e x y z p q r = rw (r, q, p) (simp or_assoc)
+
+-- ---- The call
 
 module _ (v w : ℕ) (s window t target : List ℕ) where
   abbrev room : ℕ

@@ -3,11 +3,11 @@ use Prim.Native.Nat.{ℕ, zero, suc, ◌+◌, ◌*◌, ◌^◌, ◌<◌}
 use native.Mathlib.Omega.{arith}
 use native.Mathlib.Nat.{add-zero, add-suc, zero-add, suc-add, zero-mul, suc-mul, add-mul, mul_assoc, mul_comm}
 use mathlib.Core.Path.{◌≡◌, refl, sym, ap, ap₂, ◌∙◌}
-use mathlib.Core.Bool.{Bool, false, ◌||◌, or_assoc}
+use mathlib.Core.Bool.{Bool, false, ◌||◌, or_comm, or_assoc}
 use mathlib.Core.List.{List, ◌∷◌, ◌++◌}
 use lib.ListN.{length, drop}
 use lib.Seq.{sets, drop-drop}
-use lib.Dec.{ltb}
+use lib.Dec.{eqb, ltb}
 use borrow.Author.Tests.{lt-leb}
 use Rattle.codec.specs.Little.{number}
 use Rattle.codec.specs.SetsLaws.{sets-append}
@@ -30,7 +30,7 @@ pub two_hold : (w c : ℕ) → w ≡ 2 → ltb 65535 c ≡ too_large w c
 unfolding too_large
 two_hold w c e = rw e
 
-pub four_hold : (w c : ℕ) → w ≡ 4 → c < 4294967296 → false ≡ too_large w c
+pub four_hold : (w c : ℕ) → w ≡ 4 → c < 4294967296 → eqb w 2 ≡ too_large w c
 unfolding too_large
 four_hold w c e l = rw e (sym (lt-leb 4294967296 c l))
 
@@ -89,9 +89,10 @@ looked_more v w i s place =
 pub looked_turn : (v w i : ℕ) (s : List ℕ) (place next : ℕ) (read : List ℕ) (here some : Bool)
     → next ≡ place + i * (8 * v) → read ≡ list_of 8 (λ p. number s (next + p * v) v)
     → here ≡ any_below 8 (λ j. too_large w (at read j)) → some ≡ any_too_large v w (8 * i) (drop place s)
-    → (here || some) ≡ any_too_large v w (8 * (i + 1)) (drop place s)
+    → (some || here) ≡ any_too_large v w (8 * (i + 1)) (drop place s)
 looked_turn v w i s place next read here some e f g h =
-    ap₂ (λ (a b : Bool). a || b) g h
+    or_comm some here
+    ∙ ap₂ (λ (a b : Bool). a || b) g h
     ∙ ap (λ (l : List ℕ). any_below 8 (λ j. too_large w (at l j)) || any_too_large v w (8 * i) (drop place s))
     (f ∙ ap (λ (n : ℕ). list_of 8 (λ p. number s (n + p * v) v)) e)
     ∙ looked_more v w i s place

@@ -2,7 +2,7 @@
 use Prim.Native.Nat.{ℕ, ◌+◌, ◌*◌, ◌≤◌}
 use native.Mathlib.Omega.{arith}
 use mathlib.Core.Path.{◌≡◌, refl, sym, ap, ◌∙◌}
-use mathlib.Core.Bool.{◌||◌, or_comm}
+use mathlib.Core.Bool.{◌||◌}
 use mathlib.Core.List.{List, ◌++◌}
 use lib.ListN.{length, take, drop, length-drop}
 use lib.Seq.{sets, take-add, drop-drop, length-take-le}
@@ -25,10 +25,8 @@ stored_behind t a xs b ys e = rw e (sets-append t a xs ys)
 
 module _ (v w : ℕ) (ps qs : List Part) (s : List ℕ) (place : ℕ) where
   pub parts_looked : place ≡ length_of v ps
-      → (some_too_large v w qs (drop place s) || some_too_large v w ps s) ≡ some_too_large v w (ps ++ qs) s
-  parts_looked e =
-      or_comm (some_too_large v w qs (drop place s)) (some_too_large v w ps s)
-      ∙ rw e (sym (some_too_large-append v w ps qs s))
+      → (some_too_large v w ps s || some_too_large v w qs (drop place s)) ≡ some_too_large v w (ps ++ qs) s
+  parts_looked e = rw e (sym (some_too_large-append v w ps qs s))
 
   pub parts_written : (t : List ℕ) (to : ℕ) → place ≡ length_of v ps → to ≡ length_of w ps → place ≤ length s
       → sets (sets t 0 (moved v w ps s)) to (moved v w qs (drop place s)) ≡ sets t 0 (moved v w (ps ++ qs) s)

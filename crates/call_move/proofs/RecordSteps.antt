@@ -2,7 +2,7 @@
 use Prim.Native.Nat.{ℕ, ◌+◌, ◌*◌, ◌≤◌, ◌<◌}
 use native.Mathlib.Omega.{arith}
 use mathlib.Core.Path.{◌≡◌, refl, sym, ap, ◌∙◌}
-use mathlib.Core.Bool.{false, ◌||◌, or_comm, or-false}
+use mathlib.Core.Bool.{false, ◌||◌, or-false}
 use mathlib.Core.List.{List, ◌++◌, append_assoc, append-nil}
 use lib.ListN.{length, take, drop, length-append, length-drop}
 use lib.Seq.{sets, drop-drop, length-take-le}
@@ -40,11 +40,9 @@ parts_all = refl
 -- ---- Looked at
 
 pub front_looked : (v w : ℕ) (s : List ℕ)
-    → (any_too_large v w 64 (drop (8 + 8 * v) s) || any_too_large v w 8 (drop 8 s)) ≡ some_too_large v w (parts_to 0) s
+    → (any_too_large v w 8 (drop 8 s) || any_too_large v w 64 (drop (8 + 8 * v) s)) ≡ some_too_large v w (parts_to 0) s
 unfolding some_too_large any_too_large many_of parts_to front_parts
-front_looked v w s =
-    or_comm (any_too_large v w 64 (drop (8 + 8 * v) s)) (any_too_large v w 8 (drop 8 s))
-    ∙ rw (← drop-drop (8 * v) 8 s, or-false)
+front_looked v w s = rw (← drop-drop (8 * v) 8 s, or-false)
 
 -- The counts of the pending event from a place on.
 event-counts : (v w : ℕ) (s : List ℕ) (place : ℕ)
@@ -53,7 +51,7 @@ unfolding some_too_large any_too_large
 event-counts v w s place = rw (drop-drop 8 place s, or-false)
 
 pub event_looked : (v w i : ℕ) (s : List ℕ) (place : ℕ) → place ≡ pending_place v i
-    → (any_too_large v w 8 (drop (place + 8) s) || some_too_large v w (parts_to i) s)
+    → (some_too_large v w (parts_to i) s || any_too_large v w 8 (drop (place + 8) s))
     ≡ some_too_large v w (parts_to (i + 1)) s
 event_looked v w i s place e =
     rw (← event-counts v w s place, parts_next i)

@@ -22,7 +22,7 @@ unfolding some_too_large any_too_large
 frontier_counts v w s = rw or-false
 
 pub frontier_looked : (v w i : ℕ) (s : List ℕ) (place : ℕ) → place ≡ i * frontier_length v
-    → (any_too_large v w 8 (drop place s) || some_too_large v w (window_parts i) s)
+    → (some_too_large v w (window_parts i) s || any_too_large v w 8 (drop place s))
     ≡ some_too_large v w (window_parts (i + 1)) s
 frontier_looked v w i s place e =
     rw (← frontier_counts v w (drop place s), repeated_more i frontier_parts)

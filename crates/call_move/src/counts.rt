@@ -4,58 +4,46 @@ ghost use Rattle.std.specs.Prelude.{◌+◌, ◌*◌, ◌≤◌, ◌≡◌, fals
 ghost use Rattle.std.proofs.lemmas.List.Edits.{sets};
 ghost use Rattle.clocks.specs.Bounded.{any_below};
 ghost use Rattle.clocks.specs.Counts.{at};
-ghost use Rattle.frontiers.specs.Width.{Width};
 ghost use Rattle.frontiers.specs.Bytes.{count_bytes};
 ghost use Rattle.call_move.specs.Move.{counts_from, too_large};
 ghost use Rattle.call_move.specs.MoveCode.{any_too_large};
 
 use frontiers::counts::{read_counts, write_counts};
+use frontiers::width::CountWidth;
 
 // A count is too large for w bytes.
-fn too_large(c: u32, w: usize) -> bool
-    requires { Width w }
+fn too_large(c: u32, w: CountWidth) -> bool
     ensures { result ≡ too_large w c }
 {
-    if w == 2 { 65535 < c } else { false }
+    w.bytes() == 2 && 65535 < c
 }
 
 // One of eight counts is too large for w bytes. All are looked at, without a branch.
-fn one_too_large(counts: [u32; 8], w: usize) -> bool
-    requires { Width w }
+fn one_too_large(counts: [u32; 8], w: CountWidth) -> bool
     ensures { result ≡ any_below 8 (λ i. too_large w (at counts i)) }
 {
     let mut some = false;
-    let mut i = 0;
-    while i < 8 {
-        some = too_large(counts[i], w) | some;
-        i = i + 1;
+    for count in &counts {
+        some |= too_large(*count, w);
     }
     some
 }
 
 // One of the n times eight counts of v bytes from a place on is too large for w bytes.
-pub fn any_too_large(s: &[u8], place: usize, v: usize, n: usize, w: usize) -> bool
-    requires width { Width v }
-    requires width_2 { Width w }
+pub fn any_too_large(s: &[u8], place: usize, v: CountWidth, n: usize, w: CountWidth) -> bool
     requires v_in_bounds { place + n * (8 * v) ≤ length s.now }
     ensures { result ≡ any_too_large v w (8 * n) (drop place s.now) }
 {
     let mut some = false;
-    let mut next = place;
-    let mut i = 0;
-    while i < n {
-        some = one_too_large(read_counts(s, next, v), w) | some;
-        next = next + 8 * v;
-        i = i + 1;
+    for i in 0..n {
+        some |= one_too_large(read_counts(s, place + i * (8 * v.bytes()), v), w);
     }
     some
 }
 
 // Writes the eight counts of v bytes from a place on with w bytes to a place of another slice. All are read before they
 // are written: so the compiler need not ask whether the slices overlap.
-fn move_eight(s: &[u8], from: usize, v: usize, target: &mut [u8], to: usize, w: usize)
-    requires width { Width v }
-    requires width_2 { Width w }
+fn move_eight(s: &[u8], from: usize, v: CountWidth, target: &mut [u8], to: usize, w: CountWidth)
     requires v_in_bounds { from + 8 * v ≤ length s.now }
     requires w_in_bounds { to + 8 * w ≤ length target.old }
     requires s_value { any_too_large v w 8 (drop from s.now) ≡ false }
@@ -70,27 +58,26 @@ fn move_eight(s: &[u8], from: usize, v: usize, target: &mut [u8], to: usize, w: 
 pub fn move_counts(
     s: &[u8],
     from: usize,
-    v: usize,
+    v: CountWidth,
     n: usize,
     target: &mut [u8],
     to: usize,
-    w: usize,
+    w: CountWidth,
 )
-    requires width { Width v }
-    requires width_2 { Width w }
     requires v_in_bounds { from + n * (8 * v) ≤ length s.now }
     requires w_in_bounds { to + n * (8 * w) ≤ length target.old }
     requires s_value { any_too_large v w (8 * n) (drop from s.now) ≡ false }
     ensures { target.new
         ≡ sets target.old to (count_bytes w (counts_from v (8 * n) (drop from s.now))) }
 {
-    let mut next = from;
-    let mut free = to;
-    let mut i = 0;
-    while i < n {
-        move_eight(s, next, v, target, free, w);
-        next = next + 8 * v;
-        free = free + 8 * w;
-        i = i + 1;
+    for i in 0..n {
+        move_eight(
+            s,
+            from + i * (8 * v.bytes()),
+            v,
+            target,
+            to + i * (8 * w.bytes()),
+            w,
+        );
     }
 }

@@ -15,6 +15,7 @@ ghost use Rattle.call_move.specs.Move.{move_call};
 use crate::record_parts::move_record;
 use crate::refused::move_fault;
 use crate::window_parts::move_window;
+use frontiers::width::CountWidth;
 use refusals::room_of;
 
 // Moves a watch: the reply, and the bytes of the buffers that are written. It has seen every count before it writes.
@@ -26,6 +27,7 @@ pub fn move_watch(
     target: &mut [u8],
     target_window: &mut [u8],
 ) -> u64
+    // By hand, as promised: docs/PROOF-MAP.md names this function, so it asks for numbers as before.
     requires width { Width v }
     requires width_2 { Width w }
     ensures reply { result ≡ (move_call v w «record».now window.now
@@ -35,12 +37,20 @@ pub fn move_watch(
     ensures window { target_window.new ≡ (move_call v w «record».now window.now
         target.old target_window.old).window }
 {
-    let fault = move_fault(v, w, record, window, target.len(), target_window.len());
-    if fault != 0 {
-        return fault;
+    let from_width = CountWidth::of(v);
+    let to_width = CountWidth::of(w);
+    if let Err(refusal) = move_fault(
+        from_width,
+        to_width,
+        record,
+        window,
+        target.len(),
+        target_window.len(),
+    ) {
+        return u64::from(refusal);
     }
-    move_record(record, v, target, w);
-    let n = room_of(v, window.len());
-    move_window(window, n, v, target_window, w);
+    move_record(record, from_width, target, to_width);
+    let n = room_of(from_width, window.len());
+    move_window(window, n, from_width, target_window, to_width);
     0
 }

@@ -2,7 +2,6 @@
 
 ghost use Rattle.std.specs.Prelude.{◌+◌, ◌*◌, ◌≤◌, ◌≡◌, false, length, drop};
 ghost use Rattle.std.proofs.lemmas.List.Edits.{sets};
-ghost use Rattle.frontiers.specs.Width.{Width};
 ghost use Rattle.frontiers.specs.Bytes.{frontier_length};
 ghost use Rattle.call_move.specs.Parts.{frontier_parts, window_parts};
 ghost use Rattle.call_move.specs.Move.{moved, some_too_large};
@@ -10,29 +9,30 @@ ghost use Rattle.call_move.specs.Move.{moved, some_too_large};
 use crate::bytes::copy_eights;
 use crate::counts::{any_too_large, move_counts};
 use frontiers::place::frontier_place;
+use frontiers::width::CountWidth;
 
 // 43, of the window's first n places, used or not: the counts of each.
-pub fn window_too_large(window: &[u8], n: usize, v: usize, w: usize) -> bool
-    requires width { Width v }
-    requires width_2 { Width w }
+pub fn window_too_large(window: &[u8], n: usize, v: CountWidth, w: CountWidth) -> bool
     requires n_bound { n ≤ 1024 }
     requires v_in_bounds { n * frontier_length v ≤ length window.now }
     ensures { result ≡ some_too_large v w (window_parts n) window.now }
 {
     let mut some = false;
-    let mut i = 0;
-    while i < n {
-        let place = frontier_place(v, i);
-        some = any_too_large(window, place, v, 1, w) | some;
-        i = i + 1;
+    for i in 0..n {
+        some |= any_too_large(window, frontier_place(v, i), v, 1, w);
     }
     some
 }
 
 // Writes the frontier from a place on to a place of the other window.
-fn move_frontier(window: &[u8], from: usize, v: usize, target: &mut [u8], to: usize, w: usize)
-    requires width { Width v }
-    requires width_2 { Width w }
+fn move_frontier(
+    window: &[u8],
+    from: usize,
+    v: CountWidth,
+    target: &mut [u8],
+    to: usize,
+    w: CountWidth,
+)
     requires v_in_bounds { from + frontier_length v ≤ length window.now }
     requires w_in_bounds { to + frontier_length w ≤ length target.old }
     requires window_value { some_too_large v w frontier_parts (drop from window.now) ≡ false }
@@ -40,13 +40,11 @@ fn move_frontier(window: &[u8], from: usize, v: usize, target: &mut [u8], to: us
         ≡ sets target.old to (moved v w frontier_parts (drop from window.now)) }
 {
     move_counts(window, from, v, 1, target, to, w);
-    copy_eights(window, from + 8 * v, 3, target, to + 8 * w);
+    copy_eights(window, from + 8 * v.bytes(), 3, target, to + 8 * w.bytes());
 }
 
 // Writes a window's first n frontiers with counts of v bytes as such with counts of w bytes.
-pub fn move_window(window: &[u8], n: usize, v: usize, target: &mut [u8], w: usize)
-    requires width { Width v }
-    requires width_2 { Width w }
+pub fn move_window(window: &[u8], n: usize, v: CountWidth, target: &mut [u8], w: CountWidth)
     requires n_bound { n ≤ 1024 }
     requires v_in_bounds { n * frontier_length v ≤ length window.now }
     requires w_in_bounds { n * frontier_length w ≤ length target.old }
@@ -54,8 +52,7 @@ pub fn move_window(window: &[u8], n: usize, v: usize, target: &mut [u8], w: usiz
     ensures { target.new
         ≡ sets target.old 0 (moved v w (window_parts n) window.now) }
 {
-    let mut i = 0;
-    while i < n {
+    for i in 0..n {
         move_frontier(
             window,
             frontier_place(v, i),
@@ -64,6 +61,5 @@ pub fn move_window(window: &[u8], n: usize, v: usize, target: &mut [u8], w: usiz
             frontier_place(w, i),
             w,
         );
-        i = i + 1;
     }
 }

@@ -1,8 +1,14 @@
 -- Offer, test by test, as its functions go through it.
-use Prim.Native.Nat.{ℕ, ◌+◌, ◌≤◌, ◌<◌, ◌*◌, ◌^◌}
+use Prim.Native.Nat.{ℕ, zero, suc, ◌+◌, ◌≤◌, ◌<◌, ◌*◌, ◌^◌}
 use native.Mathlib.Omega.{arith}
-use native.Mathlib.Nat.{add-zero}
-use mathlib.Core.Path.{◌≡◌, refl, subst, ◌∙◌}
+use native.Mathlib.Nat.{add-zero, zero-add, le_refl}
+use mathlib.Core.Path.{◌≡◌, refl, sym, ap, subst, ◌∙◌}
+use Rattle.std.proofs.Common.{Option, None, Some}
+use Rattle.std.specs.Option.{MatchOption, unwrap_or}
+use Rattle.numbers.specs.RefusalLaws.{some_number}
+use Rattle.call_offer.specs.declared.unaccepted.Unaccepted.{Unaccepted}
+use Rattle.call_offer.specs.declared.unaccepted.Unaccepted.TheVariants.{Again, Refused}
+use Rattle.call_offer.specs.Unaccepted.{word_of}
 use mathlib.Core.Bool.{Bool, true, false, cond, ◌&&◌}
 use mathlib.Core.List.{List}
 use lib.Dec.{leb, eqb, lit<, T, eqb→eq}
@@ -44,11 +50,11 @@ event-first false false true x = refl
 event-first false false false x = refl
 
 -- The number of 42 and 31, where the event is turned back by one of them, and where it is not.
-pub processes_turn : (b42 b31 : Bool) (x n : ℕ) → n ≡ cond b42 42 (cond b31 31 0) → (n ≡ 0 → ⊥)
+pub processes_turn : (b42 b31 : Bool) (x n : ℕ) → n ≡ cond b42 42 (cond b31 31 0) → 0 < n
     → n ≡ cond b42 42 (cond b31 31 x)
 processes_turn true b31 x n e h = e
 processes_turn false true x n e h = e
-processes_turn false false x n e h = absurd (h e)
+processes_turn false false x n e h = absurd (omega arith)
 
 pub processes_pass : (b42 b31 : Bool) (x n : ℕ) → n ≡ cond b42 42 (cond b31 31 0) → n ≡ 0
     → cond b42 42 (cond b31 31 x) ≡ x
@@ -94,6 +100,11 @@ offer_by w mask clock labels s =
     (cond (names_closed (closed_mask s) e) 42 (cond (already_taken e (at (taken_counts w s))) 31 (pending_word w e s))))
     (chosen_by (turns w mask clock labels s) (turned s) (accepted w e s)
     (lit< tt, (lit< tt, (lit< tt, (lit< tt, (lit< tt, (lit< tt, (lit< tt, (lit< tt, (lit< tt, (lit< tt, tt)))))))))))
+
+-- No answer's word is 0.
+pub some_word : (answer : Unaccepted) → 0 < word_of answer
+some_word Again = lit< tt
+some_word (Refused refusal) = some_number refusal
 
 -- ---- A repeat conflicts
 
@@ -149,6 +160,33 @@ module _ (w : ℕ) (s : List ℕ) (e : Event) (i : ℕ) where
   unfolding place_among pending_events
   place-last l = rw (rest_end (pending_count s) (pending_at w s) i l, add-zero)
 
+-- The library's search for the first whose key is not before the event's ends at the event's place.
+abbrev pub Before : ℕ → List ℕ → Event → ℕ → Type 0
+Before w s e i = key_before (key_of (pending_at w s i)) (key_of e) ≡ true
+
+abbrev pub NotBefore : ℕ → List ℕ → Event → ℕ → Type 0
+NotBefore w s e i = key_before (key_of (pending_at w s i)) (key_of e) ≡ false
+
+module _ (w : ℕ) (s : List ℕ) (e : Event) (n : ℕ) (all : n ≡ pending_count s) where
+  place_along : (i : ℕ) → i ≤ n → ((k : ℕ) → k < i → Before w s e k) → place_from w s e 0 ≡ place_from w s e i
+  place_along zero l before = refl
+  place_along (suc i) l before =
+      place_along i (omega arith) (λ k m. before k (omega arith))
+      ∙ place_further w s e i (omega arith) (before i (omega arith))
+      ∙ ap (place_from w s e) (omega arith)
+
+  pub place_found : (r : Option ℕ) → MatchOption r ((k : ℕ) → 0 ≤ k → k < n → Before w s e k)
+      (λ i. (0 ≤ i) × (i < n) × NotBefore w s e i × ((k : ℕ) → 0 ≤ k → k < i → Before w s e k))
+      → (unwrap_or r n ≡ place_among e (pending_events w s)) × (unwrap_or r n ≤ pending_count s)
+  place_found None none =
+      let along = place_along n (le_refl _) (λ k l. none k (omega arith) l) in
+      (sym (sym (zero-add _) ∙ along ∙ place-last w s e n (omega arith)), omega arith)
+  place_found (Some i) found =
+      let along = place_along i (omega (arith, found.1)) (λ k l. found.3 k (omega arith) l) in (
+        sym (sym (zero-add _) ∙ along ∙ place_here w s e i (omega (arith, found.1)) found.2),
+        omega (arith, found.1),
+      )
+
 -- ---- What is known where an offer is accepted
 
 passed_event : (f x : ℕ) → cond (eqb f 0) x f ≡ 0 → x ≡ 0
@@ -181,12 +219,12 @@ offer_passed w mask clock labels s h =
 
 -- ---- The reply and the bytes, in the two cases
 
-pub offer_turned : (w mask : ℕ) (clock labels s : List ℕ) (n : ℕ) → n ≡ unaccepted_word w mask clock labels s → (n ≡ 0 → ⊥)
+pub offer_turned : (w mask : ℕ) (clock labels s : List ℕ) (n : ℕ) → n ≡ unaccepted_word w mask clock labels s → 0 < n
     → (n ≡ reply_word (offer_call w mask clock labels s).answer) × (s ≡ (offer_call w mask clock labels s).bytes)
 unfolding turned reply_word
 offer_turned w mask clock labels s n e h =
     let whole : offer_call w mask clock labels s ≡ turned s n =
-    offer_by w mask clock labels s ∙ rw (← e, ne_eqb n 0 h) in
+    offer_by w mask clock labels s ∙ rw (← e, ne_eqb n 0 (λ z. omega arith)) in
     (rw whole (word (eqb n 256) refl), rw whole)
   where
     word : (b : Bool) → eqb n 256 ≡ b → n ≡ reply_word (cond b again (turned_back n 0))

@@ -8,3 +8,4 @@ pub mod OfferCases
 pub mod OfferReplyLaws
 -- What its functions' contracts cite
 pub mod OfferCode
+pub mod Unaccepted

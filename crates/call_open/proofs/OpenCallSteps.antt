@@ -12,7 +12,7 @@ use Rattle.frontiers.specs.Bytes.{frontier_length}
 use Rattle.rules.specs.lines.RuleTableLaws.{length-table_of, lines_of-table_of}
 use Rattle.rules.specs.Line.{line_count, lines_at}
 use Rattle.pactl.specs.TableBytes.{lines_of}
-use Rattle.rules.specs.declared.RuleRead.TheVariants.{Accepted, Refused}
+use Rattle.rules.specs.RuleRead.{Accepted, Refused}
 use Rattle.rules.specs.RuleTable.{table_of, answer_of, table_after, rule_answer, rule_table}
 use Rattle.rules.specs.reading.ReaderLaws.{form_at-formed}
 use Rattle.rules.specs.Formula.{Formula}

@@ -5,7 +5,7 @@ use mathlib.Core.Path.{◌≡◌, refl, sym, ap, ◌∙◌}
 use mathlib.Core.List.{List, ◌∷◌, ◌++◌, append_assoc, append-nil, []}
 use mathlib.Core.Bool.{false}
 use lib.ListN.{length, get_or, take, drop, replicate, length-append, length-replicate, replicate-append-replicate, set}
-use lib.Seq.{sets-eq, take-append_seam, drop-append_seam, drop-append-add, drop-cons, sets, length-take-le}
+use lib.Seq.{drop-drop, sets-eq, take-append_seam, drop-append_seam, drop-append-add, drop-cons, sets, length-take-le}
 use Rattle.pactl.specs.TableBytes.{line_at, lines_from, lines_of}
 use Rattle.pactl.specs.Table.{table_bytes}
 use Rattle.frontiers.specs.declared.Frontier.{Frontier}
@@ -22,7 +22,6 @@ use Rattle.records.specs.Record.{table_place, event_length, record_length}
 use Rattle.call_open.specs.Open.{first_record, open_table}
 use Rattle.answers.specs.Answer.{flag, reply_word, state_of}
 use Rattle.call_open.specs.OpenCode.{zeros_judged}
-use Rattle.codec.specs.SetsLaws.{sets_whole}
 
 -- ---- The bytes of a table
 
@@ -46,6 +45,13 @@ pub table_bytes_lem : (bytes : List ℕ) (n : ℕ) → 3 * n ≤ length bytes �
 table_bytes_lem bytes n h = lines_bytes bytes n 0 (omega arith)
 
 -- ---- Stores into zeros
+
+-- Bytes copied over a part are stored there.
+pub copied : (s bs : List ℕ) (at n : ℕ) → at + n ≤ length s → length bs ≡ n
+    → take at s ++ (bs ++ drop (at + n - at) (drop at s)) ≡ sets s at bs
+copied s bs at n h e =
+    let part : at + n - at ≡ n = omega arith in
+    rw part (sym (sets-eq bs s at (omega arith) ∙ rw (e, drop-drop n at s) (append_assoc (take at s) bs (drop (at + n) s))))
 
 -- A part stored over one as long.
 sets-part : (front part back bs : List ℕ) → length part ≡ length bs → sets (front ++ (part ++ back)) (length front) bs ≡ front ++ (bs ++ back)
@@ -77,7 +83,7 @@ five : (a b c d e : List ℕ) → a ++ (b ++ (c ++ (d ++ e))) ≡ a ++ b ++ c ++
 five a b c d e = simp append_assoc
 
 pub stored_record : (w k lines : ℕ) (s table : List ℕ) → length s ≡ record_length w → lines ≤ 64 → 3 * lines ≤ length table
-    → sets (put (set (set (sets s 0 (replicate (length s) 0)) 0 k) 1 lines) 4 4 1) (table_place w) (take (3 * lines) table)
+    → sets (put (set (set (replicate (length s) 0) 0 k) 1 lines) 4 4 1) (table_place w) (take (3 * lines) table)
     ≡ first_record w k (lines_of table lines)
 unfolding first_record head
 stored_record w k lines s table long few enough =
@@ -86,10 +92,9 @@ stored_record w k lines s table long few enough =
     let m : ℕ = 72 * w + 192 + 32 * event_length w in
     let total : length s ≡ 8 + m = omega arith in
     let behind : ℕ = 192 - 3 * lines + 32 * event_length w in
-    let cleared : sets s 0 (replicate (length s) 0) ≡ replicate (8 + m) 0 = sets_whole s (replicate (length s) 0) (length-replicate (length s) 0) ∙ ap (λ (n : ℕ). replicate n 0) total in
     let table_stored : sets (head k lines ++ replicate m 0) (table_place w) bs ≡ head k lines ++ (replicate (72 * w) 0 ++ (bs ++ replicate behind 0)) =
     sets-zeros (head k lines) bs (72 * w) behind m (table_place w) (omega arith) (omega (arith, length-bytes_of 4 1)) in
-    rw (cleared, head_stored k lines m, table_stored, length-lines_from table lines 0, table_bytes_lem table lines enough, count, ← replicate-append-replicate {A = ℕ} (192 - 3 * lines) (32 * event_length w) 0)
+    rw (total, head_stored k lines m, table_stored, length-lines_from table lines 0, table_bytes_lem table lines enough, count, ← replicate-append-replicate {A = ℕ} (192 - 3 * lines) (32 * event_length w) 0)
     (five (head k lines) (replicate (72 * w) 0) bs (replicate (192 - 3 * lines) 0) (replicate (32 * event_length w) 0))
 
 -- ---- The window of a new watch
@@ -99,16 +104,15 @@ zeros_fit zero w p = pow_256_pos w
 zeros_fit (suc n) w zero = pow_256_pos w
 zeros_fit (suc n) w (suc p) = zeros_fit n w p
 
-pub stored_window : (w : ℕ) (window labels : List ℕ) (values : ℕ) → length labels ≡ 8 → frontier_length w ≤ length window
+pub stored_window : (w n : ℕ) (labels : List ℕ) (values : ℕ) → length labels ≡ 8 → frontier_length w ≤ n
     → let f : Frontier = record { counts = replicate 8 0; labels = labels; masks = replicate 8 0; values = values } in
-    sets (sets window 0 (replicate (length window) 0)) 0 (frontier_bytes w f) ≡ window_bytes w (length window) (zeros_judged labels values)
+    sets (replicate n 0) 0 (frontier_bytes w f) ≡ window_bytes w n (zeros_judged labels values)
 unfolding window_bytes framed
-stored_window w window labels values l h =
+stored_window w n labels values l h =
     let f : Frontier = record { counts = replicate 8 0; labels = labels; masks = replicate 8 0; values = values } in
     let long : length (frontier_bytes w f) ≡ frontier_length w = length_eights w f refl l refl in
     let one : length (zeros_judged labels values) * frontier_length w ≡ frontier_length w = omega arith in
-    rw (sets_whole window (replicate (length window) 0) (length-replicate (length window) 0), one, append-nil)
-    (sets-zeros [] (frontier_bytes w f) 0 (length window - frontier_length w) (length window) 0 (omega arith) refl)
+    rw (one, append-nil) (sets-zeros [] (frontier_bytes w f) 0 (n - frontier_length w) n 0 (omega arith) refl)
 
 -- ---- Opened with a table
 

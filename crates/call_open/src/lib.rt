@@ -10,51 +10,49 @@ ghost use Rattle.frontiers.specs.Bytes.{frontier_length, window_bytes};
 ghost use Rattle.records.specs.Record.{record_length};
 ghost use Rattle.call_open.specs.Open.{first_record, open_table, open_call};
 ghost use Rattle.answers.specs.Answer.{reply_word};
+ghost use Rattle.numbers.specs.RefusalNumber.{refused};
 ghost use Rattle.call_open.specs.OpenCode.{zeros_judged, open_fault};
 
 use answers::{state_word, turned_word};
+use clocks::refusal::bad_start;
 use frontiers::Frontier;
-use frontiers::moving::{clear, copy_in};
-use numbers::refusal::{LABELS, LENGTH, PROCESSES};
+use frontiers::width::CountWidth;
+use numbers::refusal::Refusal;
 use records::fields::table_place;
 use refusals::{bad_processes, bad_record_length, bad_window_length};
-use rules::RuleRead;
+use rules::reading::read_rule;
 
 // Writes the record of a new watch: the number of processes, the table's first lines, one frontier kept.
-pub fn write_record(record: &mut [u8], w: usize, k: u32, table: &[u8], lines: u32)
-    requires width { Width w }
+// By hand, for C: the number of lines stands beside the table, here and at open_table, as in the record that C lends.
+pub fn write_record(record: &mut [u8], w: CountWidth, k: u32, table: &[u8], lines: u32)
     requires record_len { length «record».old ≡ record_length w }
     requires k_bound { k ≤ 8 }
     requires lines_bound { lines ≤ 64 }
     requires lines_in_bounds { 3 * lines ≤ length table.now }
     ensures { «record».new ≡ first_record w k (lines_of table.now lines) }
 {
-    let all = record.len();
-    let place = table_place(w);
-    clear(record, 0, all);
+    record.fill(0);
     record[0] = k as u8;
     record[1] = lines as u8;
     codec::write_u32(record, 4, 1);
-    copy_in(record, place, table, 3 * (lines as usize));
+    let place = table_place(w);
+    let n = 3 * (lines as usize);
+    record[place..place + n].copy_from_slice(&table[..n]);
 }
 
 // Writes the window of a new watch: the cut of zeros, with its labels and values.
-pub fn write_window(window: &mut [u8], w: usize, labels: [u8; 8], values: u64)
-    requires width { Width w }
+pub fn write_window(window: &mut [u8], w: CountWidth, labels: [u8; 8], values: u64)
     requires w_in_bounds { frontier_length w ≤ length window.old }
     ensures { window.new ≡ window_bytes w (length window.old) (zeros_judged labels values) }
 {
-    let all = window.len();
-    clear(window, 0, all);
-    let counts = [0u32; 8];
-    let masks = [0u8; 8];
+    window.fill(0);
     frontiers::stored::write_frontier(
         window,
         w,
         Frontier {
-            counts,
+            counts: [0; 8],
             labels,
-            masks,
+            masks: [0; 8],
             values,
         },
     );
@@ -62,7 +60,7 @@ pub fn write_window(window: &mut [u8], w: usize, labels: [u8; 8], values: u64)
 
 // Opens with a table: the reply, and the bytes of record and window after it.
 pub fn open_table(
-    w: usize,
+    w: CountWidth,
     k: u32,
     labels: [u8; 8],
     table: &[u8],
@@ -70,7 +68,6 @@ pub fn open_table(
     record: &mut [u8],
     window: &mut [u8],
 ) -> u64
-    requires width { Width w }
     requires record_len { length «record».old ≡ record_length w }
     requires w_in_bounds { frontier_length w ≤ length window.old }
     requires k_bound { k ≤ 8 }
@@ -86,24 +83,20 @@ pub fn open_table(
     state_word(codec::has_bit(values, lines - 1), 1)
 }
 
-// The number that an open is turned back with before its text is read; 0 for none.
-pub fn open_fault(w: usize, k: u64, labels: [u8; 8], n: usize, m: usize) -> u64
-    requires { Width w }
-    ensures { result ≡ open_fault w k labels n m }
+// What turns an open back before its text is read.
+pub fn open_fault(w: CountWidth, k: u64, labels: [u8; 8], n: usize, m: usize) -> Result<(), Refusal>
+    ensures { refused result ≡ open_fault w k labels n m }
 {
-    if bad_record_length(w, n) {
-        return LENGTH;
-    }
-    if bad_window_length(w, m) {
-        return LENGTH;
+    if bad_record_length(w, n) || bad_window_length(w, m) {
+        return Err(Refusal::Length);
     }
     if bad_processes(k) {
-        return PROCESSES;
+        return Err(Refusal::Processes);
     }
-    if clocks::refusal::bad_start(k as u32, labels) {
-        return LABELS;
+    if bad_start(k as u32, labels) {
+        return Err(Refusal::Labels);
     }
-    0
+    Ok(())
 }
 
 // Opens a watch with a rule's text: the reply, and the bytes of record and window after it.
@@ -115,21 +108,20 @@ pub fn open(
     record: &mut [u8],
     window: &mut [u8],
 ) -> u64
+    // By hand, as promised: docs/PROOF-MAP.md names this function, so it asks for a number as before.
     requires { Width w }
     ensures reply { result ≡ reply_word (open_call w rule.now k labels «record».old window.old).answer }
     ensures bytes { «record».new ≡ (open_call w rule.now k labels «record».old window.old).bytes }
     ensures window { window.new ≡ (open_call w rule.now k labels «record».old window.old).window }
 {
-    let fault = open_fault(w, k, labels, record.len(), window.len());
-    if fault != 0 {
-        return fault;
+    let width = CountWidth::of(w);
+    if let Err(refusal) = open_fault(width, k, labels, record.len(), window.len()) {
+        return refusal.into();
     }
+    let k = k as u32;
     let mut table = [0u8; 192];
-    let read = rules::reading::read_rule(rule, k as u32, &mut table);
-    match read {
-        RuleRead::Refused { number, place } => turned_word(number, place),
-        RuleRead::Accepted { lines } => open_table(
-            w, k as u32, labels, &table, lines, record, window,
-        ),
+    match read_rule(rule, k, &mut table) {
+        Err(fault) => turned_word(fault),
+        Ok(lines) => open_table(width, k, labels, &table, lines, record, window),
     }
 }

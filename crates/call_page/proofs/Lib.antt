@@ -1,5 +1,5 @@
 -- What the proofs of the functions cite: one test or one turn of a loop at a time.
-mod PairSteps
+mod StoreSteps
 mod CountSteps
 mod RowSteps
 mod PageSteps

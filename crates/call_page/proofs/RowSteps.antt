@@ -19,15 +19,13 @@ use Rattle.call_page.specs.RowLaws.{length-columns}
 
 -- ---- The ending
 
-pub ending_yes : (page₀ page : List ℕ) (place : ℕ) (holds : Bool) → holds ≡ true
-    → page ≡ sets page₀ place (ascii " yes" ++ (10 ∷ [])) → page ≡ sets page₀ place (ending holds)
+pub ending_yes : (holds : Bool) → holds ≡ true → ascii " yes" ++ (10 ∷ []) ≡ ending holds
 unfolding ending word
-ending_yes page₀ page place holds h e = rw h e
+ending_yes holds h = rw h refl
 
-pub ending_no : (page₀ page : List ℕ) (place : ℕ) (holds : Bool) → holds ≡ false
-    → page ≡ sets page₀ place (ascii " no " ++ (10 ∷ [])) → page ≡ sets page₀ place (ending holds)
+pub ending_no : (holds : Bool) → holds ≡ false → ascii " no " ++ (10 ∷ []) ≡ ending holds
 unfolding ending word
-ending_no page₀ page place holds h e = rw h e
+ending_no holds h = rw h refl
 
 -- ---- The columns
 

@@ -45,7 +45,7 @@ module _ (w : ℕ) (text : List ℕ) (k : ℕ) (labels s window pool : List ℕ)
       (three_by (opens s window) pool i (bad_record_length w (length s) || bad_window_length w (length window))
       (bad_pool_length (length pool)) (bad_processes k) (no_share pool i) (bad_start k labels) opened)
 
-  pub open_turned : (n : ℕ) → n ≡ shared_fault open_number pool i → (n ≡ 0 → ⊥)
+  pub open_turned : (n : ℕ) → n ≡ shared_fault open_number pool i → 0 < n
       → shared_open w text k labels s window pool i ≡ turned (opens s window) pool i n
   open_turned n e some =
       open_by
@@ -104,7 +104,7 @@ module _ (w : ℕ) (s window scratch pool : List ℕ) (i : ℕ) where
   unfolding take_fault take_capped
   plain-turned h = two_turned (takes s window scratch) pool i wrong bad within h
 
-  pub take-turned : (n : ℕ) → n ≡ shared_fault take-number pool i → (n ≡ 0 → ⊥)
+  pub take-turned : (n : ℕ) → n ≡ shared_fault take-number pool i → 0 < n
       → shared_take w s window scratch pool i ≡ turned (takes s window scratch) pool i n
   take-turned n e some = take_by ∙ fault_turned (takes s window scratch) pool i take-number taken plain-turned n e some
 
@@ -168,7 +168,7 @@ module _ (w p : ℕ) (s window pool : List ℕ) (i : ℕ) where
   unfolding watch_fault close_call
   close_plain h = two_turned (closes s window) pool i lengths_wrong damaged judged h
 
-  pub close_turned : (n : ℕ) → n ≡ shared_fault close_number pool i → (n ≡ 0 → ⊥)
+  pub close_turned : (n : ℕ) → n ≡ shared_fault close_number pool i → 0 < n
       → shared_close w p s window pool i ≡ turned (closes s window) pool i n
   close_turned n e some = close_by ∙ fault_turned (closes s window) pool i close_number closed close_plain n e some
 

@@ -17,6 +17,7 @@ pub fn close(
     pool: &mut [u8],
     number: u64,
 ) -> u64
+    // By hand, as promised: docs/PROOF-MAP.md names this function, so it asks for a number as before.
     requires { Width w }
     ensures reply { result ≡ reply_word (shared_close w process «record».old window.old
         pool.old number).call.answer }
@@ -28,9 +29,8 @@ pub fn close(
         pool.old number).pool }
 {
     let plain = watch_fault(w, record, window.len());
-    let fault = shared_fault(plain, pool, number);
-    if fault != 0 {
-        return fault;
+    if let Err(refusal) = shared_fault(plain, pool, number) {
+        return refusal.into();
     }
     let reply = call_close::close(w, process, record, window);
     settle_pool(pool, number as usize, record, reply);

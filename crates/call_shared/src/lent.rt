@@ -2,26 +2,27 @@
 
 ghost use Rattle.std.specs.Prelude.{◌%◌, ◌≤◌, ◌<◌, ◌≡◌, length};
 ghost use Rattle.numbers.specs.Limit.{most_members};
+ghost use Rattle.numbers.specs.RefusalNumber.{refused};
 ghost use Rattle.records.specs.Record.{kept_count};
 ghost use Rattle.pool.specs.Pool.{pool_length};
 ghost use Rattle.call_shared.specs.SharedCode.{shared_fault, pool_by};
 
-use numbers::refusal::{LENGTH, STATE};
+use numbers::refusal::Refusal;
 use records::fields::kept_count;
 
-// The number that a shared call is turned back with, by that of the plain call; 0 for none. Only the plain 6 is told
-// before what the pool refuses.
-pub fn shared_fault(plain: u64, pool: &[u8], number: u64) -> u64
-    ensures { result ≡ shared_fault plain pool.now number }
+// What a shared call is turned back for, by what the plain call is. Only the plain 6 is told before what the pool
+// refuses.
+pub fn shared_fault(plain: Result<(), Refusal>, pool: &[u8], number: u64) -> Result<(), Refusal>
+    ensures { refused result ≡ shared_fault (refused plain) pool.now number }
 {
-    if plain == LENGTH {
+    if plain == Err(Refusal::Length) {
         return plain;
     }
     if pool::bad_pool_length(pool.len()) {
-        return LENGTH;
+        return Err(Refusal::Length);
     }
     if pool::no_share(pool, number) {
-        return STATE;
+        return Err(Refusal::State);
     }
     plain
 }
@@ -34,6 +35,7 @@ pub fn settle_pool(pool: &mut [u8], i: usize, record: &[u8], reply: u64)
     requires record_bound { reply % 256 ≡ 0 → kept_count «record».now < 65536 }
     ensures { pool.new ≡ pool_by pool.old i reply «record».now }
 {
+    // By hand, for C: the plain calls answer the word that C reads, and its low byte is the refusal's number.
     if reply % 256 != 0 {
         return;
     }

@@ -7,6 +7,7 @@ ghost use Rattle.call_shared.specs.Shared.{shared_open};
 
 use crate::lent::{settle_pool, shared_fault};
 use call_open::open_fault;
+use frontiers::width::CountWidth;
 
 // Opens watch number `number` with a rule's text: the reply, and the bytes of the three buffers after it.
 pub fn open(
@@ -19,6 +20,7 @@ pub fn open(
     pool: &mut [u8],
     number: u64,
 ) -> u64
+    // By hand, as promised: docs/PROOF-MAP.md names this function, so it asks for a number as before.
     requires { Width w }
     ensures reply { result ≡ reply_word (shared_open w rule.now k labels
         «record».old window.old pool.old number).call.answer }
@@ -29,10 +31,9 @@ pub fn open(
     ensures pool { pool.new ≡ (shared_open w rule.now k labels
         «record».old window.old pool.old number).pool }
 {
-    let plain = open_fault(w, k, labels, record.len(), window.len());
-    let fault = shared_fault(plain, pool, number);
-    if fault != 0 {
-        return fault;
+    let plain = open_fault(CountWidth::of(w), k, labels, record.len(), window.len());
+    if let Err(refusal) = shared_fault(plain, pool, number) {
+        return refusal.into();
     }
     let reply = call_open::open(w, rule, k, labels, record, window);
     settle_pool(pool, number as usize, record, reply);

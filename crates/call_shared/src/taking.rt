@@ -1,20 +1,14 @@
 // Take of a watch that shares: no more frontiers than the lent window has room for and the pool allows.
 
-ghost use Rattle.std.specs.Prelude.{min, ◌≡◌};
+ghost use Rattle.std.specs.Prelude.{◌≡◌};
 ghost use Rattle.frontiers.specs.Width.{Width};
 ghost use Rattle.answers.specs.Answer.{reply_word};
 ghost use Rattle.call_shared.specs.Shared.{shared_take};
 
 use crate::lent::{settle_pool, shared_fault};
 use call_take::{take_fault, take_within};
+use frontiers::width::CountWidth;
 use refusals::room_of;
-
-// The smaller one of two numbers.
-fn smaller(a: usize, b: usize) -> usize
-    ensures { result ≡ min a b }
-{
-    if a < b { a } else { b }
-}
 
 // Takes an event of watch number `number`: the reply, and the bytes of the four buffers after it.
 pub fn take(
@@ -25,6 +19,7 @@ pub fn take(
     pool: &mut [u8],
     number: u64,
 ) -> u64
+    // By hand, as promised: docs/PROOF-MAP.md names this function, so it asks for a number as before.
     requires { Width w }
     ensures reply { result ≡ reply_word (shared_take w «record».old window.old
         scratch.old pool.old number).call.answer }
@@ -37,14 +32,14 @@ pub fn take(
     ensures pool { pool.new ≡ (shared_take w «record».old window.old
         scratch.old pool.old number).pool }
 {
-    let plain = take_fault(w, record, window.len(), scratch.len());
-    let fault = shared_fault(plain, pool, number);
-    if fault != 0 {
-        return fault;
+    let width = CountWidth::of(w);
+    let plain = take_fault(width, record, window.len(), scratch.len());
+    if let Err(refusal) = shared_fault(plain, pool, number) {
+        return refusal.into();
     }
     let i = number as usize;
-    let allowed = smaller(pool::allowance(pool, i), room_of(w, window.len()));
-    let reply = take_within(w, allowed, record, window, scratch);
+    let allowed = pool::allowance(pool, i).min(room_of(width, window.len()));
+    let reply = take_within(width, allowed, record, window, scratch);
     settle_pool(pool, i, record, reply);
     reply
 }

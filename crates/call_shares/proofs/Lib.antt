@@ -1,2 +1,3 @@
 -- What the functions' proofs share.
+pub mod BadSteps
 pub mod PutSteps

@@ -2,47 +2,26 @@
 
 #![tactic(auto)]
 
-ghost use Rattle.std.specs.Prelude.{◌≤◌, ◌<◌, ◌≡◌, length};
+ghost use Rattle.std.specs.Prelude.{◌≤◌, ◌≡◌, length};
 ghost use Rattle.numbers.specs.Limit.{most_members};
 ghost use Rattle.answers.specs.Result.{result_word};
 ghost use Rattle.pool.specs.Pool.{pool_length};
 ghost use Rattle.call_shares.specs.Shares.{bad_shares, pool_of, set_shares};
 
 use codec::write_u16;
-use frontiers::moving::clear;
 use numbers::limit::{FRONTIERS, MEMBERS};
-use numbers::refusal::{LENGTH, SHARES};
+use numbers::refusal::Refusal;
 use pool::bad_pool_length;
-
-// A share, wider, with no loss.
-fn wide(share: u16) -> usize
-    ensures { (result ≡ share) × (result < 65536) }
-{
-    share as usize
-}
 
 // 49: no share, over eight, a share of 0, or shares that add up to more than 1,024. Eight are few enough for the sum to
 // fit.
 fn bad_shares(shares: &[u16]) -> bool
     ensures { result ≡ bad_shares shares.now }
 {
-    let n = shares.len();
-    if n == 0 {
+    if shares.is_empty() || MEMBERS < shares.len() || shares.contains(&0) {
         return true;
     }
-    if MEMBERS < n {
-        return true;
-    }
-    let mut sum = 0;
-    let mut i = 0;
-    while i < n {
-        let share = wide(shares[i]);
-        if share == 0 {
-            return true;
-        }
-        sum = sum + share;
-        i = i + 1;
-    }
+    let sum: usize = shares.iter().map(|&share| usize::from(share)).sum();
     FRONTIERS < sum
 }
 
@@ -52,11 +31,9 @@ fn put_shares(shares: &[u16], pool: &mut [u8])
     requires pool_len { length pool.old ≡ pool_length }
     ensures { pool.new ≡ pool_of shares.now }
 {
-    clear(pool, 0, 32);
-    let mut i = 0;
-    while i < shares.len() {
-        write_u16(pool, 2 * i, shares[i]);
-        i = i + 1;
+    pool.fill(0);
+    for (i, &share) in shares.iter().enumerate() {
+        write_u16(pool, 2 * i, share);
     }
 }
 
@@ -66,10 +43,10 @@ pub fn set_shares(shares: &[u16], pool: &mut [u8]) -> u64
     ensures pool { pool.new ≡ (set_shares shares.now pool.old).pool }
 {
     if bad_pool_length(pool.len()) {
-        return LENGTH;
+        return Refusal::Length.into();
     }
     if bad_shares(shares) {
-        return SHARES;
+        return Refusal::Shares.into();
     }
     put_shares(shares, pool);
     0

@@ -1,5 +1,5 @@
 -- Take from its lengths on: what turns it back, and what is known where nothing does.
-use Prim.Native.Nat.{ℕ, ◌*◌, ◌≤◌}
+use Prim.Native.Nat.{ℕ, ◌*◌, ◌≤◌, ◌<◌}
 use native.Mathlib.Omega.{arith}
 use native.Mathlib.Nat.{min-eq_right}
 use mathlib.Core.Path.{◌≡◌, ap, ◌∙◌}
@@ -46,12 +46,12 @@ module _ (w : ℕ) (s window scratch : List ℕ) where
       chosen_by (turn (bad_record_length w (length s) || (bad_window_length w (length window) || not (eqb (length scratch) (length window)))) 6 (turn (bad_state w (room_of w (length window)) s) 34 end))
       (turned s window scratch) (take_within w (allowed_of w 1024 window) s window) (lit< tt, (lit< tt, tt))
 
-  pub take-turned : (n : ℕ) → n ≡ fault → (n ≡ 0 → ⊥)
+  pub take-turned : (n : ℕ) → n ≡ fault → 0 < n
       → (n ≡ reply_word (take_call w s window scratch).answer) × (s ≡ (take_call w s window scratch).bytes)
       × (window ≡ (take_call w s window scratch).window) × (scratch ≡ (take_call w s window scratch).scratch)
   unfolding turned reply_word
   take-turned n e h =
-      let whole : take_call w s window scratch ≡ turned s window scratch n = take_by ∙ rw (← e, ne_eqb n 0 h) in
+      let whole : take_call w s window scratch ≡ turned s window scratch n = take_by ∙ rw (← e, ne_eqb n 0 (λ z. omega arith)) in
       (rw whole (omega arith), rw whole, rw whole, rw whole)
 
   pub take_fit : fault ≡ 0 → Fit w s (length window) (length scratch)

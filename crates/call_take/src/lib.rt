@@ -4,6 +4,7 @@
 #![tactic(auto)]
 
 ghost use Rattle.std.specs.Prelude.{ℕ, ◌-◌, ◌^◌, ◌≤◌, ◌<◌, ◌≡◌, cond, T, map, length, get_or, replicate};
+ghost use Rattle.numbers.specs.RefusalNumber.{refused};
 ghost use Rattle.codec.specs.Bit.{bit};
 ghost use Rattle.clocks.specs.Counts.{at};
 ghost use Rattle.frontiers.specs.Width.{Width};
@@ -20,7 +21,8 @@ ghost use Rattle.call_take.specs.TakeCode.{take_fault};
 
 use answers::state_word;
 use clocks::Event;
-use numbers::refusal::{FALSE_CLOCK, LENGTH, NO_ROOM, STATE};
+use frontiers::width::CountWidth;
+use numbers::refusal::Refusal;
 use records::fields::{
     closed_mask, kept_count, line_total, pending_event, process_count, table_place, taken_counts,
 };
@@ -32,7 +34,7 @@ use window_step::Stepping;
 // The window's step for a ready event, by the record's table and counts.
 fn step_window(
     record: &[u8],
-    w: usize,
+    w: CountWidth,
     window: &mut [u8],
     marks: &[u8],
     scratch: &mut [u8],
@@ -40,7 +42,6 @@ fn step_window(
     kept: usize,
     e: Event,
 )
-    requires width { Width w }
     requires record_len { length «record».now ≡ record_length w }
     requires record_bound { (process_count «record».now ≤ 8) × (line_total «record».now ≤ 64) }
     requires room_for { RoomFor w n window.old }
@@ -56,7 +57,7 @@ fn step_window(
     ensures frontiers { frontiers w window.new kept ≡ stepped (setting_in w «record».now e) (frontiers w window.old n) }
 {
     let k = process_count(record);
-    let closed = closed_mask(record) as u64;
+    let closed = u64::from(closed_mask(record));
     let lines = line_total(record);
     let reached = clocks::step::apply(e, taken_counts(record, w));
     let place = table_place(w);
@@ -74,8 +75,7 @@ fn step_window(
 }
 
 // The rule's truth at the last of so many frontiers: the table's last line.
-fn verdict(window: &[u8], w: usize, kept: usize, lines: u32) -> bool
-    requires width { Width w }
+fn verdict(window: &[u8], w: CountWidth, kept: usize, lines: u32) -> bool
     requires le_kept { (1 ≤ kept) × RoomFor w kept window.now }
     requires le_lines { (1 ≤ lines) × (lines ≤ 64) }
     ensures { result ≡ bit (get_or (map (λ f. f.values) (frontiers w window.now kept)) (kept - 1) 0) (lines - 1) }
@@ -84,8 +84,7 @@ fn verdict(window: &[u8], w: usize, kept: usize, lines: u32) -> bool
 }
 
 // Pending event number i leaves and is counted as taken.
-fn count_event(record: &mut [u8], w: usize, i: usize, e: Event, kept: u32)
-    requires width { Width w }
+fn count_event(record: &mut [u8], w: CountWidth, i: usize, e: Event, kept: u32)
     requires record_len { length «record».old ≡ record_length w }
     requires i_bound { (i < pending_count «record».old) × (pending_count «record».old ≤ 32) }
     requires by_index { (p : ℕ) → at e.clock p < 256 ^ w }
@@ -100,7 +99,7 @@ fn count_event(record: &mut [u8], w: usize, i: usize, e: Event, kept: u32)
 // after it.
 fn take_event(
     record: &mut [u8],
-    w: usize,
+    w: CountWidth,
     window: &mut [u8],
     marks: &[u8],
     scratch: &mut [u8],
@@ -108,7 +107,6 @@ fn take_event(
     i: usize,
     kept: usize,
 ) -> u64
-    requires width { Width w }
     requires record_len { length «record».old ≡ record_length w }
     requires record_bound { (process_count «record».old ≤ 8) × (1 ≤ line_total «record».old) × (line_total «record».old ≤ 64) }
     requires room_for { RoomFor w n window.old }
@@ -135,19 +133,18 @@ fn take_event(
 fn undecided_word(seen: bool) -> u64
     ensures { result ≡ reply_word (cond seen (turned_back 36 0) nothing_ready) }
 {
-    if seen { NO_ROOM } else { 0 }
+    if seen { Refusal::NoRoom.into() } else { 0 }
 }
 
 // Takes an event where at most so many frontiers of the window may be used: the reply, and the bytes of the three
 // buffers after it.
 pub fn take_within(
-    w: usize,
+    w: CountWidth,
     allowed: usize,
     record: &mut [u8],
     window: &mut [u8],
     scratch: &mut [u8],
 ) -> u64
-    requires width { Width w }
     requires record_len { length «record».old ≡ record_length w }
     requires record_bound { (process_count «record».old ≤ 8) × (1 ≤ line_total «record».old) × (line_total «record».old ≤ 64) }
     requires record_bound_2 { pending_count «record».old ≤ 32 }
@@ -161,16 +158,16 @@ pub fn take_within(
 {
     let n = kept_count(record) as usize;
     let mut marks = [0u8; 1024];
-    let choice = decide(record, w, window, &mut marks, n, allowed);
+    let choice = decide(record, w.bytes(), window, &mut marks, n, allowed);
     match choice {
         Choice::Undecided { seen } => {
-            frontiers::moving::clear_all(scratch);
+            scratch.fill(0);
             undecided_word(seen)
         }
         Choice::Falsified { place } => {
             remove_event(record, w, place);
-            frontiers::moving::clear_all(scratch);
-            FALSE_CLOCK
+            scratch.fill(0);
+            Refusal::FalseClock.into()
         }
         Choice::Chosen { place, kept } => take_event(
             record, w, window, &marks, scratch, n, place, kept,
@@ -178,37 +175,31 @@ pub fn take_within(
     }
 }
 
-// The number that a take is turned back with; 0 for none.
-pub fn take_fault(w: usize, record: &[u8], n: usize, m: usize) -> u64
-    requires { Width w }
-    ensures { result ≡ take_fault w «record».now n m }
+// What a take is turned back for, in their order.
+pub fn take_fault(w: CountWidth, record: &[u8], n: usize, m: usize) -> Result<(), Refusal>
+    ensures { refused result ≡ take_fault w «record».now n m }
 {
-    if bad_record_length(w, record.len()) {
-        return LENGTH;
-    }
-    if bad_window_length(w, n) {
-        return LENGTH;
-    }
-    if m != n {
-        return LENGTH;
+    if bad_record_length(w, record.len()) || bad_window_length(w, n) || m != n {
+        return Err(Refusal::Length);
     }
     if bad_state(record, w, room_of(w, n)) {
-        return STATE;
+        return Err(Refusal::State);
     }
-    0
+    Ok(())
 }
 
 // Takes the first event that is decided on: the reply, and the bytes of the three buffers after it.
 pub fn take(w: usize, record: &mut [u8], window: &mut [u8], scratch: &mut [u8]) -> u64
+    // By hand, as promised: docs/PROOF-MAP.md names this function, so it asks for a number as before.
     requires { Width w }
     ensures reply { result ≡ reply_word (take_call w «record».old window.old scratch.old).answer }
     ensures bytes { «record».new ≡ (take_call w «record».old window.old scratch.old).bytes }
     ensures window { window.new ≡ (take_call w «record».old window.old scratch.old).window }
     ensures scratch { scratch.new ≡ (take_call w «record».old window.old scratch.old).scratch }
 {
-    let fault = take_fault(w, record, window.len(), scratch.len());
-    if fault != 0 {
-        return fault;
+    let width = CountWidth::of(w);
+    match take_fault(width, record, window.len(), scratch.len()) {
+        Err(refusal) => refusal.into(),
+        Ok(()) => take_within(width, room_of(width, window.len()), record, window, scratch),
     }
-    take_within(w, room_of(w, window.len()), record, window, scratch)
 }

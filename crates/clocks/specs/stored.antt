@@ -3,6 +3,7 @@ pub mod BoundedLaws
 pub mod BoundedTurns
 pub mod TestedLaws
 pub mod CountsLaws
+pub mod CallLaws
 pub mod SearchLaws
 pub mod StepCountLaws
 pub mod RefusalLaws

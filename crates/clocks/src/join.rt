@@ -6,40 +6,27 @@ ghost use Rattle.clocks.specs.Bounds.{upper};
 ghost use Rattle.clocks.specs.Joined.{join_to};
 ghost use Rattle.clocks.specs.Counts.{at, list_of, clock_rows};
 
-// The larger of two counts.
-fn larger_count(a: u32, b: u32) -> u32
-    ensures { result ≡ max a b }
-{
-    if a < b { b } else { a }
-}
+use std::array;
 
 // The larger of two clocks, count by count.
 pub fn larger(a: [u32; 8], b: [u32; 8]) -> [u32; 8]
     ensures { result ≡ list_of 8 (upper (at a) (at b)) }
 {
-    let mut out = [0u32; 8];
-    let mut i = 0;
-    while i < 8 {
-        out[i] = larger_count(a[i], b[i]);
-        i += 1;
-    }
-    out
+    array::from_fn(|p| a[p].max(b[p]))
 }
 
 // The largest, count by count, of the clocks of the processes in a mask.
 pub fn join(last: [[u32; 8]; 8], mask: u8) -> [u32; 8]
     ensures { result ≡ list_of 8 (join_to 8 (bit mask) (clock_rows last)) }
 {
-    let word = mask as u64;
+    let word = u64::from(mask);
     let mut out = [0u32; 8];
-    let mut p: u32 = 0;
-    while p < 8 {
-        if codec::has_bit(word, p) {
-            let clock = last[p as usize];
-            let next = larger(clock, out);
-            out = next;
+    for (p, clock) in last.iter().enumerate() {
+        if codec::has_bit(word, p as u32) {
+            // A variable of its own: the check does not cover a call whose result is stored over an array it was given.
+            let joined = larger(*clock, out);
+            out = joined;
         }
-        p += 1;
     }
     out
 }

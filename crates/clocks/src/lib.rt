@@ -12,7 +12,7 @@ pub mod join;
 pub mod order;
 
 // An event as a process reports it (01, Clocks and cuts: event).
-#[derive(Clone, Copy)]
+#[derive(Clone, Copy, PartialEq, Eq)]
 pub struct Event {
     pub mask: u8,
     pub clock: [u32; 8],
@@ -20,7 +20,7 @@ pub struct Event {
 }
 
 // An event's place in the order of the pending events (01, The window: held events).
-#[derive(Clone, Copy)]
+#[derive(Clone, Copy, PartialEq, Eq, PartialOrd, Ord)]
 pub struct Key {
     pub process: u32,
     pub count: u32,

@@ -10,22 +10,13 @@ pub fn key(e: Event) -> Key
     ensures { result ≡ key_of e }
 {
     let process = codec::lowest_bit(e.mask);
-    if process < 8 {
-        let count = e.clock[process as usize];
-        return Key { process, count };
-    }
-    Key { process, count: 0 }
+    let count = e.clock.get(process as usize).copied().unwrap_or(0);
+    Key { process, count }
 }
 
 // Whether one key comes before another: a lower process, or the same one and a lower count.
 pub fn key_before(a: Key, b: Key) -> bool
     ensures { result ≡ key_before a b }
 {
-    if a.process < b.process {
-        return true;
-    }
-    if a.process == b.process {
-        return a.count < b.count;
-    }
-    false
+    a < b
 }

@@ -1,20 +1,18 @@
 // What an event or start labels are turned back for (01, Turned back, from the input: 7, 8, 9).
 
 ghost use Rattle.std.specs.Prelude.{◌≤◌, ◌≡◌, not, ◌&&◌, ◌||◌, eqb};
+ghost use Rattle.numbers.specs.RefusalNumber.{refused};
 ghost use Rattle.clocks.specs.Refusal.{bad_mask, bad_clock, bad_labels, bad_start};
 ghost use Rattle.clocks.specs.RefusalCode.{event_fault};
 
-use numbers::refusal::{CLOCK, LABELS, MASK};
+use numbers::refusal::Refusal;
 
 // 7: the mask is 0, or has a bit from k up.
 pub fn bad_mask(k: u32, mask: u64) -> bool
     requires { k ≤ 8 }
     ensures { result ≡ bad_mask k mask }
 {
-    if mask == 0 {
-        return true;
-    }
-    mask >> k != 0
+    mask == 0 || mask >> k != 0
 }
 
 // What 8 asks of one process: count 0 where it takes part, or not 0 where it is none of the k.
@@ -28,64 +26,43 @@ fn bad_count(count: u32, involved: bool, beyond: bool) -> bool
 pub fn bad_clock(k: u32, mask: u64, clock: [u32; 8]) -> bool
     ensures { result ≡ bad_clock k mask clock }
 {
-    let mut p: u32 = 0;
-    while p < 8 {
-        if bad_count(clock[p as usize], codec::has_bit(mask, p), k <= p) {
-            return true;
-        }
-        p += 1;
-    }
-    false
+    (0..8).any(|p: u32| bad_count(clock[p as usize], codec::has_bit(mask, p), k <= p))
 }
 
 // A label byte not 0 where there should be none.
 fn stray(outside: bool, label: u8) -> bool
     ensures { result ≡ (outside && not (eqb label 0)) }
 {
-    if outside { label != 0 } else { false }
+    outside && label != 0
 }
 
 // 9, of an event: a label byte not 0 at a process that does not take part.
 pub fn bad_labels(mask: u64, labels: [u8; 8]) -> bool
     ensures { result ≡ bad_labels mask labels }
 {
-    let mut p: u32 = 0;
-    while p < 8 {
-        if stray(!codec::has_bit(mask, p), labels[p as usize]) {
-            return true;
-        }
-        p += 1;
-    }
-    false
+    (0..8).any(|p: u32| stray(!codec::has_bit(mask, p), labels[p as usize]))
 }
 
 // 9, at open: a label byte not 0 from process k up.
 pub fn bad_start(k: u32, labels: [u8; 8]) -> bool
     ensures { result ≡ bad_start k labels }
 {
-    let mut p: u32 = 0;
-    while p < 8 {
-        if stray(k <= p, labels[p as usize]) {
-            return true;
-        }
-        p += 1;
-    }
-    false
+    (0..8).any(|p: u32| stray(k <= p, labels[p as usize]))
 }
 
-// The number that an event is turned back with, in their order; 0 for none.
-pub fn event_fault(k: u32, mask: u64, clock: [u32; 8], labels: [u8; 8]) -> u64
+// What an event is turned back for, in their order.
+pub fn event_fault(k: u32, mask: u64, clock: [u32; 8], labels: [u8; 8]) -> Result<(), Refusal>
     requires { k ≤ 8 }
-    ensures { result ≡ event_fault k mask clock labels }
+    ensures { refused result ≡ event_fault k mask clock labels }
 {
     if bad_mask(k, mask) {
-        return MASK;
+        return Err(Refusal::Mask);
     }
     if bad_clock(k, mask, clock) {
-        return CLOCK;
+        return Err(Refusal::Clock);
     }
     if bad_labels(mask, labels) {
-        return LABELS;
+        return Err(Refusal::Labels);
     }
-    0
+    Ok(())
 }

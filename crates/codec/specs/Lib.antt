@@ -3,6 +3,7 @@ pub mod Little
 pub mod SetsLaws
 pub mod LittleLaws
 pub mod PutLaws
+pub mod LibraryLaws
 pub mod Bit
 pub mod BitLaws
 pub mod LowestBit

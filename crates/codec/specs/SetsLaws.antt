@@ -1,6 +1,6 @@
 -- Laws of `sets`, a run of stores into a list: what it leaves, what it writes, and how runs compose.
 use Rattle.std.specs.Prelude.{ℕ, zero, suc, ◌+◌, ◌≤◌, ◌<◌, ◌≡◌, refl, List, [], ◌∷◌, ◌++◌, length, take, drop, get_or, set}
-use Rattle.std.proofs.Common.{add-zero, add-suc, suc-add, zero-add, arith, ap, ◌∙◌, append_assoc, append-nil, take-append-drop, drop_of_length-le, set-set, length-take-le, take_at, drop_at, drop-set-lt, get_or-set_other}
+use Rattle.std.proofs.Common.{add-zero, add-suc, suc-add, zero-add, arith, sym, ap, ◌∙◌, drop-drop, append_assoc, append-nil, take-append-drop, drop_of_length-le, set-set, length-take-le, take_at, drop_at, drop-set-lt, get_or-set_other}
 use Rattle.std.proofs.lemmas.List.Edits.{sets, sets-eq}
 use Rattle.std.proofs.Math.Seq.{take-nil, take-set-lt}
 use Rattle.std.proofs.lemmas.List.{set_comm, take-set-le, drop-set-add}
@@ -106,6 +106,11 @@ module _ {ℓ} {A : Type ℓ} where
       rw (e, ← sets-append s at xs (y ∷ zs), ← sets-append s at xs (z ∷ zs))
       (set-sets (set (sets s at xs) (at + length xs) y) (at + length xs) z (suc (at + length xs)) zs (omega arith)
       ∙ rw set-set)
+
+  -- Others in the place of n elements.
+  pub sets_part : (s : List A) (a n : ℕ) (bs : List A) → length bs ≡ n → a + n ≤ length s → take a s ++ (bs ++ drop n (drop a s)) ≡ sets s a bs
+  sets_part s a n bs e h =
+      rw (drop-drop n a s, ← append_assoc (take a s) bs (drop (a + n) s)) (sym (rw e at (sets-eq bs s a (omega arith))))
 
   -- A whole list stored over another.
   pub sets_whole : (s bs : List A) → length bs ≡ length s → sets s 0 bs ≡ bs

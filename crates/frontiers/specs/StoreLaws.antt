@@ -1,12 +1,13 @@
 -- What one turn of a loop adds that reads or stores counts or bytes one by one.
 use Rattle.std.specs.Prelude.{ℕ, ◌+◌, ◌*◌, ◌≤◌, ◌<◌, ◌-◌, ◌≡◌, List, [], ◌∷◌, ◌++◌, length, get_or, take, drop, set}
 use Rattle.std.proofs.Common.{arith, add-one, zero-add, suc-mul, add-zero, sym, ap, ◌∙◌, append-nil, length-drop, length-append, drop_of_length-le, ext_get_or, length-take-le, take-suc, get_or-take, get_or-drop, take_all}
-use Rattle.std.proofs.lemmas.List.Edits.{sets}
+use Rattle.std.proofs.lemmas.List.Edits.{sets, sets-eq}
 use Rattle.codec.specs.Little.{bytes_of, put}
 use Rattle.codec.specs.SetsLaws.{sets-append, sets-tail}
 use Rattle.frontiers.specs.BytesLaws.{length-count_bytes, count_bytes-append, count_bytes-one}
 use Rattle.frontiers.specs.Bytes.{count_bytes, frontier_bytes}
 use Rattle.frontiers.specs.declared.Frontier.{Frontier}
+use lib.Seq.{paste}
 
 -- ---- Places of counts
 
@@ -14,6 +15,12 @@ pub count_next : (p w : ℕ) → (p + 1) * w ≡ p * w + w
 count_next p w = rw add-one (suc-mul p w)
 
 -- ---- Runs of stores
+
+-- A copy of n elements over what stands from a on.
+pub pasted : (s : List ℕ) (a n : ℕ) (t : List ℕ) → n ≤ length t → a + n ≤ length s → paste s a t n ≡ sets s a (take n t)
+pasted s a n t h k =
+    let long : length (take n t) ≡ n = length-take-le n t h in
+    sym (rw long at (sets-eq (take n t) s a (rw long k)))
 
 -- The next element, stored behind the first p.
 pub sets_more : (s : List ℕ) (a : ℕ) (bs : List ℕ) (p : ℕ) → p < length bs

@@ -6,6 +6,7 @@ pub mod counts;
 pub mod moving;
 pub mod place;
 pub mod stored;
+pub mod width;
 
 // A kept cut: its counts, each process's labels and the mask of its last event there, and the truth of each line.
 #[derive(Clone, Copy)]

@@ -3,28 +3,20 @@
 ghost use Rattle.std.specs.Prelude.{◌+◌, ◌≤◌, ◌≡◌, length, take, drop, replicate};
 ghost use Rattle.std.proofs.lemmas.List.Edits.{sets};
 
-// Moves n bytes up by so many places, the last one first.
+// Moves n bytes up by so many places.
 pub fn move_up(s: &mut [u8], from: usize, n: usize, by: usize)
     requires { from + by + n ≤ length s.old }
     ensures { s.new ≡ sets s.old (from + by) (take n (drop from s.old)) }
 {
-    let mut i = n;
-    while 0 < i {
-        i = i - 1;
-        s[from + by + i] = s[from + i];
-    }
+    s.copy_within(from..from + n, from + by);
 }
 
-// Moves n bytes down by so many places, the first one first.
+// Moves n bytes down by so many places.
 pub fn move_down(s: &mut [u8], to: usize, n: usize, by: usize)
     requires { to + by + n ≤ length s.old }
     ensures { s.new ≡ sets s.old to (take n (drop (to + by) s.old)) }
 {
-    let mut i = 0;
-    while i < n {
-        s[to + i] = s[to + by + i];
-        i = i + 1;
-    }
+    s.copy_within(to + by..to + by + n, to);
 }
 
 // Stores one byte n times.
@@ -32,11 +24,7 @@ pub fn fill(s: &mut [u8], from: usize, n: usize, byte: u8)
     requires { from + n ≤ length s.old }
     ensures { s.new ≡ sets s.old from (replicate n byte) }
 {
-    let mut i = 0;
-    while i < n {
-        s[from + i] = byte;
-        i = i + 1;
-    }
+    s[from..from + n].fill(byte);
 }
 
 // Clears n bytes.
@@ -51,8 +39,7 @@ pub fn clear(s: &mut [u8], from: usize, n: usize)
 pub fn clear_all(s: &mut [u8])
     ensures { s.new ≡ replicate (length s.old) 0 }
 {
-    let all = s.len();
-    clear(s, 0, all);
+    s.fill(0);
 }
 
 // Copies the first n bytes of a slice to a place of another.
@@ -61,9 +48,5 @@ pub fn copy_in(s: &mut [u8], place: usize, from: &[u8], n: usize)
     requires n_in_bounds_2 { n ≤ length from.now }
     ensures { s.new ≡ sets s.old place (take n from.now) }
 {
-    let mut i = 0;
-    while i < n {
-        s[place + i] = from[i];
-        i = i + 1;
-    }
+    s[place..place + n].copy_from_slice(&from[..n]);
 }

@@ -1,10 +1,10 @@
 -- The statements on the faults of the program's lines, for faults that are defined apart from any reader (01, Turned
 -- back, from the input).
 use Rattle.std.specs.Prelude.{ℕ, ◌≡◌, ◌↔◌, List}
-use Rattle.lines.specs.declared.WatchLine.TheVariants.{Watch, Refused as WatchRefused}
-use Rattle.lines.specs.declared.StartLine.TheVariants.{Start, Refused as StartRefused}
-use Rattle.lines.specs.declared.DidLine.TheVariants.{Did, Refused as DidRefused}
-use Rattle.lines.specs.declared.RuleLine.TheVariants.{Rule, Refused as RuleRefused}
+use Rattle.lines.specs.WatchLine.{Watch, Refused as WatchRefused}
+use Rattle.lines.specs.StartLine.{Start, Refused as StartRefused}
+use Rattle.lines.specs.DidLine.{Did, Refused as DidRefused}
+use Rattle.lines.specs.RuleLine.{Rule, Refused as RuleRefused}
 use Rattle.lines.specs.Lines.{watch_line, start_line, did_line, rule_line}
 use Rattle.line_laws.specs.Grammar.{watch_pieces, start_pieces, did_pieces, Names}
 use Rattle.line_laws.specs.Fault.{LineFault, FirstLineFault}

@@ -4,14 +4,10 @@ use Rattle.clocks.specs.Counts.{list_of}
 use Rattle.codec.specs.Ascii.{ascii}
 use Rattle.rules.specs.Line.{constant_weight, unary_weight, binary_weight, line_count}
 use Rattle.rules.specs.Reader.{rest_at, a_word_at, e_word_at, word_at, and_then, expect, expect_digit, close_at, atom_at, inner_with, unary_with, binary_with, body_with, form_at, read_rule}
-use Rattle.lines.specs.declared.RuleLine.{RuleLine}
-use Rattle.lines.specs.declared.RuleLine.TheVariants.{Rule, Refused as RuleRefused}
-use Rattle.lines.specs.declared.WatchLine.{WatchLine}
-use Rattle.lines.specs.declared.WatchLine.TheVariants.{Watch, Refused as WatchRefused}
-use Rattle.lines.specs.declared.StartLine.{StartLine}
-use Rattle.lines.specs.declared.StartLine.TheVariants.{Start, Refused as StartRefused}
-use Rattle.lines.specs.declared.DidLine.{DidLine}
-use Rattle.lines.specs.declared.DidLine.TheVariants.{Did, Refused as DidRefused}
+use Rattle.lines.specs.RuleLine.{RuleLine, Rule, Refused as RuleRefused}
+use Rattle.lines.specs.WatchLine.{WatchLine, Watch, Refused as WatchRefused}
+use Rattle.lines.specs.StartLine.{StartLine, Start, Refused as StartRefused}
+use Rattle.lines.specs.DidLine.{DidLine, Did, Refused as DidRefused}
 use Rattle.codec.specs.Decimal.{digits, value_from}
 use Rattle.line_pieces.specs.Number.{number_of, number_at}
 use Rattle.line_pieces.specs.Reading.{value_read, then_byte, then_bytes, then_number, then_end, limited, then_last}

@@ -10,10 +10,10 @@ use Rattle.call_words.specs.Words.{unpack_counts, unpack_labels}
 use Rattle.codec.specs.Decimal.{value}
 use Rattle.line_pieces.specs.Reading.{line_limit}
 use Rattle.line_pieces.specs.NumberList.{eight_values}
-use Rattle.lines.specs.declared.WatchLine.TheVariants.{Watch}
-use Rattle.lines.specs.declared.StartLine.TheVariants.{Start}
-use Rattle.lines.specs.declared.DidLine.TheVariants.{Did}
-use Rattle.lines.specs.declared.RuleLine.TheVariants.{Rule}
+use Rattle.lines.specs.WatchLine.{Watch}
+use Rattle.lines.specs.StartLine.{Start}
+use Rattle.lines.specs.DidLine.{Did}
+use Rattle.lines.specs.RuleLine.{Rule}
 use Rattle.lines.specs.Lines.{rule_text, rule_line, k_limit, count_limit, label_limit, process_limit, room_limit, watch_line, start_line, did_line}
 use Rattle.line_laws.specs.Grammar.{Numeral, Numerals, spaced, between}
 

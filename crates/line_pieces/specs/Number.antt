@@ -1,8 +1,7 @@
 -- A number in a program's line (01, Examples: the program; Turned back, from the input: 1 and 10).
 use Rattle.std.specs.Prelude.{ℕ, ◌+◌, cond, ◌&&◌, List, [], ◌∷◌, leb, ltb, eqb, length, drop}
 use Rattle.codec.specs.Decimal.{digits, value}
-use Rattle.line_pieces.specs.declared.Read.{Read}
-use Rattle.line_pieces.specs.declared.Read.TheVariants.{At, Refused}
+use Rattle.line_pieces.specs.Read.{Read, At, Refused}
 
 -- A number is read from its digits ds, which begin at place i, and has to be one of `least` to `most`. 1 where there
 -- is no digit, or at the digit behind a needless leading 0; 10 at the first digit where the number is another.

@@ -4,7 +4,7 @@ use Rattle.std.proofs.Common.{arith, add-one, drop_of_length-le, drop-cons, ltb-
 use Rattle.rules.specs.Text.{byte_at}
 use Rattle.rules.specs.reading.TextLaws.{byte_at_behind}
 use Rattle.clocks.specs.stored.BoundedLaws.{and-true}
-use Rattle.line_pieces.specs.declared.Read.TheVariants.{At, Refused}
+use Rattle.line_pieces.specs.Read.{At, Refused}
 use Rattle.codec.specs.Decimal.{is_digit, digits, value_from, value}
 use Rattle.line_pieces.specs.Number.{number_of, number_at}
 

@@ -3,8 +3,7 @@
 use Rattle.std.specs.Prelude.{ℕ, zero, suc, ◌+◌, Bool, false, cond, ◌&&◌, List, [], ◌∷◌, ◌++◌, eqb, leb, length}
 use Rattle.clocks.specs.Counts.{at, list_of}
 use Rattle.rules.specs.Text.{byte_at}
-use Rattle.line_pieces.specs.declared.Read.{Read}
-use Rattle.line_pieces.specs.declared.Read.TheVariants.{At, Refused}
+use Rattle.line_pieces.specs.Read.{Read, At, Refused}
 use Rattle.line_pieces.specs.Number.{number_at}
 
 -- A list read: its numbers, and a reading that stands behind the last of them and keeps how many there are.

@@ -9,17 +9,16 @@ pub mod reading;
 // Lists of numbers.
 pub mod list;
 
-// Where a reading stands, with the number read last; or the first fault met (01, Turned back, from the input: 1 and
-// 10).
-#[derive(Clone, Copy)]
-pub enum Read {
-    At { place: usize, value: u64 },
-    Refused { number: u8, place: usize },
+// Where a reading stands, with the number read last.
+#[derive(Clone, Copy, Debug, PartialEq, Eq)]
+pub struct Here {
+    pub place: usize,
+    pub value: u64,
 }
 
-// A list read: its first eight numbers, and how many they are in all.
-#[derive(Clone, Copy)]
+// A list read: its first eight numbers, and where the reading stands after it, with how many they are in all.
+#[derive(Clone, Copy, Debug, PartialEq, Eq)]
 pub struct Numbers {
     pub values: [u64; 8],
-    pub read: Read,
+    pub here: Here,
 }

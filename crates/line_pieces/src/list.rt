@@ -1,128 +1,127 @@
 // Lists of numbers, single spaces between them.
 
-ghost use Rattle.std.specs.Prelude.{◌+◌, ◌≤◌, ◌<◌, ◌≡◌, cond, [], set};
-ghost use Rattle.line_pieces.specs.Reading.{value_read};
+ghost use Rattle.std.specs.Prelude.{◌+◌, ◌≤◌, ◌≡◌, Ok, cond, [], set, IfOk};
+ghost use Rattle.line_pieces.specs.Read.{At};
+ghost use Rattle.line_pieces.specs.ReadingCode.{here_of, read_of};
 ghost use Rattle.line_pieces.specs.NumberList.{list_read, all_numbers_at, then_list, then_spaced_list, then_close};
-ghost use Rattle.line_pieces.specs.NumberListCode.{numbers_read};
+ghost use Rattle.line_pieces.specs.NumberListCode.{IsList, ascending};
 
-use crate::number::{byte_at, read_number};
-use crate::{Numbers, Read};
+use crate::number::read_number;
+use crate::reading::has_byte;
+use crate::{Here, Numbers};
+use numbers::fault::Fault;
+use numbers::refusal::Refusal;
 
-// Eight numbers with number n among them replaced; those from the eighth up are not kept.
-pub fn keep(values: [u64; 8], n: u64, v: u64) -> [u64; 8]
-    ensures { result ≡ set values n v }
+// Keeps a value as number n of eight; from the eighth up nothing is kept.
+pub fn keep(values: &mut [u64; 8], n: usize, v: u64)
+    ensures { values.new ≡ set values.old n v }
 {
-    let mut out = values;
-    if n < 8 {
-        out[n as usize] = v;
+    // By hand, for the proof: after a write by `get_mut` only the length is known.
+    if n < values.len() {
+        values[n] = v;
     }
-    out
 }
 
-// What the number behind v is at least.
-fn least_behind(ascending: bool, v: u64) -> u64
-    requires { v ≤ 4294967295 }
-    ensures { result ≡ cond ascending (v + 1) 0 }
-{
-    if ascending { v + 1 } else { 0 }
+// The order of a list's numbers.
+#[derive(Clone, Copy, Debug, PartialEq, Eq)]
+pub enum Order {
+    Ascending,
+    Any,
+}
+
+impl Order {
+    ghost use Rattle.line_pieces.specs.NumberListCode.{ascending};
+
+    // What the number after v is at least.
+    fn least_after(self, v: u64) -> u64
+        requires { v ≤ 4294967295 }
+        ensures { result ≡ cond (ascending self) (v + 1) 0 }
+    {
+        match self {
+            Order::Ascending => v + 1,
+            Order::Any => 0,
+        }
+    }
 }
 
 // All the numbers from a place on.
-fn read_numbers(line: &[u8], start: usize, ascending: bool, most: u64) -> Numbers
+fn read_numbers(line: &[u8], start: usize, order: Order, most: u64) -> Result<Numbers, Fault>
     requires { most ≤ 4294967295 }
-    ensures { result ≡ numbers_read (all_numbers_at line.now ascending most start) }
+    ensures { IsList result (all_numbers_at line.now (ascending order) most start) }
 {
     let mut values = [0u64; 8];
-    let mut count: u64 = 0;
+    let mut count: usize = 0;
     let mut least: u64 = 0;
     let mut at = start;
     loop {
-        let found = read_number(line, at, least, most);
-        match found {
-            Read::Refused { number, place } => {
-                let read = Read::Refused { number, place };
-                return Numbers { values, read };
-            }
-            Read::At { place, value } => {
-                let more = keep(values, count, value);
-                values = more;
-                count += 1;
-                if byte_at(line, place) != 32 {
-                    let read = Read::At {
-                        place,
-                        value: count,
-                    };
-                    return Numbers { values, read };
-                }
-                least = least_behind(ascending, value);
-                at = place + 1;
-            }
+        let found = read_number(line, at, least, most)?;
+        keep(&mut values, count, found.value);
+        count += 1;
+        if !has_byte(line, found.place, b' ') {
+            let here = Here {
+                place: found.place,
+                value: count as u64,
+            };
+            return Ok(Numbers { values, here });
         }
+        least = order.least_after(found.value);
+        at = found.place + 1;
     }
 }
 
-// No numbers, where a reading stands or with its fault.
-fn no_numbers(read: Read) -> Numbers
-    ensures { result ≡ numbers_read (list_read [] read) }
+// No numbers, where a reading stands.
+fn no_numbers(place: usize) -> Numbers
+    ensures { IsList (Ok result) (list_read [] (At place 0)) }
 {
     Numbers {
         values: [0u64; 8],
-        read,
+        here: Here { place, value: 0 },
     }
 }
 
-// A list behind its opening bracket: it may be empty.
-pub fn then_list(line: &[u8], ascending: bool, most: u64, r: Read) -> Numbers
+// A list after its opening bracket: it may be empty.
+pub fn then_list(line: &[u8], order: Order, most: u64, here: Here) -> Result<Numbers, Fault>
     requires { most ≤ 4294967295 }
-    ensures { result ≡ numbers_read (then_list line.now ascending most r) }
+    ensures { IsList result (then_list line.now (ascending order) most (here_of here)) }
 {
-    match r {
-        Read::At { place, value: _ } => {
-            if byte_at(line, place) == 41 {
-                return no_numbers(Read::At { place, value: 0 });
-            }
-            read_numbers(line, place, ascending, most)
-        }
-        Read::Refused { number, place } => no_numbers(Read::Refused { number, place }),
+    if has_byte(line, here.place, b')') {
+        return Ok(no_numbers(here.place));
     }
+    read_numbers(line, here.place, order, most)
 }
 
-// A list behind a line's word, with a space before its first number.
-pub fn then_spaced_list(line: &[u8], most: u64, r: Read) -> Numbers
+// A list after a line's word, with a space before its first number.
+pub fn then_spaced_list(line: &[u8], most: u64, here: Here) -> Result<Numbers, Fault>
     requires { most ≤ 4294967295 }
-    ensures { result ≡ numbers_read (then_spaced_list line.now most r) }
+    ensures { IsList result (then_spaced_list line.now most (here_of here)) }
 {
-    match r {
-        Read::At { place, value: _ } => {
-            if byte_at(line, place) != 32 {
-                return no_numbers(Read::At { place, value: 0 });
-            }
-            read_numbers(line, place + 1, false, most)
-        }
-        Read::Refused { number, place } => no_numbers(Read::Refused { number, place }),
+    if !has_byte(line, here.place, b' ') {
+        return Ok(no_numbers(here.place));
     }
+    read_numbers(line, here.place + 1, Order::Any, most)
 }
 
 // The closing bracket of a list that has `least` to `most` numbers.
-pub fn then_close(line: &[u8], least: u64, most: u64, r: Read) -> Read
-    ensures { (result ≡ then_close line.now least most r) × (value_read result ≤ most) }
+#[tactic(auto, unfolding(crate::specs::NumberList::then_close))]
+pub fn then_close(line: &[u8], least: u64, most: u64, here: Here) -> Result<Here, Fault>
+    ensures value { read_of result ≡ then_close line.now least most (here_of here) }
+    ensures few { IfOk result (λ closed. closed.value ≤ most) }
 {
-    match r {
-        Read::At { place, value } => {
-            if byte_at(line, place) != 41 {
-                return Read::Refused { number: 1, place };
-            }
-            if value < least {
-                return Read::Refused { number: 10, place };
-            }
-            if most < value {
-                return Read::Refused { number: 10, place };
-            }
-            Read::At {
-                place: place + 1,
-                value,
-            }
-        }
-        Read::Refused { number, place } => Read::Refused { number, place },
+    let Here { place, value } = here;
+    if !has_byte(line, place, b')') {
+        return Err(Fault {
+            refusal: Refusal::Grammar,
+            place,
+        });
     }
+    if !(least..=most).contains(&value) {
+        return Err(Fault {
+            refusal: Refusal::LineLimit,
+            place,
+        });
+    }
+    Ok(Here {
+        place: place + 1,
+        value,
+    })
 }

@@ -1,103 +1,81 @@
 // Numbers, from their digits.
 
-ghost use Rattle.std.specs.Prelude.{◌≤◌, ◌<◌, ◌≡◌};
-ghost use Rattle.rules.specs.Text.{byte_at};
-ghost use Rattle.codec.specs.Decimal.{is_digit};
+ghost use Rattle.std.specs.Prelude.{◌≤◌, ◌≡◌};
+ghost use Rattle.line_pieces.specs.ReadingCode.{read_of};
 ghost use Rattle.line_pieces.specs.Number.{number_at};
 ghost use Rattle.line_pieces.specs.Digits as digits;
 ghost use Rattle.line_pieces.specs.Digits.{DigitsRead};
 
-use crate::Read;
+use crate::Here;
+use crate::reading::has_byte;
+use numbers::fault::Fault;
+use numbers::refusal::Refusal;
 
-// Digits read: the place behind them, and the number that they say.
+// The largest number that is told apart from larger ones.
+const LARGEST: u64 = 4294967295;
+
+// Digits read: the place after them, and the number that they say.
 #[derive(Clone, Copy)]
-pub(crate) struct Digits {
-    pub(crate) end: usize,
-    pub(crate) value: u64,
-}
-
-// A byte, wider.
-fn wide(x: u8) -> u64
-    ensures { (result ≡ x) × (result < 256) }
-{
-    x as u64
-}
-
-// The byte at a place of a line; behind its end 256, which is no byte.
-pub fn byte_at(line: &[u8], i: usize) -> u64
-    ensures { result ≡ byte_at line.now i }
-{
-    if i < line.len() { wide(line[i]) } else { 256 }
-}
-
-// Whether a byte is a digit.
-fn is_digit(c: u64) -> bool
-    ensures { result ≡ is_digit c }
-{
-    (48 <= c) & (c <= 57)
+struct Digits {
+    end: usize,
+    value: u64,
 }
 
 // A number with one digit more. If it is above 4,294,967,295 already it stays as it is: so it stays above, and does
 // not wrap.
-fn grown(value: u64, c: u64) -> u64
-    requires { (48 ≤ c) × (c ≤ 57) }
-    ensures { result ≡ digits.grown value c }
+#[tactic(auto, unfolding(crate::specs::Digits::grown))]
+fn grown(value: u64, digit: u8) -> u64
+    requires { (48 ≤ digit) × (digit ≤ 57) }
+    ensures { result ≡ digits.grown value digit }
 {
-    if value <= 4294967295 {
-        10 * value + (c - 48)
+    if value <= LARGEST {
+        10 * value + u64::from(digit - b'0')
     } else {
         value
     }
 }
 
 // The digits from a place on, and the number that they say.
-fn read_digits(line: &[u8], i: usize) -> Digits
-    ensures { DigitsRead line.now i result.end result.value }
+fn read_digits(line: &[u8], start: usize) -> Digits
+    ensures { DigitsRead line.now start result.end result.value }
 {
-    let mut end = i;
     let mut value: u64 = 0;
-    while end < line.len() {
-        let c = byte_at(line, end);
-        if !is_digit(c) {
+    for end in start..line.len() {
+        let digit = line[end];
+        if !digit.is_ascii_digit() {
             return Digits { end, value };
         }
-        value = grown(value, c);
-        end += 1;
+        value = grown(value, digit);
     }
-    Digits { end, value }
+    Digits {
+        end: start.max(line.len()),
+        value,
+    }
 }
 
 // The number at a place, from `least` to `most`.
-pub fn read_number(line: &[u8], i: usize, least: u64, most: u64) -> Read
+pub fn read_number(line: &[u8], start: usize, least: u64, most: u64) -> Result<Here, Fault>
     requires { most ≤ 4294967295 }
-    ensures { result ≡ number_at line.now i least most }
+    ensures { read_of result ≡ number_at line.now start least most }
 {
-    let found = read_digits(line, i);
-    let end = found.end;
-    let value = found.value;
-    if end <= i {
-        return Read::Refused {
-            number: 1,
-            place: i,
-        };
+    let Digits { end, value } = read_digits(line, start);
+    if end <= start {
+        return Err(Fault {
+            refusal: Refusal::Grammar,
+            place: start,
+        });
     }
-    if (byte_at(line, i) == 48) & (i + 1 < end) {
-        return Read::Refused {
-            number: 1,
-            place: i + 1,
-        };
+    if has_byte(line, start, b'0') && start + 1 < end {
+        return Err(Fault {
+            refusal: Refusal::Grammar,
+            place: start + 1,
+        });
     }
-    if value < least {
-        return Read::Refused {
-            number: 10,
-            place: i,
-        };
+    if !(least..=most).contains(&value) {
+        return Err(Fault {
+            refusal: Refusal::LineLimit,
+            place: start,
+        });
     }
-    if most < value {
-        return Read::Refused {
-            number: 10,
-            place: i,
-        };
-    }
-    Read::At { place: end, value }
+    Ok(Here { place: end, value })
 }

@@ -4,16 +4,11 @@ use Rattle.clocks.specs.Counts.{at}
 use Rattle.codec.specs.Ascii.{ascii}
 use Rattle.rules.specs.Text.{byte_at}
 use Rattle.rules.specs.Reader.{Reading, formed, faulty, read_rule}
-use Rattle.line_pieces.specs.declared.Read.{Read}
-use Rattle.line_pieces.specs.declared.Read.TheVariants.{At, Refused}
-use Rattle.lines.specs.declared.WatchLine.{WatchLine}
-use Rattle.lines.specs.declared.WatchLine.TheVariants.{Watch, Refused as WatchRefused}
-use Rattle.lines.specs.declared.StartLine.{StartLine}
-use Rattle.lines.specs.declared.StartLine.TheVariants.{Start, Refused as StartRefused}
-use Rattle.lines.specs.declared.DidLine.{DidLine}
-use Rattle.lines.specs.declared.DidLine.TheVariants.{Did, Refused as DidRefused}
-use Rattle.lines.specs.declared.RuleLine.{RuleLine}
-use Rattle.lines.specs.declared.RuleLine.TheVariants.{Rule, Refused as RuleRefused}
+use Rattle.line_pieces.specs.Read.{Read, At, Refused}
+use Rattle.lines.specs.WatchLine.{WatchLine, Watch, Refused as WatchRefused}
+use Rattle.lines.specs.StartLine.{StartLine, Start, Refused as StartRefused}
+use Rattle.lines.specs.DidLine.{DidLine, Did, Refused as DidRefused}
+use Rattle.lines.specs.RuleLine.{RuleLine, Rule, Refused as RuleRefused}
 use Rattle.line_pieces.specs.Reading.{value_read, then_byte, then_bytes, head_read, then_number, then_end, limited, then_last}
 use Rattle.line_pieces.specs.NumberList.{then_list, then_spaced_list, then_close, eight_values}
 use Rattle.lines.specs.Words.{packed_word, placed}

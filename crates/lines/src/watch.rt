@@ -1,28 +1,39 @@
 // The line that opens: processes and room.
 
 ghost use Rattle.std.specs.Prelude.{◌≡◌};
-ghost use Rattle.lines.specs.Lines.{watch_of, watch_line};
+ghost use Rattle.lines.specs.Lines.{watch_line};
+ghost use Rattle.lines.specs.LinesCode.{watch_line_of, watch_pieces};
 
-use crate::WatchLine;
 use crate::limits::{K_LIMIT, ROOM_LIMIT};
-use line_pieces::Read;
-use line_pieces::reading::{head, then_byte, then_last, then_number, value_of};
+use line_pieces::reading::{head, limited, then_byte, then_end, then_number};
+use numbers::fault::Fault;
 
-// What the line's parts make up.
-fn watch_of(k: u64, room: Read) -> WatchLine
-    ensures { result ≡ watch_of k room }
+// The line that opens: the number of processes and the room in frontiers.
+#[derive(Clone, Copy, Debug, PartialEq, Eq)]
+pub struct Watch {
+    pub k: u64,
+    pub room: u64,
+}
+
+// The line's pieces, in a line of any length.
+fn pieces(line: &[u8]) -> Result<Watch, Fault>
+    ensures { watch_line_of result ≡ watch_pieces line.now }
 {
-    match room {
-        Read::At { place: _, value } => WatchLine::Watch { k, room: value },
-        Read::Refused { number, place } => WatchLine::Refused { number, place },
-    }
+    let word = head(line, b"(watch ")?;
+    let k = then_number(line, 0, K_LIMIT, word)?;
+    let space = then_byte(line, b' ', k)?;
+    let room = then_number(line, 1, ROOM_LIMIT, space)?;
+    let bracket = then_byte(line, b')', room)?;
+    let end = then_end(line, bracket)?;
+    Ok(Watch {
+        k: k.value,
+        room: end.value,
+    })
 }
 
 // Reads (watch k room).
-pub fn read_watch(line: &[u8]) -> WatchLine
-    ensures { result ≡ watch_line line.now }
+pub fn read_watch(line: &[u8]) -> Result<Watch, Fault>
+    ensures { watch_line_of result ≡ watch_line line.now }
 {
-    let k = then_number(line, 0, K_LIMIT, head(line, b"(watch "));
-    let room = then_number(line, 1, ROOM_LIMIT, then_byte(line, b' ', k));
-    watch_of(value_of(k), then_last(line, room))
+    limited(line, pieces(line))
 }

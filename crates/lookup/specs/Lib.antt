@@ -8,5 +8,3 @@ pub mod Ascending
 pub mod OrderLaws
 pub mod SeekLaws
 pub mod KeyLaws
--- What the functions' contracts cite
-pub mod OrderCode

@@ -2,6 +2,8 @@
 -- ascending lists.
 use Rattle.std.specs.Prelude.{ℕ, ◌<◌, zero, suc, ◌+◌, ◌≤◌, ◌≡◌, refl, Bool, true, ◌&&◌, ◌||◌, false, List, [], ◌∷◌, ◌⊎◌, T, ltb, eqb, length, get_or, drop}
 use Rattle.std.proofs.Common.{suc-le-suc, arith, le_refl, le_of_suc-le-suc, add-one, sym, ap, subst, ◌∙◌, inl, inr, ⊎_elim, eqb→eq, ltb→lt, lt→ltb, drop_of_length-le, drop-cons, ext_get_or, lt-ltb, le-ltb, eq-eqb, ne_eqb}
+use Rattle.std.specs.Prelude.{nat_eq}
+use Rattle.std.specs.Cmp.Lexicographic.{pointwise}
 use Rattle.std.proofs.Math.Decide.{dec_lt}
 use Rattle.std.proofs.Math.Bool.{or-false}
 use Rattle.std.proofs.Math.Dec.{eqb_refl}
@@ -121,6 +123,14 @@ not-before a b e n = go (before-total a b e)
     go (first t) = absurd (n t)
     go (equal q) = inl q
     go (last t) = inr t
+
+-- As the library compares arrays.
+pub same_derived : (a b : List ℕ) → pointwise nat_eq a b ≡ same a b
+unfolding same
+same_derived [] [] = refl
+same_derived [] (y ∷ ys) = refl
+same_derived (x ∷ xs) [] = refl
+same_derived (x ∷ xs) (y ∷ ys) = ap (λ (b : Bool). eqb x y && b) (same_derived xs ys)
 
 -- ---- By places
 

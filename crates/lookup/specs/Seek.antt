@@ -4,15 +4,15 @@
 use Rattle.std.specs.Prelude.{ℕ, zero, suc, ◌+◌, ◌-◌, ◌*◌, ◌/◌, true, false, cond, List, [], map, ltb, length, get_or}
 use Rattle.lookup.specs.Order.{before, same}
 use Rattle.frontiers.specs.declared.Frontier.{Frontier}
-use Rattle.lookup.specs.declared.Standing.{Standing}
-use Rattle.lookup.specs.declared.Standing.TheVariants.{Before, Same, Behind}
+use Rattle.std.specs.declared.cmp.Ordering.{Ordering}
+use Rattle.std.specs.declared.cmp.Ordering.TheVariants.{Less, Equal, Greater}
 
--- How counts stand to a key: the same, or before it or behind it in the order of frontiers.
-unfoldable pub standing : (counts key : List ℕ) → Standing
-standing counts key = cond (same counts key) Same (cond (before counts key) Before Behind)
+-- How counts stand to a key: the same, or before it or after it in the order of frontiers.
+unfoldable pub standing : (counts key : List ℕ) → Ordering
+standing counts key = cond (same counts key) Equal (cond (before counts key) Less Greater)
 
 -- How the key at a place stands to the one sought.
-abbrev pub stands_to : (keys : List (List ℕ)) (key : List ℕ) (i : ℕ) → Standing
+abbrev pub stands_to : (keys : List (List ℕ)) (key : List ℕ) (i : ℕ) → Ordering
 stands_to keys key i = standing (get_or keys i []) key
 
 -- The place from lo on and below hi at which the key stands, by halving; at most d times.
@@ -22,10 +22,10 @@ bisect keys key (suc d) lo hi =
     let middle = lo + (hi - lo) / 2 in
     elim (ltb lo hi) [
       | false ↦ length keys
-      | true ↦ elim (stands_to keys key middle) [ Before ↦ bisect keys key d (middle + 1) hi | Same ↦ middle | Behind ↦ bisect keys key d lo middle ]
+      | true ↦ elim (stands_to keys key middle) [ Less ↦ bisect keys key d (middle + 1) hi | Equal ↦ middle | Greater ↦ bisect keys key d lo middle ]
     ]
 
--- The same behind lo, by steps that double; at most d of them.
+-- The same after lo, by steps that double; at most d of them.
 unfoldable pub gallop : (keys : List (List ℕ)) (key : List ℕ) (n lo width : ℕ) → ℕ
 gallop keys key zero lo width = length keys
 gallop keys key (suc d) lo width =
@@ -33,9 +33,9 @@ gallop keys key (suc d) lo width =
     elim (ltb far (length keys)) [
       | false ↦ bisect keys key (length keys) (lo + 1) (length keys)
       | true ↦ elim (stands_to keys key far) [
-        | Before ↦ gallop keys key d far (width * 2)
-        | Same ↦ far
-        | Behind ↦ bisect keys key (length keys) (lo + 1) far
+        | Less ↦ gallop keys key d far (width * 2)
+        | Equal ↦ far
+        | Greater ↦ bisect keys key (length keys) (lo + 1) far
       ]
     ]
 
@@ -45,9 +45,9 @@ seek keys key hint =
     elim (ltb hint (length keys)) [
       | false ↦ bisect keys key (length keys) 0 (length keys)
       | true ↦ elim (stands_to keys key hint) [
-        | Before ↦ gallop keys key (length keys) hint 1
-        | Same ↦ hint
-        | Behind ↦ bisect keys key (length keys) 0 hint
+        | Less ↦ gallop keys key (length keys) hint 1
+        | Equal ↦ hint
+        | Greater ↦ bisect keys key (length keys) 0 hint
       ]
     ]
 

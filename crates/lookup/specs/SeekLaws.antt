@@ -8,8 +8,8 @@ use mathlib.Core.List.{List, [], Memᴰ}
 use Rattle.std.proofs.Math.ListN.{length}
 use Rattle.clocks.specs.cuts.EventLaws.{T_true}
 use Rattle.lookup.specs.Seek.{standing, stands_to, bisect, gallop, seek}
-use Rattle.lookup.specs.declared.Standing.{Standing}
-use Rattle.lookup.specs.declared.Standing.TheVariants.{Before, Same, Behind}
+use Rattle.std.specs.declared.cmp.Ordering.{Ordering}
+use Rattle.std.specs.declared.cmp.Ordering.TheVariants.{Less, Equal, Greater}
 use Rattle.lookup.specs.Order.{before, same}
 use Rattle.lookup.specs.Ascending.{Ascending}
 use Rattle.lookup.specs.OrderLaws.{same_e, same_refl, before_asym, before_differ}
@@ -21,25 +21,25 @@ not_T : (b : Bool) → (T b → ⊥) → b ≡ false
 not_T true n = absurd (n tt)
 not_T false n = refl
 
-pub standing-same : (a : List ℕ) → standing a a ≡ Same
+pub standing-same : (a : List ℕ) → standing a a ≡ Equal
 unfolding standing
 standing-same a = rw (T_true (same a a) (same_refl a))
 
-pub standing-before : (a b : List ℕ) → T (before a b) → standing a b ≡ Before
+pub standing-before : (a b : List ℕ) → T (before a b) → standing a b ≡ Less
 unfolding standing
 standing-before a b t = rw (not_T (same a b) (λ s. before_differ a b t (same_e a b s)), T_true (before a b) t)
 
-pub standing_behind : (a b : List ℕ) → T (before b a) → standing a b ≡ Behind
+pub standing_behind : (a b : List ℕ) → T (before b a) → standing a b ≡ Greater
 unfolding standing
 standing_behind a b t = rw (not_T (same a b) (λ s. before_differ b a t (sym (same_e a b s))), not_T (before a b) (before_asym b a t))
 
 -- Only the key itself stands as the same.
-pub standing_e : (a b : List ℕ) → standing a b ≡ Same → a ≡ b
+pub standing_e : (a b : List ℕ) → standing a b ≡ Equal → a ≡ b
 unfolding standing
 standing_e a b e = go (same a b) refl (before a b) refl
   where
-    is_same : Standing → Bool
-    is_same x = elim x [ Before ↦ false | Same ↦ true | Behind ↦ false ]
+    is_same : Ordering → Bool
+    is_same x = elim x [ Less ↦ false | Equal ↦ true | Greater ↦ false ]
 
     go : (t : Bool) → same a b ≡ t → (u : Bool) → before a b ≡ u → a ≡ b
     go true q u r = same_e a b (rw q tt)
@@ -54,9 +54,9 @@ module _ (keys : List (List ℕ)) (key : List ℕ) where
   bisect-end zero lo hi l = refl
   bisect-end (suc d) lo hi l = rw (le-ltb lo hi l, bisect)
 
-  bisect-turn : (d lo hi : ℕ) → lo < hi → (b : Standing) → stands_to keys key (lo + (hi - lo) / 2) ≡ b
+  bisect-turn : (d lo hi : ℕ) → lo < hi → (b : Ordering) → stands_to keys key (lo + (hi - lo) / 2) ≡ b
       → bisect keys key (suc d) lo hi
-      ≡ elim b [ Before ↦ bisect keys key d (lo + (hi - lo) / 2 + 1) hi | Same ↦ lo + (hi - lo) / 2 | Behind ↦ bisect keys key d lo (lo + (hi - lo) / 2) ]
+      ≡ elim b [ Less ↦ bisect keys key d (lo + (hi - lo) / 2 + 1) hi | Equal ↦ lo + (hi - lo) / 2 | Greater ↦ bisect keys key d lo (lo + (hi - lo) / 2) ]
   unfolding bisect
   bisect-turn d lo hi l b t = rw (lt-ltb lo hi l, t, bisect)
 
@@ -65,26 +65,26 @@ module _ (keys : List (List ℕ)) (key : List ℕ) where
   bisect_fuel (suc d) zero lo hi l m = bisect-end (suc d) lo hi (omega arith) ∙ sym (bisect-end zero lo hi (omega arith))
   bisect_fuel (suc d) (suc e) lo hi l m = go (dec_lt lo hi) (stands_to keys key (lo + (hi - lo) / 2)) refl (bisect_fuel d e)
     where
-      go : Dec (lo < hi) → (b : Standing) → stands_to keys key (lo + (hi - lo) / 2) ≡ b
+      go : Dec (lo < hi) → (b : Ordering) → stands_to keys key (lo + (hi - lo) / 2) ≡ b
           → ((lo hi : ℕ) → hi - lo ≤ d → hi - lo ≤ e → bisect keys key d lo hi ≡ bisect keys key e lo hi)
           → bisect keys key (suc d) lo hi ≡ bisect keys key (suc e) lo hi
       go (no k) b q r = bisect-end (suc d) lo hi (omega arith) ∙ sym (bisect-end (suc e) lo hi (omega arith))
-      go (yes k) Before q r =
-          bisect-turn d lo hi k Before q ∙ r (lo + (hi - lo) / 2 + 1) hi (omega arith) (omega arith) ∙ sym (bisect-turn e lo hi k Before q)
-      go (yes k) Same q r = bisect-turn d lo hi k Same q ∙ sym (bisect-turn e lo hi k Same q)
-      go (yes k) Behind q r =
-          bisect-turn d lo hi k Behind q ∙ r lo (lo + (hi - lo) / 2) (omega arith) (omega arith) ∙ sym (bisect-turn e lo hi k Behind q)
+      go (yes k) Less q r =
+          bisect-turn d lo hi k Less q ∙ r (lo + (hi - lo) / 2 + 1) hi (omega arith) (omega arith) ∙ sym (bisect-turn e lo hi k Less q)
+      go (yes k) Equal q r = bisect-turn d lo hi k Equal q ∙ sym (bisect-turn e lo hi k Equal q)
+      go (yes k) Greater q r =
+          bisect-turn d lo hi k Greater q ∙ r lo (lo + (hi - lo) / 2) (omega arith) (omega arith) ∙ sym (bisect-turn e lo hi k Greater q)
 
   -- A turn: up, at its end, or down.
-  pub bisect_step : (d lo hi : ℕ) → lo < hi → hi - lo ≤ d → (b : Standing) → stands_to keys key (lo + (hi - lo) / 2) ≡ b
+  pub bisect_step : (d lo hi : ℕ) → lo < hi → hi - lo ≤ d → (b : Ordering) → stands_to keys key (lo + (hi - lo) / 2) ≡ b
       → bisect keys key d lo hi
-      ≡ elim b [ Before ↦ bisect keys key d (lo + (hi - lo) / 2 + 1) hi | Same ↦ lo + (hi - lo) / 2 | Behind ↦ bisect keys key d lo (lo + (hi - lo) / 2) ]
+      ≡ elim b [ Less ↦ bisect keys key d (lo + (hi - lo) / 2 + 1) hi | Equal ↦ lo + (hi - lo) / 2 | Greater ↦ bisect keys key d lo (lo + (hi - lo) / 2) ]
   bisect_step zero lo hi k l b q = absurd (omega arith)
-  bisect_step (suc d) lo hi k l Before q =
-      bisect-turn d lo hi k Before q ∙ bisect_fuel d (suc d) (lo + (hi - lo) / 2 + 1) hi (omega arith) (omega arith)
-  bisect_step (suc d) lo hi k l Same q = bisect-turn d lo hi k Same q
-  bisect_step (suc d) lo hi k l Behind q =
-      bisect-turn d lo hi k Behind q ∙ bisect_fuel d (suc d) lo (lo + (hi - lo) / 2) (omega arith) (omega arith)
+  bisect_step (suc d) lo hi k l Less q =
+      bisect-turn d lo hi k Less q ∙ bisect_fuel d (suc d) (lo + (hi - lo) / 2 + 1) hi (omega arith) (omega arith)
+  bisect_step (suc d) lo hi k l Equal q = bisect-turn d lo hi k Equal q
+  bisect_step (suc d) lo hi k l Greater q =
+      bisect-turn d lo hi k Greater q ∙ bisect_fuel d (suc d) lo (lo + (hi - lo) / 2) (omega arith) (omega arith)
 
   -- A gallop's last turn, past the end.
   gallop_over : (d lo width : ℕ) → length keys ≤ lo + width → gallop keys key (suc d) lo width ≡ bisect keys key (length keys) (lo + 1) (length keys)
@@ -96,9 +96,9 @@ module _ (keys : List (List ℕ)) (key : List ℕ) where
   gallop_past zero lo width k l m = absurd (omega arith)
   gallop_past (suc d) lo width k l m = gallop_over d lo width m
 
-  gallop-turn : (d lo width : ℕ) → lo + width < length keys → (b : Standing) → stands_to keys key (lo + width) ≡ b
+  gallop-turn : (d lo width : ℕ) → lo + width < length keys → (b : Ordering) → stands_to keys key (lo + width) ≡ b
       → gallop keys key (suc d) lo width
-      ≡ elim b [ Before ↦ gallop keys key d (lo + width) (width * 2) | Same ↦ lo + width | Behind ↦ bisect keys key (length keys) (lo + 1) (lo + width) ]
+      ≡ elim b [ Less ↦ gallop keys key d (lo + width) (width * 2) | Equal ↦ lo + width | Greater ↦ bisect keys key (length keys) (lo + 1) (lo + width) ]
   unfolding gallop
   gallop-turn d lo width l b q = rw (lt-ltb (lo + width) (length keys) l, q, gallop)
 
@@ -108,30 +108,30 @@ module _ (keys : List (List ℕ)) (key : List ℕ) where
   gallop_fuel (suc d) zero lo width k l m z = absurd (omega arith)
   gallop_fuel (suc d) (suc e) lo width k l m z = go (dec_lt (lo + width) (length keys)) (stands_to keys key (lo + width)) refl (gallop_fuel d e)
     where
-      go : Dec (lo + width < length keys) → (b : Standing) → stands_to keys key (lo + width) ≡ b
+      go : Dec (lo + width < length keys) → (b : Ordering) → stands_to keys key (lo + width) ≡ b
           → ((lo width : ℕ) → lo < length keys → length keys - lo ≤ d → length keys - lo ≤ e → 0 < width → gallop keys key d lo width ≡ gallop keys key e lo width)
           → gallop keys key (suc d) lo width ≡ gallop keys key (suc e) lo width
       go (no n) b q r = gallop_past (suc d) lo width k l (omega arith) ∙ sym (gallop_past (suc e) lo width k m (omega arith))
-      go (yes n) Before q r =
-          gallop-turn d lo width n Before q ∙ r (lo + width) (width * 2) n (omega arith) (omega arith) (omega arith)
-          ∙ sym (gallop-turn e lo width n Before q)
-      go (yes n) Same q r = gallop-turn d lo width n Same q ∙ sym (gallop-turn e lo width n Same q)
-      go (yes n) Behind q r = gallop-turn d lo width n Behind q ∙ sym (gallop-turn e lo width n Behind q)
+      go (yes n) Less q r =
+          gallop-turn d lo width n Less q ∙ r (lo + width) (width * 2) n (omega arith) (omega arith) (omega arith)
+          ∙ sym (gallop-turn e lo width n Less q)
+      go (yes n) Equal q r = gallop-turn d lo width n Equal q ∙ sym (gallop-turn e lo width n Equal q)
+      go (yes n) Greater q r = gallop-turn d lo width n Greater q ∙ sym (gallop-turn e lo width n Greater q)
 
   -- A turn within: on, at its end, or back.
-  pub gallop_step : (d lo width : ℕ) → length keys - lo ≤ d → 0 < width → lo + width < length keys → (b : Standing) → stands_to keys key (lo + width) ≡ b
+  pub gallop_step : (d lo width : ℕ) → length keys - lo ≤ d → 0 < width → lo + width < length keys → (b : Ordering) → stands_to keys key (lo + width) ≡ b
       → gallop keys key d lo width
-      ≡ elim b [ Before ↦ gallop keys key d (lo + width) (width * 2) | Same ↦ lo + width | Behind ↦ bisect keys key (length keys) (lo + 1) (lo + width) ]
+      ≡ elim b [ Less ↦ gallop keys key d (lo + width) (width * 2) | Equal ↦ lo + width | Greater ↦ bisect keys key (length keys) (lo + 1) (lo + width) ]
   gallop_step zero lo width l z k b q = absurd (omega arith)
-  gallop_step (suc d) lo width l z k Before q =
-      gallop-turn d lo width k Before q ∙ gallop_fuel d (suc d) (lo + width) (width * 2) k (omega arith) (omega arith) (omega arith)
-  gallop_step (suc d) lo width l z k Same q = gallop-turn d lo width k Same q
-  gallop_step (suc d) lo width l z k Behind q = gallop-turn d lo width k Behind q
+  gallop_step (suc d) lo width l z k Less q =
+      gallop-turn d lo width k Less q ∙ gallop_fuel d (suc d) (lo + width) (width * 2) k (omega arith) (omega arith) (omega arith)
+  gallop_step (suc d) lo width l z k Equal q = gallop-turn d lo width k Equal q
+  gallop_step (suc d) lo width l z k Greater q = gallop-turn d lo width k Greater q
 
   -- The first test of the look-up: up from the hint, at its end, or down.
-  pub seek_step : (hint : ℕ) → hint < length keys → (b : Standing) → stands_to keys key hint ≡ b
+  pub seek_step : (hint : ℕ) → hint < length keys → (b : Ordering) → stands_to keys key hint ≡ b
       → seek keys key hint
-      ≡ elim b [ Before ↦ gallop keys key (length keys) hint 1 | Same ↦ hint | Behind ↦ bisect keys key (length keys) 0 hint ]
+      ≡ elim b [ Less ↦ gallop keys key (length keys) hint 1 | Equal ↦ hint | Greater ↦ bisect keys key (length keys) 0 hint ]
   unfolding seek
   seek_step hint l b q = rw (lt-ltb hint (length keys) l, q, seek)
 
@@ -141,9 +141,9 @@ module _ (keys : List (List ℕ)) (key : List ℕ) where
 
   -- ---- Where the look-up ends, on any list: at the key, or at the number of keys
 
-  -- The key stands at a place that is none behind the last.
+  -- The key stands at a place that is none after the last.
   abbrev Ends : ℕ → Type 0
-  Ends i = i < length keys → stands_to keys key i ≡ Same
+  Ends i = i < length keys → stands_to keys key i ≡ Equal
 
   ends_at : (i j : ℕ) → i ≡ j → Ends j → Ends i
   ends_at i j e f = rw e f
@@ -153,46 +153,46 @@ module _ (keys : List (List ℕ)) (key : List ℕ) where
   bisect-ends zero lo hi = λ l. absurd (omega arith)
   bisect-ends (suc d) lo hi = go (dec_lt lo hi) (stands_to keys key (lo + (hi - lo) / 2)) refl (bisect-ends d)
     where
-      go : Dec (lo < hi) → (b : Standing) → stands_to keys key (lo + (hi - lo) / 2) ≡ b → ((lo hi : ℕ) → Ends (bisect keys key d lo hi))
+      go : Dec (lo < hi) → (b : Ordering) → stands_to keys key (lo + (hi - lo) / 2) ≡ b → ((lo hi : ℕ) → Ends (bisect keys key d lo hi))
           → Ends (bisect keys key (suc d) lo hi)
       go (no k) b q r = ends_at _ (length keys) (bisect-end (suc d) lo hi (omega arith)) (λ l. absurd (omega arith))
-      go (yes k) Before q r = ends_at _ _ (bisect-turn d lo hi k Before q) (r (lo + (hi - lo) / 2 + 1) hi)
-      go (yes k) Same q r = ends_at _ _ (bisect-turn d lo hi k Same q) (λ l. q)
-      go (yes k) Behind q r = ends_at _ _ (bisect-turn d lo hi k Behind q) (r lo (lo + (hi - lo) / 2))
+      go (yes k) Less q r = ends_at _ _ (bisect-turn d lo hi k Less q) (r (lo + (hi - lo) / 2 + 1) hi)
+      go (yes k) Equal q r = ends_at _ _ (bisect-turn d lo hi k Equal q) (λ l. q)
+      go (yes k) Greater q r = ends_at _ _ (bisect-turn d lo hi k Greater q) (r lo (lo + (hi - lo) / 2))
 
   gallop-ends : (d lo width : ℕ) → Ends (gallop keys key d lo width)
   unfolding gallop
   gallop-ends zero lo width = λ l. absurd (omega arith)
   gallop-ends (suc d) lo width = go (dec_lt (lo + width) (length keys)) (stands_to keys key (lo + width)) refl (gallop-ends d)
     where
-      go : Dec (lo + width < length keys) → (b : Standing) → stands_to keys key (lo + width) ≡ b → ((lo width : ℕ) → Ends (gallop keys key d lo width))
+      go : Dec (lo + width < length keys) → (b : Ordering) → stands_to keys key (lo + width) ≡ b → ((lo width : ℕ) → Ends (gallop keys key d lo width))
           → Ends (gallop keys key (suc d) lo width)
       go (no k) b q r = ends_at _ _ (gallop_over d lo width (omega arith)) (bisect-ends (length keys) (lo + 1) (length keys))
-      go (yes k) Before q r = ends_at _ _ (gallop-turn d lo width k Before q) (r (lo + width) (width * 2))
-      go (yes k) Same q r = ends_at _ _ (gallop-turn d lo width k Same q) (λ l. q)
-      go (yes k) Behind q r = ends_at _ _ (gallop-turn d lo width k Behind q) (bisect-ends (length keys) (lo + 1) (lo + width))
+      go (yes k) Less q r = ends_at _ _ (gallop-turn d lo width k Less q) (r (lo + width) (width * 2))
+      go (yes k) Equal q r = ends_at _ _ (gallop-turn d lo width k Equal q) (λ l. q)
+      go (yes k) Greater q r = ends_at _ _ (gallop-turn d lo width k Greater q) (bisect-ends (length keys) (lo + 1) (lo + width))
 
   -- The look-up ends at the key, or at the number of keys.
   pub seek-ends : (hint : ℕ) → seek keys key hint < length keys → get_or keys (seek keys key hint) [] ≡ key
   seek-ends hint l = standing_e (get_or keys (seek keys key hint) []) key (go (dec_lt hint (length keys)) (stands_to keys key hint) refl l)
     where
-      go : Dec (hint < length keys) → (b : Standing) → stands_to keys key hint ≡ b → Ends (seek keys key hint)
+      go : Dec (hint < length keys) → (b : Ordering) → stands_to keys key hint ≡ b → Ends (seek keys key hint)
       go (no k) b q = ends_at _ _ (seek_whole hint (omega arith)) (bisect-ends (length keys) 0 (length keys))
-      go (yes k) Before q = ends_at _ _ (seek_step hint k Before q) (gallop-ends (length keys) hint 1)
-      go (yes k) Same q = ends_at _ _ (seek_step hint k Same q) (λ l. q)
-      go (yes k) Behind q = ends_at _ _ (seek_step hint k Behind q) (bisect-ends (length keys) 0 hint)
+      go (yes k) Less q = ends_at _ _ (seek_step hint k Less q) (gallop-ends (length keys) hint 1)
+      go (yes k) Equal q = ends_at _ _ (seek_step hint k Equal q) (λ l. q)
+      go (yes k) Greater q = ends_at _ _ (seek_step hint k Greater q) (bisect-ends (length keys) 0 hint)
 
 -- ---- On an ascending list
 
 module _ (keys : List (List ℕ)) (asc : Ascending keys) where
-  -- What stands before and behind the key that stands at j.
-  low : (j i : ℕ) → j < length keys → i < j → stands_to keys (get_or keys j []) i ≡ Before
+  -- What stands before and after the key that stands at j.
+  low : (j i : ℕ) → j < length keys → i < j → stands_to keys (get_or keys j []) i ≡ Less
   low j i l m = standing-before (get_or keys i []) (get_or keys j []) (asc i j m l)
 
-  high : (j i : ℕ) → i < length keys → j < i → stands_to keys (get_or keys j []) i ≡ Behind
+  high : (j i : ℕ) → i < length keys → j < i → stands_to keys (get_or keys j []) i ≡ Greater
   high j i l m = standing_behind (get_or keys i []) (get_or keys j []) (asc j i m l)
 
-  here : (j i : ℕ) → i ≡ j → stands_to keys (get_or keys j []) i ≡ Same
+  here : (j i : ℕ) → i ≡ j → stands_to keys (get_or keys j []) i ≡ Equal
   here j i e = rw e (standing-same (get_or keys j []))
 
   bisect-finds : (j : ℕ) → j < length keys → (d lo hi : ℕ) → hi - lo ≤ d → hi ≤ length keys → lo ≤ j → j < hi
@@ -204,13 +204,13 @@ module _ (keys : List (List ℕ)) (asc : Ascending keys) where
           → ((lo hi : ℕ) → hi - lo ≤ d → hi ≤ length keys → lo ≤ j → j < hi → bisect keys (get_or keys j []) d lo hi ≡ j)
           → bisect keys (get_or keys j []) (suc d) lo hi ≡ j
       go (yes k) m r =
-          bisect-turn keys (get_or keys j []) d lo hi (omega arith) Before (low j (lo + (hi - lo) / 2) l k)
+          bisect-turn keys (get_or keys j []) d lo hi (omega arith) Less (low j (lo + (hi - lo) / 2) l k)
           ∙ r (lo + (hi - lo) / 2 + 1) hi (omega arith) h (omega arith) b
       go (no k) (yes m) r =
-          bisect-turn keys (get_or keys j []) d lo hi (omega arith) Behind (high j (lo + (hi - lo) / 2) (omega arith) m)
+          bisect-turn keys (get_or keys j []) d lo hi (omega arith) Greater (high j (lo + (hi - lo) / 2) (omega arith) m)
           ∙ r lo (lo + (hi - lo) / 2) (omega arith) (omega arith) a m
       go (no k) (no m) r =
-          bisect-turn keys (get_or keys j []) d lo hi (omega arith) Same (here j (lo + (hi - lo) / 2) (omega arith)) ∙ omega arith
+          bisect-turn keys (get_or keys j []) d lo hi (omega arith) Equal (here j (lo + (hi - lo) / 2) (omega arith)) ∙ omega arith
 
   gallop-finds : (j : ℕ) → j < length keys → (d lo width : ℕ) → length keys - lo ≤ d → 0 < width → lo < j
       → gallop keys (get_or keys j []) d lo width ≡ j
@@ -224,12 +224,12 @@ module _ (keys : List (List ℕ)) (asc : Ascending keys) where
           gallop_past keys (get_or keys j []) (suc d) lo width (omega arith) e (omega arith)
           ∙ bisect-finds j l (length keys) (lo + 1) (length keys) (omega arith) (omega arith) (omega arith) l
       go (yes k) (yes m) n r =
-          gallop-turn keys (get_or keys j []) d lo width k Before (low j (lo + width) l m) ∙ r (lo + width) (width * 2) (omega arith) (omega arith) m
+          gallop-turn keys (get_or keys j []) d lo width k Less (low j (lo + width) l m) ∙ r (lo + width) (width * 2) (omega arith) (omega arith) m
       go (yes k) (no m) (yes n) r =
-          gallop-turn keys (get_or keys j []) d lo width k Behind (high j (lo + width) k n)
+          gallop-turn keys (get_or keys j []) d lo width k Greater (high j (lo + width) k n)
           ∙ bisect-finds j l (length keys) (lo + 1) (lo + width) (omega arith) (omega arith) (omega arith) n
       go (yes k) (no m) (no n) r =
-          gallop-turn keys (get_or keys j []) d lo width k Same (here j (lo + width) (omega arith)) ∙ omega arith
+          gallop-turn keys (get_or keys j []) d lo width k Equal (here j (lo + width) (omega arith)) ∙ omega arith
 
   -- What stands at j is found at j, whatever the hint.
   pub seek_finds : (j : ℕ) → j < length keys → (hint : ℕ) → seek keys (get_or keys j []) hint ≡ j
@@ -240,11 +240,11 @@ module _ (keys : List (List ℕ)) (asc : Ascending keys) where
           seek_whole keys (get_or keys j []) hint (omega arith)
           ∙ bisect-finds j l (length keys) 0 (length keys) (omega arith) (omega arith) (omega arith) l
       go (yes k) (yes m) n =
-          seek_step keys (get_or keys j []) hint k Before (low j hint l m) ∙ gallop-finds j l (length keys) hint 1 (omega arith) (omega arith) m
+          seek_step keys (get_or keys j []) hint k Less (low j hint l m) ∙ gallop-finds j l (length keys) hint 1 (omega arith) (omega arith) m
       go (yes k) (no m) (yes n) =
-          seek_step keys (get_or keys j []) hint k Behind (high j hint k n)
+          seek_step keys (get_or keys j []) hint k Greater (high j hint k n)
           ∙ bisect-finds j l (length keys) 0 hint (omega arith) (omega arith) (omega arith) n
-      go (yes k) (no m) (no n) = seek_step keys (get_or keys j []) hint k Same (here j hint (omega arith)) ∙ omega arith
+      go (yes k) (no m) (no n) = seek_step keys (get_or keys j []) hint k Equal (here j hint (omega arith)) ∙ omega arith
 
 -- The look-up ends at a place exactly if the key stands anywhere.
 pub seek_member : (keys : List (List ℕ)) → Ascending keys → (key : List ℕ) (hint : ℕ) → (seek keys key hint < length keys) ↔ Memᴰ key keys

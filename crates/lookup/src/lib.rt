@@ -4,11 +4,3 @@
 
 pub mod order;
 pub mod seek;
-
-// How counts stand to a key in the order of frontiers.
-#[derive(Clone, Copy)]
-pub enum Standing {
-    Before,
-    Same,
-    Behind,
-}

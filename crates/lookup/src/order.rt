@@ -2,42 +2,27 @@
 
 ghost use Rattle.std.specs.Prelude.{◌≡◌};
 ghost use Rattle.lookup.specs.Order.{before, same};
-ghost use Rattle.lookup.specs.OrderCode.{FirstDifference};
 
-// The first process at which counts differ; 8 for none.
-fn first_difference(a: [u32; 8], b: [u32; 8]) -> usize
-    ensures { FirstDifference a b result }
-{
-    let mut p = 0;
-    while p < 8 {
-        if a[p] != b[p] {
-            return p;
-        }
-        p = p + 1;
-    }
-    p
-}
-
-// Whether counts stand before others.
+// Whether counts stand before others. By hand, for speed: `a < b` takes more than twice the instructions.
 pub fn counts_before(a: [u32; 8], b: [u32; 8]) -> bool
     ensures { result ≡ before a b }
 {
-    let p = first_difference(a, b);
-    if p < 8 {
-        return a[p] < b[p];
+    for p in 0..8 {
+        if a[p] != b[p] {
+            return a[p] < b[p];
+        }
     }
     false
 }
 
-// Whether counts are the same. All eight are compared, without a branch, so that the compiler can do it at once.
+// Whether counts are the same. By hand, for speed: all eight are compared, without a branch, so that the compiler can do
+// it at once, where `a == b` looks for the first that differs.
 pub fn counts_same(a: [u32; 8], b: [u32; 8]) -> bool
     ensures { result ≡ same a b }
 {
     let mut all = true;
-    let mut i = 0;
-    while i < 8 {
-        all = (a[i] == b[i]) & all;
-        i = i + 1;
+    for p in 0..8 {
+        all &= a[p] == b[p];
     }
     all
 }

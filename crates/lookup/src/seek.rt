@@ -1,79 +1,70 @@
 // The look-up of counts among frontiers in ascending order, read straight from their bytes.
 
-ghost use Rattle.std.specs.Prelude.{◌+◌, ◌*◌, ◌≤◌, ◌<◌, ◌≡◌, cond, ltb, length};
-ghost use Rattle.frontiers.specs.Width.{Width};
+ghost use Rattle.std.specs.Prelude.{◌+◌, ◌*◌, ◌≤◌, ◌<◌, ◌≡◌, length, unwrap_or, IfSome};
 ghost use Rattle.frontiers.specs.Bytes.{frontier_length, frontier_at, frontiers};
 ghost use Rattle.lookup.specs.Seek.{standing, bisect as bisected, gallop as galloped, seek as sought, keys_of};
-ghost use Rattle.lookup.specs.declared.Standing.TheVariants.{Before, Behind};
 
-use crate::Standing;
-
-// A count that is not the wanted one: before it or behind it.
-fn standing_of(count: u32, wanted: u32) -> Standing
-    ensures { result ≡ cond (ltb count wanted) Before Behind }
-{
-    if count < wanted {
-        Standing::Before
-    } else {
-        Standing::Behind
-    }
-}
+use frontiers::width::CountWidth;
+use std::cmp::Ordering;
 
 // How the counts of frontier i stand to the key: process by process, until one differs.
-pub fn standing_at(s: &[u8], w: usize, i: usize, key: [u32; 8]) -> Standing
-    requires width { Width w }
+pub fn standing_at(s: &[u8], w: CountWidth, i: usize, key: [u32; 8]) -> Ordering
     requires i_bound { i ≤ 1024 }
     requires w_in_bounds { i * frontier_length w + frontier_length w ≤ length s.now }
     ensures { result ≡ standing (frontier_at w s.now i).counts key }
 {
-    let mut next = frontiers::place::frontier_place(w, i);
-    let mut p = 0;
-    while p < 8 {
-        let count = frontiers::counts::read_count(s, next, w);
-        let wanted = key[p];
-        if count != wanted {
-            return standing_of(count, wanted);
+    let mut place = frontiers::place::frontier_place(w, i);
+    for wanted in &key {
+        let count = frontiers::counts::read_count(s, place, w);
+        if count != *wanted {
+            return count.cmp(wanted);
         }
-        next = next + w;
-        p = p + 1;
+        place += w.bytes();
     }
-    Standing::Same
+    Ordering::Equal
 }
 
-// The place from low on and below high at which the key stands, by halving; n for none.
-pub fn bisect(s: &[u8], w: usize, n: usize, key: [u32; 8], low: usize, high: usize) -> usize
-    requires width { Width w }
+// The place from low on and below high at which the key stands, by halving.
+pub fn bisect(
+    s: &[u8],
+    w: CountWidth,
+    n: usize,
+    key: [u32; 8],
+    low: usize,
+    high: usize,
+) -> Option<usize>
     requires n_bound { n ≤ 1024 }
     requires w_in_bounds { n * frontier_length w ≤ length s.now }
     requires high_le_n { high ≤ n }
-    ensures { result ≡ bisected (keys_of (frontiers w s.now n)) key n low high }
+    ensures place { unwrap_or result n ≡ bisected (keys_of (frontiers w s.now n)) key n low high }
+    ensures within { IfSome result (λ i. i < n) }
 {
     let mut lo = low;
     let mut hi = high;
     while lo < hi {
         let middle = lo + (hi - lo) / 2;
         match standing_at(s, w, middle, key) {
-            Standing::Same => {
-                return middle;
+            Ordering::Equal => {
+                return Some(middle);
             }
-            Standing::Before => {
+            Ordering::Less => {
                 lo = middle + 1;
             }
-            Standing::Behind => {
+            Ordering::Greater => {
                 hi = middle;
             }
         }
     }
-    n
+    None
 }
 
-// The same behind a place whose counts stand before the key, by steps that double.
-pub fn gallop(s: &[u8], w: usize, n: usize, key: [u32; 8], low: usize) -> usize
-    requires width { Width w }
+// The same after a place whose counts stand before the key, by steps that double.
+pub fn gallop(s: &[u8], w: CountWidth, n: usize, key: [u32; 8], low: usize) -> Option<usize>
     requires n_bound { n ≤ 1024 }
     requires w_in_bounds { n * frontier_length w ≤ length s.now }
     requires low_lt_n { low < n }
-    ensures { result ≡ galloped (keys_of (frontiers w s.now n)) key n low 1 }
+    ensures place { unwrap_or result n ≡ galloped (keys_of (frontiers w s.now n)) key n low 1 }
+    ensures within { IfSome result (λ i. i < n) }
 {
     let mut lo = low;
     let mut width = 1;
@@ -83,13 +74,13 @@ pub fn gallop(s: &[u8], w: usize, n: usize, key: [u32; 8], low: usize) -> usize
             return bisect(s, w, n, key, lo + 1, n);
         }
         match standing_at(s, w, far, key) {
-            Standing::Same => {
-                return far;
+            Ordering::Equal => {
+                return Some(far);
             }
-            Standing::Behind => {
+            Ordering::Greater => {
                 return bisect(s, w, n, key, lo + 1, far);
             }
-            Standing::Before => {
+            Ordering::Less => {
                 lo = far;
                 width = width * 2;
             }
@@ -97,19 +88,19 @@ pub fn gallop(s: &[u8], w: usize, n: usize, key: [u32; 8], low: usize) -> usize
     }
 }
 
-// The place at which the key stands among the first n frontiers, from a hint; n for none.
-pub fn seek(s: &[u8], w: usize, n: usize, key: [u32; 8], hint: usize) -> usize
-    requires width { Width w }
+// The place at which the key stands among the first n frontiers, from a hint.
+pub fn seek(s: &[u8], w: CountWidth, n: usize, key: [u32; 8], hint: usize) -> Option<usize>
     requires n_bound { n ≤ 1024 }
     requires w_in_bounds { n * frontier_length w ≤ length s.now }
-    ensures { result ≡ sought (keys_of (frontiers w s.now n)) key hint }
+    ensures place { unwrap_or result n ≡ sought (keys_of (frontiers w s.now n)) key hint }
+    ensures within { IfSome result (λ i. i < n) }
 {
     if n <= hint {
         return bisect(s, w, n, key, 0, n);
     }
     match standing_at(s, w, hint, key) {
-        Standing::Same => hint,
-        Standing::Before => gallop(s, w, n, key, hint),
-        Standing::Behind => bisect(s, w, n, key, 0, hint),
+        Ordering::Equal => Some(hint),
+        Ordering::Less => gallop(s, w, n, key, hint),
+        Ordering::Greater => bisect(s, w, n, key, 0, hint),
     }
 }

@@ -2,6 +2,8 @@
 
 #![tactic(auto)]
 
+// What is wrong with a text, and where.
+pub mod fault;
 // What a call or a line is turned back with.
 pub mod refusal;
 // How much there may be of a thing.

@@ -1,7 +1,8 @@
 -- Laws of a table read from its bytes: it gives back the lines whose bytes they are, and its line i is line i of the
 -- bytes.
-use Rattle.std.specs.Prelude.{ℕ, zero, suc, ◌+◌, ◌-◌, ◌*◌, ◌<◌, ◌≤◌, ◌≡◌, refl, List, [], ◌∷◌, ◌++◌, true, ◌&&◌, length, get_or}
+use Rattle.std.specs.Prelude.{ℕ, zero, suc, ◌+◌, ◌-◌, ◌*◌, ◌<◌, ◌≤◌, ◌≡◌, refl, List, [], ◌∷◌, ◌++◌, Bool, true, ◌&&◌, length, get_or}
 use Rattle.std.proofs.Common.{add-one, arith, ap, ap₂, ◌∙◌}
+use Rattle.std.specs.List.{range_with_len, list_all}
 use Rattle.pactl.specs.declared.Line.{Line}
 use Rattle.pactl.specs.Table.{table_bytes, good_line, good_from}
 use Rattle.pactl.specs.TableBytes.{line_at, lines_from, lines_of}
@@ -58,6 +59,13 @@ unfolding lines_from
 lines_from-end bytes n i h =
     let e : n - i ≡ 0 = omega arith in
     rw e
+
+-- The check of the lines from line i on is that of each.
+pub good-each : (k : ℕ) (bytes : List ℕ) (n i : ℕ)
+    → list_all (λ j. good_line k j (line_at bytes j)) (range_with_len i n) ≡ good_from k i (lines_from bytes n i)
+unfolding good_from lines_from
+good-each k bytes zero i = refl
+good-each k bytes (suc n) i = ap (λ (b : Bool). good_line k i (line_at bytes i) && b) (good-each k bytes n (i + 1))
 
 -- The check of the lines from line i on: of line i, then of those behind it.
 pub good_from_next : (k : ℕ) (bytes : List ℕ) (n i : ℕ) → i < n

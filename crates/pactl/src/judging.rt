@@ -12,11 +12,7 @@ use crate::table::read_line;
 fn has(word: u64, p: u8) -> bool
     ensures { result ≡ bit word p }
 {
-    if p < 64 {
-        codec::has_bit(word, p as u32)
-    } else {
-        false
-    }
+    p < 64 && codec::has_bit(word, u32::from(p))
 }
 
 // The six clauses, in the order of source 000, section 3, where each is a sentence under "Calculating the Values of
@@ -26,11 +22,7 @@ fn has(word: u64, p: u8) -> bool
 fn judge_proposition(labels: [u8; 8], a: u8, b: u8) -> bool
     ensures { result ≡ proposition_judged labels a b }
 {
-    if a < 8 {
-        has(labels[a as usize] as u64, b)
-    } else {
-        false
-    }
+    a < 8 && has(u64::from(labels[usize::from(a)]), b)
 }
 
 // Sentence 2, val(F, ¬η): not line a.
@@ -80,25 +72,15 @@ fn judge_line(
 ) -> bool
     ensures { result ≡ judge_line labels v any all preceded i line }
 {
-    let kind = line.kind;
-    let a = line.a;
-    let b = line.b;
-    if kind == 0 {
-        return judge_proposition(labels, a, b);
+    let Line { kind, a, b } = line;
+    match kind {
+        0 => judge_proposition(labels, a, b),
+        1 => judge_not(v, a),
+        2 => judge_and(v, a, b),
+        3 => judge_ey(any, a),
+        4 => judge_es(v, any, i, a, b),
+        _ => judge_as(v, all, preceded, i, a, b),
     }
-    if kind == 1 {
-        return judge_not(v, a);
-    }
-    if kind == 2 {
-        return judge_and(v, a, b);
-    }
-    if kind == 3 {
-        return judge_ey(any, a);
-    }
-    if kind == 4 {
-        return judge_es(v, any, i, a, b);
-    }
-    judge_as(v, all, preceded, i, a, b)
 }
 
 // A word with bit i added, where that is asked; without a branch, as no guess of a truth is often right.
@@ -106,7 +88,7 @@ fn with_bit(v: u64, i: u32, t: bool) -> u64
     requires { (i < 64) × (v < 2 ^ i) }
     ensures { result ≡ with_bit v i t }
 {
-    v + ((t as u64) << i)
+    v + (u64::from(t) << i)
 }
 
 // A frontier's word: bit i is line i's truth there. The words of the cuts that precede it go in by their OR and their
@@ -115,13 +97,10 @@ pub fn judge(table: &[u8], lines: u32, labels: [u8; 8], any: u64, all: u64, prec
     requires { (lines ≤ 64) × (3 * lines ≤ length table.now) }
     ensures { result ≡ judged labels any all preceded (lines_of table.now lines) }
 {
-    let mut v: u64 = 0;
-    let mut i: u32 = 0;
-    while i < lines {
-        let line = read_line(table, i);
-        let holds = judge_line(labels, v, any, all, preceded, i as u8, line);
+    let mut v = 0;
+    for i in 0..lines {
+        let holds = judge_line(labels, v, any, all, preceded, i as u8, read_line(table, i));
         v = with_bit(v, i, holds);
-        i += 1;
     }
     v
 }

@@ -6,19 +6,12 @@ ghost use Rattle.pactl.specs.TableBytes.{line_at, lines_of};
 
 use crate::Line;
 
-// A byte, wider.
-pub fn wide(x: u8) -> u32
-    ensures { (result ≡ x) × (result < 256) }
-{
-    x as u32
-}
-
 // Line i of a table's bytes.
 pub fn read_line(table: &[u8], i: u32) -> Line
     requires { (i < 64) × (3 * i + 3 ≤ length table.now) }
     ensures { result ≡ line_at table.now i }
 {
-    let at = 3 * (i as usize);
+    let at = 3 * i as usize;
     Line {
         kind: table[at],
         a: table[at + 1],
@@ -30,16 +23,13 @@ pub fn read_line(table: &[u8], i: u32) -> Line
 pub fn good_line(k: u32, i: u32, line: Line) -> bool
     ensures { result ≡ good_line k i line }
 {
-    let kind = line.kind;
-    let a = wide(line.a);
-    let b = wide(line.b);
-    if kind == 0 {
-        return (a < k) & (b <= 7);
+    let a = u32::from(line.a);
+    let b = u32::from(line.b);
+    match line.kind {
+        0 => (a < k) & (b <= 7),
+        1 | 3 => (a < i) & (b == 0),
+        kind => (kind <= 5) & ((a < i) & (b < i)),
     }
-    if (kind == 1) | (kind == 3) {
-        return (a < i) & (b == 0);
-    }
-    (kind <= 5) & ((a < i) & (b < i))
 }
 
 // Whether the first lines of a table are good.
@@ -47,12 +37,5 @@ pub fn good_table(k: u32, table: &[u8], lines: u32) -> bool
     requires { (lines ≤ 64) × (3 * lines ≤ length table.now) }
     ensures { result ≡ good_table k (lines_of table.now lines) }
 {
-    let mut i: u32 = 0;
-    while i < lines {
-        if !good_line(k, i, read_line(table, i)) {
-            return false;
-        }
-        i += 1;
-    }
-    true
+    (0..lines).all(|i| good_line(k, i, read_line(table, i)))
 }

@@ -3,9 +3,10 @@
 
 #![tactic(auto)]
 
-ghost use Rattle.std.specs.Prelude.{◌+◌, ◌≤◌, ◌<◌, ◌≡◌, length};
+ghost use Rattle.std.specs.Prelude.{◌+◌, ◌*◌, ◌≤◌, ◌<◌, ◌≡◌, length};
+ghost use Rattle.codec.specs.Little.{number};
 ghost use Rattle.numbers.specs.Limit.{most_members};
-ghost use Rattle.pool.specs.Pool.{pool_length, sum_below, share_at, kept_at, brought_up, bad_pool_length, no_share, used_by_others};
+ghost use Rattle.pool.specs.Pool.{pool_length, sum_below, share_at, brought_up, bad_pool_length, no_share, used_by_others};
 ghost use Rattle.pool.specs.PoolCode.{used_by};
 ghost use Rattle.pool.specs.Pool as pools;
 
@@ -18,22 +19,13 @@ pub fn bad_pool_length(n: usize) -> bool
     n != 32
 }
 
-// Watch i's share.
-fn share_at(pool: &[u8], i: usize) -> usize
+// Number n of the sixteen: the shares, then how many frontiers each watch keeps.
+fn number_at(pool: &[u8], n: usize) -> usize
     requires pool_len { length pool.now ≡ pool_length }
-    requires i_lt_most_members { i < most_members }
-    ensures { (result ≡ share_at pool.now i) × (result < 65536) }
+    requires n_bound { n < 2 * most_members }
+    ensures { (result ≡ number pool.now (2 * n) 2) × (result < 65536) }
 {
-    codec::read_u16(pool, 2 * i) as usize
-}
-
-// How many frontiers watch i keeps.
-fn kept_at(pool: &[u8], i: usize) -> usize
-    requires pool_len { length pool.now ≡ pool_length }
-    requires i_lt_most_members { i < most_members }
-    ensures { (result ≡ kept_at pool.now i) × (result < 65536) }
-{
-    codec::read_u16(pool, 16 + 2 * i) as usize
+    usize::from(codec::read_u16(pool, 2 * n))
 }
 
 // 34: a number without a share. Its whole word counts.
@@ -41,10 +33,7 @@ pub fn no_share(pool: &[u8], number: u64) -> bool
     requires { length pool.now ≡ pool_length }
     ensures { result ≡ no_share pool.now number }
 {
-    if number >= MEMBERS as u64 {
-        return true;
-    }
-    share_at(pool, number as usize) == 0
+    number >= MEMBERS as u64 || number_at(pool, number as usize) == 0
 }
 
 // What watch j holds against watch i: its share, or what it keeps if that is more. Of watch i itself the share alone
@@ -54,15 +43,11 @@ fn held_by(pool: &[u8], i: usize, j: usize) -> usize
     requires j_lt_most_members { j < most_members }
     ensures { (result ≡ share_at pool.now j + used_by pool.now i j) × (result < 65536) }
 {
-    let share = share_at(pool, j);
-    let kept = kept_at(pool, j);
+    let share = number_at(pool, j);
     if j == i {
         return share;
     }
-    if kept < share {
-        return share;
-    }
-    kept
+    share.max(number_at(pool, MEMBERS + j))
 }
 
 // What all watches hold against watch i: the promised frontiers, and those that others are using beyond their shares.
@@ -71,10 +56,8 @@ fn held(pool: &[u8], i: usize) -> usize
     ensures { result ≡ sum_below most_members (share_at pool.now) + used_by_others pool.now i }
 {
     let mut sum = 0;
-    let mut j = 0;
-    while j < MEMBERS {
-        sum = sum + held_by(pool, i, j);
-        j = j + 1;
+    for j in 0..MEMBERS {
+        sum += held_by(pool, i, j);
     }
     sum
 }
@@ -85,12 +68,7 @@ pub fn allowance(pool: &[u8], i: usize) -> usize
     requires i_lt_most_members { i < most_members }
     ensures { (result ≡ pools.allowance pool.now i) × (result ≤ 66560) }
 {
-    let share = share_at(pool, i);
-    let held = held(pool, i);
-    if FRONTIERS < held {
-        return share;
-    }
-    share + (FRONTIERS - held)
+    number_at(pool, i) + FRONTIERS.saturating_sub(held(pool, i))
 }
 
 // Watch i's kept number is brought up to date.

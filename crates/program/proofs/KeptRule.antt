@@ -10,10 +10,8 @@ use lib.Seq.{length-take-le}
 use Rattle.codec.specs.Ascii.{ascii}
 use Rattle.rules.specs.Text.{byte_at}
 use Rattle.rules.specs.Reader.{Reading, formed, faulty, read_rule}
-use Rattle.line_pieces.specs.declared.Read.{Read}
-use Rattle.line_pieces.specs.declared.Read.TheVariants.{At, Refused}
-use Rattle.lines.specs.declared.RuleLine.{RuleLine}
-use Rattle.lines.specs.declared.RuleLine.TheVariants.{Rule, Refused as RuleRefused}
+use Rattle.line_pieces.specs.Read.{Read, At, Refused}
+use Rattle.lines.specs.RuleLine.{RuleLine, Rule, Refused as RuleRefused}
 use Rattle.line_pieces.specs.Reading.{limited, head_read}
 use Rattle.lines.specs.Lines.{rule_text, rule_closed, rule_of, rule_line}
 

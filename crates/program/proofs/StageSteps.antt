@@ -1,34 +1,32 @@
 -- What a line leaves, by the ways that the code goes.
 use Prim.Native.Nat.{ℕ}
 use mathlib.Core.Path.{◌≡◌, refl, sym, ap, ◌∙◌}
+use native.Mathlib.Omega.{arith}
 use mathlib.Core.Bool.{true, false}
 use mathlib.Core.List.{List, [], ◌∷◌}
 use lib.ListN.{take}
-use Rattle.lines.specs.declared.WatchLine.{WatchLine}
-use Rattle.lines.specs.declared.WatchLine.TheVariants.{Watch, Refused as WatchRefused}
-use Rattle.lines.specs.declared.RuleLine.{RuleLine}
-use Rattle.lines.specs.declared.RuleLine.TheVariants.{Rule, Refused as RuleRefused}
-use Rattle.lines.specs.declared.StartLine.{StartLine}
-use Rattle.lines.specs.declared.StartLine.TheVariants.{Start, Refused as StartRefused}
-use Rattle.lines.specs.declared.DidLine.{DidLine}
-use Rattle.lines.specs.declared.DidLine.TheVariants.{Did, Refused as DidRefused}
+use borrow.Author.Tests.{ne_eqb}
+use Rattle.std.specs.Prelude.{Result, Ok, Err, is_err}
+use Rattle.lines.specs.WatchLine.{WatchLine, Watch, Refused as WatchRefused}
+use Rattle.lines.specs.RuleLine.{RuleLine, Rule, Refused as RuleRefused}
+use Rattle.lines.specs.StartLine.{StartLine, Start, Refused as StartRefused}
+use Rattle.lines.specs.DidLine.{DidLine, Did, Refused as DidRefused}
 use Rattle.lines.specs.Lines.{watch_line, rule_text, rule_line, start_line, did_line}
 use Rattle.refusals.specs.Refusals.{bad_processes}
-use Rattle.answers.specs.Answer.{reply_word}
+use Rattle.answers.specs.Answer.{Answer, nothing_ready, reply_word}
 use Rattle.reply_text.specs.Form.{program_width}
 use Rattle.call_words.specs.Words.{unpack_counts, unpack_labels}
 use Rattle.call_open.specs.Open.{Opened, open_call}
 use Rattle.call_offer.specs.Offer.{Offered, offer_call}
-use Rattle.replies.specs.declared.Reply.{Reply}
 use Rattle.program.specs.declared.Session.{Session}
-use Rattle.replies.specs.Replies.{parts_of}
-use Rattle.replies.specs.Following.{next_stage}
+use Rattle.replies.specs.declared.reply.Accepted.{Accepted}
+use Rattle.replies.specs.declared.reply.Refused.{Refused}
+use Rattle.replies.specs.Replies.{reply_of, parts_of, Fits}
+use Rattle.replies.specs.ReplyLaws.{refused_by}
+use Rattle.answers.specs.Kinds.{is_turned_back}
+use Rattle.replies.specs.Following.{stage_number, next_stage}
 use Rattle.program.specs.Stages.{Standing, Stands, Replied, refuse, watch_read, rule_read, start_read, did_read}
 use Rattle.program.specs.CallAnswers.{open_fits, offer_fits}
-
--- The reply that prints nothing.
-abbrev silent : Reply
-silent = record { number = 0; place = 0; holds = false; value = 0 }
 
 module _ (t : Standing) (s : Session) (rule bytes window : List ℕ) (h : Stands t s rule bytes window) where
   -- The watch line.
@@ -41,15 +39,15 @@ module _ (t : Standing) (s : Session) (rule bytes window : List ℕ) (h : Stands
     unfolding watch_read
     watch_bad k room told bad = rw (sym e ∙ told, bad)
 
-    pub watch_stands : (k room stage : ℕ) → stage ≡ next_stage s.stage false → read ≡ Watch k room → bad_processes k ≡ false
-        → Stands (watch_read t (watch_line line)) (record { stage = stage; k = k; room = room; text = s.text; reply = silent }) rule bytes window
-    unfolding watch_read parts_of
-    watch_stands k room stage g told good = rw (sym e ∙ told, good) (record {
-      replied = refl;
+    pub watch_stands : (r : Session) → stage_number r.stage ≡ next_stage (stage_number s.stage) false → r.text ≡ s.text → reply_of r.reply ≡ parts_of nothing_ready
+        → read ≡ Watch r.k r.room → bad_processes r.k ≡ false → Stands (watch_read t (watch_line line)) r rule bytes window
+    unfolding watch_read
+    watch_stands r g text reply told good = rw (sym e ∙ told, good) (record {
+      replied = reply;
       stage = g ∙ ap (λ (n : ℕ). next_stage n false) h.stage;
       processes = refl;
       frontiers = refl;
-      text = h.text;
+      text = ap (λ (n : ℕ). take n rule) text ∙ h.text;
       bytes = h.bytes;
       kept = h.kept;
     })
@@ -63,14 +61,14 @@ module _ (t : Standing) (s : Session) (rule bytes window : List ℕ) (h : Stands
     unfolding rule_read
     rule_refused n i told = rw (sym same ∙ told)
 
-    pub rule_stands : (start end text stage : ℕ) (after : List ℕ) → stage ≡ next_stage s.stage false → read ≡ Rule start end → take text after ≡ rule_text line
-        → Stands (rule_read t line (rule_line line t.k)) (record { stage = stage; k = s.k; room = s.room; text = text; reply = silent }) after bytes window
-    unfolding rule_read parts_of
-    rule_stands start end text stage after g told laid = rw (sym same ∙ told) (record {
-      replied = refl;
+    pub rule_stands : (start end : ℕ) (r : Session) (after : List ℕ) → stage_number r.stage ≡ next_stage (stage_number s.stage) false → r.k ≡ s.k → r.room ≡ s.room → reply_of r.reply ≡ parts_of nothing_ready
+        → read ≡ Rule start end → take r.text after ≡ rule_text line → Stands (rule_read t line (rule_line line t.k)) r after bytes window
+    unfolding rule_read
+    rule_stands start end r after g k room reply told laid = rw (sym same ∙ told) (record {
+      replied = reply;
       stage = g ∙ ap (λ (n : ℕ). next_stage n false) h.stage;
-      processes = h.processes;
-      frontiers = h.frontiers;
+      processes = k ∙ h.processes;
+      frontiers = room ∙ h.frontiers;
       text = laid;
       bytes = h.bytes;
       kept = h.kept;
@@ -134,3 +132,8 @@ module _ (t : Standing) (s : Session) (rule bytes window : List ℕ) (h : Stands
       bytes = b;
       kept = h.kept;
     })
+
+-- A refusal is known by its number, which is not 0.
+pub refused_told : (a : Answer) (r : Result Accepted Refused) → Fits a → reply_of r ≡ parts_of a → is_err r ≡ is_turned_back a
+refused_told a (Ok accepted) f e = refused_by a (reply_of (Ok accepted)) f e
+refused_told a (Err refused) f e = sym (rw (ne_eqb refused.number 0 (omega (arith, refused.some)))) ∙ refused_by a (reply_of (Err refused)) f e

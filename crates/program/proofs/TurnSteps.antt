@@ -1,18 +1,19 @@
 -- A line's takes, one at a time, and the parts of the buffers that are lent.
-use Prim.Native.Nat.{ℕ, zero, suc, ◌+◌, ◌-◌, ◌≤◌, ◌<◌}
-use native.Mathlib.Omega.{arith}
+use Prim.Native.Nat.{ℕ, zero, suc, ◌+◌, ◌≤◌, ◌<◌}
 use mathlib.Core.Path.{◌≡◌, refl, sym, ap, ◌∙◌}
-use mathlib.Core.Bool.{Bool, true, false, cond}
+use mathlib.Core.Bool.{Bool, true, false}
 use mathlib.Core.List.{List, ◌++◌, append_assoc, append-nil}
 use lib.Dec.{eqb}
 use lib.ListN.{length, take, drop}
 use lib.Seq.{length-take-le, take-append-add, take-append-le, take_at, drop_at}
+use Rattle.replies.specs.declared.Stage.{Stage}
+use Rattle.replies.specs.declared.Stage.TheVariants.{Watch, Rule, Start, Event, Over}
 use Rattle.records.specs.Record.{taken_counts}
 use Rattle.call_take.specs.Take.{take_call}
 use Rattle.reply_text.specs.Form.{program_width}
 use Rattle.reply_text.specs.Texts.{answer_text}
 use Rattle.replies.specs.Replies.{Possible}
-use Rattle.replies.specs.Following.{takes_again, event_stage, over_stage}
+use Rattle.replies.specs.Following.{takes_again, stage_number, event_stage, over_stage}
 use Rattle.answers.specs.Kinds.{is_held}
 use Rattle.program.specs.declared.Session.{Session}
 use Rattle.program.specs.Stages.{Standing, line_read, Stands}
@@ -30,67 +31,63 @@ laid_after xs ys a r k l m =
 
 -- ---- Takes
 
--- So many, or none.
-pub not_more : (b : Bool) (n : ℕ) → cond b n 0 ≤ n
-not_more true n = omega arith
-not_more false n = omega arith
-
 -- With what is laid, the takes that are left come to the whole.
-pub record Ahead (whole : Took) (before : List ℕ) (k left : ℕ) (s window scratch laid : List ℕ) : Type 0 where
-  pub text : laid ++ (takes_while left true k s window scratch).text ≡ before ++ whole.text
-  pub bytes : (takes_while left true k s window scratch).bytes ≡ whole.bytes
-  pub kept : (takes_while left true k s window scratch).window ≡ whole.window
-  pub spent : (takes_while left true k s window scratch).scratch ≡ whole.scratch
-
-pub ahead_first : (before : List ℕ) (most : ℕ) (follows : Bool) (k : ℕ) (s window scratch : List ℕ)
-    → Ahead (takes_while most follows k s window scratch) before k (cond follows most 0) s window scratch before
-unfolding takes_while
-ahead_first before zero true k s window scratch = record { text = refl; bytes = refl; kept = refl; spent = refl }
-ahead_first before zero false k s window scratch = record { text = refl; bytes = refl; kept = refl; spent = refl }
-ahead_first before (suc n) true k s window scratch = record { text = refl; bytes = refl; kept = refl; spent = refl }
-ahead_first before (suc n) false k s window scratch =
-    record { text = refl; bytes = refl; kept = refl; spent = refl }
+pub record Ahead (whole : Took) (before : List ℕ) (follows : Bool) (k left : ℕ) (s window scratch laid : List ℕ) : Type 0 where
+  pub text : laid ++ (takes_while left follows k s window scratch).text ≡ before ++ whole.text
+  pub bytes : (takes_while left follows k s window scratch).bytes ≡ whole.bytes
+  pub kept : (takes_while left follows k s window scratch).window ≡ whole.window
+  pub spent : (takes_while left follows k s window scratch).scratch ≡ whole.scratch
 
 -- A take more.
 pub ahead_next : (whole : Took) (before : List ℕ) (k n : ℕ) (s window scratch laid : List ℕ)
-    → Ahead whole before k (suc n) s window scratch laid
+    → Ahead whole before true k (suc n) s window scratch laid
     → let o = take_call program_width s window scratch in
-    Ahead whole before k (cond (takes_again o.answer) n 0) o.bytes o.window o.scratch
-    (laid ++ answer_text k o.answer)
+    Ahead whole before (takes_again o.answer) k n o.bytes o.window o.scratch (laid ++ answer_text k o.answer)
 unfolding takes_while
 ahead_next whole before k n s window scratch laid h =
     let o = take_call program_width s window scratch in
-    let first = answer_text k o.answer in
-    let g = ahead_first first n (takes_again o.answer) k o.bytes o.window o.scratch in
-    let left = takes_while (cond (takes_again o.answer) n 0) true k o.bytes o.window o.scratch in
-    record {
-      text = append_assoc laid first left.text ∙ ap (λ (t : List ℕ). laid ++ t) g.text ∙ h.text;
-      bytes = g.bytes ∙ h.bytes;
-      kept = g.kept ∙ h.kept;
-      spent = g.spent ∙ h.spent;
-    }
+    let rest = takes_while n (takes_again o.answer) k o.bytes o.window o.scratch in
+    record { text = append_assoc laid (answer_text k o.answer) rest.text ∙ h.text; bytes = h.bytes; kept = h.kept; spent = h.spent }
 
 -- The same, as the code has it.
-pub ahead_step : (whole : Took) (before : List ℕ) (k left left' : ℕ) (follows : Bool)
+pub ahead_step : (whole : Took) (before : List ℕ) (follows : Bool) (k left left' : ℕ) (follows' : Bool)
     (s window scratch laid s' window' scratch' laid' : List ℕ)
-    → 0 < left → Ahead whole before k left s window scratch laid
+    → follows ≡ true → left ≡ suc left' → Ahead whole before follows k left s window scratch laid
     → let o = take_call program_width s window scratch in
-    left' ≡ cond follows (left - 1) 0 → follows ≡ takes_again o.answer
+    follows' ≡ takes_again o.answer
     → s' ≡ o.bytes → window' ≡ o.window → scratch' ≡ o.scratch → laid' ≡ laid ++ answer_text k o.answer
-    → Ahead whole before k left' s' window' scratch' laid'
-ahead_step whole before k left left' follows s window scratch laid s' window' scratch' laid' l h d e f g i j =
-    let one : left ≡ suc (left - 1) = omega arith in
-    rw (d, e, f, g, i, j) (ahead_next whole before k (left - 1) s window scratch laid (rw one at h))
+    → Ahead whole before follows' k left' s' window' scratch' laid'
+ahead_step whole before follows k left left' follows' s window scratch laid s' window' scratch' laid' t l h e f g i j =
+    rw (e, f, g, i, j) (ahead_next whole before k left' s window scratch laid (rw (t, l) at h))
 
--- None is left.
-pub ahead_last : (whole : Took) (before : List ℕ) (k : ℕ) (s window scratch laid : List ℕ)
-    → Ahead whole before k 0 s window scratch laid
-    → (laid ≡ before ++ whole.text) × (s ≡ whole.bytes) × (window ≡ whole.window) × (scratch ≡ whole.scratch)
+-- None is to follow, or none is left.
+abbrev pub Whole : Took → List ℕ → List ℕ → List ℕ → List ℕ → List ℕ → Type 0
+Whole whole before s window scratch laid =
+    (laid ≡ before ++ whole.text) × (s ≡ whole.bytes) × (window ≡ whole.window) × (scratch ≡ whole.scratch)
+
+pub ahead_none : (whole : Took) (before : List ℕ) (follows : Bool) (k left : ℕ) (s window scratch laid : List ℕ)
+    → follows ≡ false → Ahead whole before follows k left s window scratch laid → Whole whole before s window scratch laid
 unfolding takes_while
-ahead_last whole before k s window scratch laid h =
-    (sym (append-nil laid) ∙ h.text, h.bytes, h.kept, h.spent)
+ahead_none whole before follows k zero s window scratch laid e h = (sym (append-nil laid) ∙ h.text, h.bytes, h.kept, h.spent)
+ahead_none whole before true k (suc left) s window scratch laid e h = absurd (cc)
+ahead_none whole before false k (suc left) s window scratch laid e h = (sym (append-nil laid) ∙ h.text, h.bytes, h.kept, h.spent)
+
+pub ahead_last : (whole : Took) (before : List ℕ) (follows : Bool) (k left : ℕ) (s window scratch laid : List ℕ)
+    → left ≡ 0 → Ahead whole before follows k left s window scratch laid → Whole whole before s window scratch laid
+unfolding takes_while
+ahead_last whole before follows k left s window scratch laid e h =
+    let g = rw e at h in
+    (sym (append-nil laid) ∙ g.text, g.bytes, g.kept, g.spent)
 
 -- ---- The whole turn
+
+-- An event's line is an offer, and no other is.
+pub no_event : (stage : Stage) → (stage ≡ Event → ⊥) → false ≡ eqb (stage_number stage) event_stage
+no_event Watch h = refl
+no_event Rule h = refl
+no_event Start h = refl
+no_event Event h = absurd (h refl)
+no_event Over h = refl
 
 -- The part that is lent is what the calls get.
 pub cut_stands : (t : Standing) (r : Session) (rule s window : List ℕ) → Stands t r rule s window
@@ -112,13 +109,13 @@ module _ (t : Standing) (session next : Session) (line rule s window rule' s' pa
   u = line_read (lent_part t) line
 
   -- The line's answer is possible with the record that it leaves.
-  pub answer_told : session.stage < over_stage
-      → Possible (eqb session.stage event_stage) (taken_counts program_width s') u.answer
+  pub answer_told : stage_number session.stage < over_stage
+      → Possible (eqb (stage_number session.stage) event_stage) (taken_counts program_width s') u.answer
   unfolding lent_part
   answer_told l = rw (h.stage, g.bytes) (line_possible (lent_part t) line (rw h.stage at l))
 
   -- The answer's text, and those of the takes; what is left.
-  module _ (scratch out s'' part'' lent'' before : List ℕ) (follows : Bool) (end : ℕ) (on : Bool) where
+  module _ (scratch out s'' part'' lent'' before : List ℕ) (follows : Bool) (end : ℕ) where
     abbrev n : ℕ
     n = room_bytes session.room
 
@@ -127,7 +124,7 @@ module _ (t : Standing) (session next : Session) (line rule s window rule' s' pa
 
     pub responded : length part ≡ n → before ≡ answer_text next.k u.answer → follows ≡ is_held u.answer
         → take end out ≡ before ++ o.text → s'' ≡ o.bytes → part'' ≡ o.window → lent'' ≡ o.scratch
-        → Responded (turned t line scratch) (record { session = next; length = end; on = on }) rule' s''
+        → Responded (turned t line scratch) (record { session = next; length = end }) rule' s''
         (part'' ++ drop n (part ++ drop n window)) (lent'' ++ drop n scratch) out
     unfolding turned
     responded long text following laid bytes kept spent =

@@ -1,14 +1,10 @@
 -- What a line is answered with is possible with the record that it leaves: no refusal of a line has number 0.
 use Rattle.std.specs.Prelude.{ℕ, zero, suc, ◌≤◌, ◌<◌, ◌≡◌, refl, Bool, true, false, cond, List, eqb}
 use Rattle.std.proofs.Common.{arith, inl, inr}
-use Rattle.lines.specs.declared.WatchLine.{WatchLine}
-use Rattle.lines.specs.declared.WatchLine.TheVariants.{Watch, Refused as WatchRefused}
-use Rattle.lines.specs.declared.RuleLine.{RuleLine}
-use Rattle.lines.specs.declared.RuleLine.TheVariants.{Rule, Refused as RuleRefused}
-use Rattle.lines.specs.declared.StartLine.{StartLine}
-use Rattle.lines.specs.declared.StartLine.TheVariants.{Start, Refused as StartRefused}
-use Rattle.lines.specs.declared.DidLine.{DidLine}
-use Rattle.lines.specs.declared.DidLine.TheVariants.{Did, Refused as DidRefused}
+use Rattle.lines.specs.WatchLine.{WatchLine, Watch, Refused as WatchRefused}
+use Rattle.lines.specs.RuleLine.{RuleLine, Rule, Refused as RuleRefused}
+use Rattle.lines.specs.StartLine.{StartLine, Start, Refused as StartRefused}
+use Rattle.lines.specs.DidLine.{DidLine, Did, Refused as DidRefused}
 use Rattle.lines.specs.Lines.{watch_line, rule_text, rule_line, start_line, did_line}
 use Rattle.line_laws.specs.Grammar.{Piece, watch_pieces, start_pieces, did_pieces}
 use Rattle.line_laws.specs.Fault.{LineFault}

@@ -4,10 +4,8 @@ use Rattle.std.proofs.Common.{leb→le}
 use Rattle.clocks.specs.stored.BoundedLaws.{and_r}
 use Rattle.codec.specs.Ascii.{ascii}
 use Rattle.rules.specs.Text.{byte_at}
-use Rattle.line_pieces.specs.declared.Read.{Read}
-use Rattle.line_pieces.specs.declared.Read.TheVariants.{At, Refused}
-use Rattle.lines.specs.declared.WatchLine.{WatchLine}
-use Rattle.lines.specs.declared.WatchLine.TheVariants.{Watch, Refused as WatchRefused}
+use Rattle.line_pieces.specs.Read.{Read, At, Refused}
+use Rattle.lines.specs.WatchLine.{WatchLine, Watch, Refused as WatchRefused}
 use Rattle.codec.specs.Decimal.{digits, value}
 use Rattle.line_pieces.specs.Number.{number_of, number_at}
 use Rattle.line_pieces.specs.Reading.{line_limit, then_byte, then_number, then_end, limited, head_read, value_read, then_last}

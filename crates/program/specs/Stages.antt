@@ -1,14 +1,10 @@
 -- What each line is answered with, and what it leaves (01, Examples: the program; Turned back, from the input: 5, in
 -- its own line).
 use Rattle.std.specs.Prelude.{ℕ, ◌≤◌, ◌≡◌, true, false, cond, List, [], ◌∷◌, eqb, take}
-use Rattle.lines.specs.declared.WatchLine.{WatchLine}
-use Rattle.lines.specs.declared.WatchLine.TheVariants.{Watch, Refused as WatchRefused}
-use Rattle.lines.specs.declared.RuleLine.{RuleLine}
-use Rattle.lines.specs.declared.RuleLine.TheVariants.{Rule, Refused as RuleRefused}
-use Rattle.lines.specs.declared.StartLine.{StartLine}
-use Rattle.lines.specs.declared.StartLine.TheVariants.{Start, Refused as StartRefused}
-use Rattle.lines.specs.declared.DidLine.{DidLine}
-use Rattle.lines.specs.declared.DidLine.TheVariants.{Did, Refused as DidRefused}
+use Rattle.lines.specs.WatchLine.{WatchLine, Watch, Refused as WatchRefused}
+use Rattle.lines.specs.RuleLine.{RuleLine, Rule, Refused as RuleRefused}
+use Rattle.lines.specs.StartLine.{StartLine, Start, Refused as StartRefused}
+use Rattle.lines.specs.DidLine.{DidLine, Did, Refused as DidRefused}
 use Rattle.lines.specs.Lines.{watch_line, rule_text, rule_line, start_line, did_line}
 use Rattle.refusals.specs.Refusals.{bad_processes}
 use Rattle.answers.specs.Answer.{Answer, turned_back, nothing_ready, reply_word}
@@ -17,8 +13,8 @@ use Rattle.call_words.specs.Words.{unpack_counts, unpack_labels}
 use Rattle.call_open.specs.Open.{open_call}
 use Rattle.call_offer.specs.Offer.{offer_call}
 use Rattle.program.specs.declared.Session.{Session}
-use Rattle.replies.specs.Replies.{parts_of, Fits}
-use Rattle.replies.specs.Following.{watch_stage, rule_stage, start_stage, next_stage}
+use Rattle.replies.specs.Replies.{reply_of, parts_of, Fits}
+use Rattle.replies.specs.Following.{watch_stage, rule_stage, start_stage, stage_number, next_stage}
 use Rattle.answers.specs.Kinds.{is_turned_back}
 
 -- What the program knows between two lines, and its answer to the last: the next line's stage, the processes, the room
@@ -98,8 +94,8 @@ line_read s line =
 
 -- The code's session and buffers are what the program knows.
 pub record Stands (t : Standing) (r : Session) (rule state window : List ℕ) : Type 0 where
-  pub replied : r.reply ≡ parts_of t.answer
-  pub stage : r.stage ≡ t.stage
+  pub replied : reply_of r.reply ≡ parts_of t.answer
+  pub stage : stage_number r.stage ≡ t.stage
   pub processes : r.k ≡ t.k
   pub frontiers : r.room ≡ t.room
   pub text : take r.text rule ≡ t.rule
@@ -117,5 +113,5 @@ pub record Replied (s : Session) (word : ℕ) (r : Session) : Type 0 where
   pub processes : r.k ≡ s.k
   pub frontiers : r.room ≡ s.room
   pub text : r.text ≡ s.text
-  pub reply : (a : Answer) → Fits a → word ≡ reply_word a → (r.reply ≡ parts_of a) × (r.stage
-      ≡ next_stage s.stage (is_turned_back a))
+  pub reply : (a : Answer) → Fits a → word ≡ reply_word a → (reply_of r.reply ≡ parts_of a) × (stage_number r.stage
+      ≡ next_stage (stage_number s.stage) (is_turned_back a))

@@ -1,9 +1,16 @@
 // Lines out of the bytes that were read (01, Examples: the program): line feeds belong to no line.
 
-ghost use Rattle.std.specs.Prelude.{◌≤◌, length};
+ghost use Rattle.std.specs.Prelude.{◌≡◌, ◌≤◌, eqb, length, position};
 ghost use Rattle.program.specs.Split.{Scanned};
 
 use crate::Scan;
+
+// The place of the first line feed.
+fn feed_place(bytes: &[u8]) -> Option<usize>
+    ensures { result ≡ position (λ b. eqb b 10) bytes.now }
+{
+    bytes.iter().position(|&byte| byte == b'\n')
+}
 
 // Adds the bytes up to the first line feed, or all, to a line's bytes so far. Those that the line has no room for are
 // passed over.
@@ -11,26 +18,17 @@ pub fn scan(bytes: &[u8], line: &mut [u8], start: usize) -> Scan
     requires { start ≤ length line.old }
     ensures { Scanned bytes.now line.old start line.new result }
 {
-    let mut kept = start;
-    let mut i: usize = 0;
-    while i < bytes.len() {
-        let byte = bytes[i];
-        i += 1;
-        if byte == b'\n' {
-            return Scan {
-                used: i,
-                kept,
-                feed: true,
-            };
-        }
-        if kept < line.len() {
-            line[kept] = byte;
-            kept += 1;
-        }
-    }
+    let feed = feed_place(bytes);
+    let text = match feed {
+        Some(i) => &bytes[..i],
+        None => bytes,
+    };
+    let n = text.len().min(line.len() - start);
+    let end = start + n;
+    line[start..end].copy_from_slice(&text[..n]);
     Scan {
-        used: i,
-        kept,
-        feed: false,
+        used: text.len() + usize::from(feed.is_some()),
+        kept: end,
+        feed: feed.is_some(),
     }
 }

@@ -1,20 +1,21 @@
 // A line with its takes (01, Examples: the program): after an accepted event it takes until nothing is ready or 36. The
 // answers' texts are laid into a lent buffer, one after the other.
 
-ghost use Rattle.std.specs.Prelude.{ℕ, ◌+◌, ◌*◌, ◌≤◌, ◌<◌, ◌≡◌, cond, List, ◌++◌, ltb, length, take};
+ghost use Rattle.std.specs.Prelude.{ℕ, ◌+◌, ◌*◌, ◌≤◌, ◌<◌, ◌≡◌, List, ◌++◌, length, take};
 ghost use Rattle.records.specs.Record.{record_length, taken_counts};
 ghost use Rattle.answers.specs.Answer.{Answer};
 ghost use Rattle.call_take.specs.Take.{take_call};
 ghost use Rattle.reply_text.specs.Form.{program_width, program_window};
 ghost use Rattle.reply_text.specs.Texts.{answer_text};
-ghost use Rattle.replies.specs.Replies.{parts_of, Possible};
-ghost use Rattle.replies.specs.Following.{takes_again, over_stage};
+ghost use Rattle.replies.specs.Replies.{reply_of, parts_of, Possible};
+ghost use Rattle.replies.specs.Following.{takes_again, stage_number, over_stage};
 ghost use Rattle.program.specs.Stages.{Standing, Stands, Within};
 ghost use Rattle.program.specs.Turn.{takes_while, most_takes, at_first, turned, Responded};
 
-use crate::stages::answer;
+use crate::stages::{SILENT, answer};
 use crate::{Laid, Response, Session};
-use replies::{Reply, decode, takes, takes_again};
+use replies::reply::{Accepted, Refused};
+use replies::{Stage, decode, takes, takes_again};
 use reply_text::answer_text;
 use reply_text::form::FRONTIER_BYTES;
 use watch32::watch32_take;
@@ -27,13 +28,20 @@ const MOST_TAKES: usize = 33;
 pub const OUT_BYTES: usize = TEXT_BYTES + MOST_TAKES * TEXT_BYTES;
 
 // Lays an answer's text after what is laid: the place after it.
-fn lay(record: &[u8], k: u64, reply: Reply, offered: bool, out: &mut [u8], at: usize) -> usize
+fn lay(
+    record: &[u8],
+    k: u64,
+    reply: Result<Accepted, Refused>,
+    offered: bool,
+    out: &mut [u8],
+    at: usize,
+) -> usize
     requires k_bound { k ≤ 8 }
     requires record_len { length «record».now ≡ record_length program_width }
     requires at_in_bounds { at + 256 ≤ length out.old }
     ensures upper_bound { result ≤ at + 256 }
     ensures out_after { (a : Answer) → Possible offered (taken_counts program_width «record».now) a
-        → reply ≡ parts_of a → take result out.new ≡ take at out.old ++ answer_text k a }
+        → reply_of reply ≡ parts_of a → take result out.new ≡ take at out.old ++ answer_text k a }
 {
     let end = at + TEXT_BYTES;
     let length = answer_text(record, k, reply, offered, &mut out[at..end]);
@@ -73,16 +81,9 @@ fn take_next(
     }
 }
 
-// So many takes, or none if none is to follow.
-fn turns(follows: bool, most: usize) -> usize
-    ensures { result ≡ cond follows most 0 }
-{
-    if follows { most } else { 0 }
-}
-
 // Takes as long as another take is to follow, and lays the answers' texts after what is laid: the place after them.
 fn take_all(
-    follows: bool,
+    mut follows: bool,
     k: u64,
     record: &mut [u8],
     window: &mut [u8],
@@ -104,11 +105,13 @@ fn take_all(
         window.old scratch.old).scratch }
 {
     let mut at = start;
-    let mut left = turns(follows, MOST_TAKES);
-    while left > 0 {
+    for _ in 0..MOST_TAKES {
+        if !follows {
+            break;
+        }
         let took = take_next(k, record, window, scratch, out, at);
         at = took.end;
-        left = turns(took.follows, left - 1);
+        follows = took.follows;
     }
     at
 }
@@ -119,21 +122,17 @@ pub fn begin() -> Session
     ensures by_index_2 { (n : ℕ) → Within n result }
 {
     Session {
-        stage: 0,
+        stage: Stage::Watch,
         k: 0,
         room: 0,
         text: 0,
-        reply: Reply {
-            number: 0,
-            place: 0,
-            holds: false,
-            value: 0,
-        },
+        reply: SILENT,
     }
 }
 
 // Answers a line, with the takes that follow it. The window and the scratch are whole buffers, and the calls are lent
 // the part of each that the room of the first line asks for. The texts of all answers come into `out`.
+// By hand, as no plainer: the buffers are parameters of their own, since the promises name what is left in each.
 pub fn respond(
     session: Session,
     line: &[u8],
@@ -143,7 +142,7 @@ pub fn respond(
     scratch: &mut [u8],
     out: &mut [u8],
 ) -> Response
-    requires stage_lt_over_stage { session.stage < over_stage }
+    requires stage_lt_over_stage { stage_number session.stage < over_stage }
     requires line_in_bounds { length line.now ≤ length rule.old }
     requires within_2 { Within (length rule.old) session }
     requires record_len { (length «record».old ≡ record_length program_width) × (length window.old ≡ program_window)
@@ -154,10 +153,9 @@ pub fn respond(
         window.new scratch.new out.new }
     ensures within { Within (length rule.new) result.session }
     ensures length { result.length ≤ length out.new }
-    ensures on { result.on ≡ ltb result.session.stage over_stage }
 {
     let bytes = FRONTIER_BYTES * session.room;
-    let offered = session.stage == 3;
+    let offered = matches!(session.stage, Stage::Event);
     let next = answer(session, line, rule, record, &mut window[..bytes]);
     let reply = next.reply;
     let first = lay(record, next.k, reply, offered, out, 0);
@@ -173,6 +171,5 @@ pub fn respond(
     Response {
         session: next,
         length,
-        on: next.stage < 4,
     }
 }

@@ -1,26 +1,38 @@
--- What a look at two events, process by process, tells.
-use Prim.Native.Nat.{ℕ, ◌<◌}
-use mathlib.Core.Path.{◌≡◌, refl}
-use mathlib.Core.Bool.{Bool, true, false, ◌&&◌}
-use lib.Dec.{eqb}
-use borrow.Author.Tests.{eq-eqb, ne_eqb}
+-- What the derived equality of events tests.
+use Rattle.std.specs.Prelude.{◌≡◌, refl, Bool, ◌&&◌, length, eqb, T}
+use Rattle.std.specs.Str.{bytes_eq}
+use Rattle.std.proofs.Common.{subst}
+use Rattle.std.proofs.Math.Dec.{eqb_refl}
+use Rattle.std.proofs.Math.Facts.{eqb_yes}
+use Rattle.std.proofs.lemmas.Slice.Eq.{bytes_eq-Decides}
 use Rattle.clocks.specs.declared.Event.{Event}
-use Rattle.clocks.specs.Bounded.{all_below}
-use Rattle.clocks.specs.SameEvent.{same_at, same_event}
-use Rattle.clocks.specs.stored.BoundedTurns.{all_stop}
+use Rattle.clocks.specs.SameEvent.{same_event}
+use Rattle.clocks.specs.cuts.EventLaws.{true-T, T_true}
+use Rattle.clocks.specs.stored.BoundedLaws.{and_i, and_l, and_r, same_test}
+use Rattle.clocks.specs.stored.SameEventLaws.{same_refl, same-event-test}
 
-pub differ_mask : (e f : Event) → (e.mask ≡ f.mask → ⊥) → same_event e f ≡ false
-unfolding same_event
-differ_mask e f n = rw (ne_eqb e.mask f.mask n)
+-- Mask, clock and labels, each compared as a whole.
+derived : Event → Event → Bool
+derived e f = eqb e.mask f.mask && (bytes_eq e.clock f.clock && bytes_eq e.labels f.labels)
 
-pub differ_at : (e f : Event) (p : ℕ) → p < 8 → same_at e f p ≡ false → same_event e f ≡ false
-unfolding same_event
-differ_at e f p l d = rw (all_stop 8 p (same_at e f) l d) (and-false (eqb e.mask f.mask))
+derived_refl : (e : Event) → T (derived e e)
+unfolding derived
+derived_refl e =
+    and_i _ _ (eqb_refl e.mask) (and_i _ _ (true-T ((bytes_eq-Decides e.clock e.clock).1 refl)) (true-T ((bytes_eq-Decides e.labels e.labels).1 refl)))
+
+pub derived_same : (e f : Event) → length e.clock ≡ 8 → length f.clock ≡ 8 → length e.labels ≡ 8 → length f.labels ≡ 8
+    → (eqb e.mask f.mask && (bytes_eq e.clock f.clock && bytes_eq e.labels f.labels)) ≡ same_event e f
+unfolding derived
+derived_same e f ec fc el fl = same_test (derived e f) (same_event e f) there back
   where
-    and-false : (b : Bool) → (b && false) ≡ false
-    and-false true = refl
-    and-false false = refl
+    there : T (derived e f) → T (same_event e f)
+    there t =
+        let rest = and_r (eqb e.mask f.mask) _ t in
+        let masks : e.mask ≡ f.mask = eqb_yes (and_l (eqb e.mask f.mask) _ t) in
+        let clocks : e.clock ≡ f.clock = (bytes_eq-Decides e.clock f.clock).0 (T_true _ (and_l (bytes_eq e.clock f.clock) _ rest)) in
+        let labels : e.labels ≡ f.labels = (bytes_eq-Decides e.labels f.labels).0 (T_true _ (and_r (bytes_eq e.clock f.clock) _ rest)) in
+        let same : e ≡ f = λ i. record { mask = masks i; clock = clocks i; labels = labels i } in
+        subst (λ (g : Event). T (same_event e g)) same (same_refl e)
 
-pub same-all : (e f : Event) → e.mask ≡ f.mask → all_below 8 (same_at e f) ≡ true → same_event e f ≡ true
-unfolding same_event
-same-all e f m a = rw (eq-eqb e.mask f.mask m) a
+    back : T (same_event e f) → T (derived e f)
+    back t = subst (λ (g : Event). T (derived e g)) ((same-event-test e f ec fc el fl).0 t) (derived_refl e)

@@ -1,25 +1,51 @@
 -- What follows from a reply, by the tests that the code makes on its parts.
 use Prim.Native.Nat.{ℕ}
 use native.Mathlib.Omega.{arith}
-use mathlib.Core.Path.{◌≡◌, refl}
-use mathlib.Core.Bool.{Bool, true, false, not, ◌&&◌, ◌||◌}
+use mathlib.Core.Path.{◌≡◌, refl, sym, ap, ◌∙◌}
+use mathlib.Core.Bool.{Bool, true, false, cond, not, ◌&&◌, ◌||◌}
 use mathlib.Core.List.{List}
+use Rattle.std.specs.Prelude.{Err}
 use lib.Dec.{eqb}
 use borrow.Author.Tests.{ne_eqb}
-use Rattle.answers.specs.Answer.{Answer, turned_back, state, nothing_ready, held, again, found, absent, process_closed}
-use Rattle.replies.specs.declared.Reply.{Reply}
+use Rattle.answers.specs.Answer.{Answer, reply_word, turned_back, state, nothing_ready, held, again, found, absent, process_closed}
+use Rattle.replies.specs.declared.reply.Refused.{Refused}
 use Rattle.replies.specs.Following.{takes_again}
 use Rattle.answers.specs.Kinds.{is_held}
-use Rattle.replies.specs.Replies.{parts_of, Possible}
+use Rattle.replies.specs.Replies.{Reply, reply_of, parts_of, Fits, Possible}
+use Rattle.replies.specs.ReplyLaws.{word_parts, word_parts_lem}
+
+pub and-false : (b : Bool) → (b && false) ≡ false
+and-false true = refl
+and-false false = refl
+
+or-false : (b : Bool) → (b || false) ≡ b
+or-false true = refl
+or-false false = refl
+
+-- The parts that the code keeps: of a refusal its number and place, else the others.
+abbrev pub kept : Reply → Reply
+kept r = cond (eqb r.number 0)
+    (record { number = 0; place = 0; holds = r.holds; value = r.value })
+    (record { number = r.number; place = r.place; holds = false; value = 0 })
+
+kept_all : (a : Answer) → Fits a → kept (parts_of a) ≡ parts_of a
+unfolding parts_of
+kept_all (turned_back n place) h = rw (ne_eqb n 0 (omega arith))
+kept_all (state counts truth kept) h = refl
+kept_all nothing_ready h = refl
+kept_all (held n) h = refl
+kept_all again h = refl
+kept_all (found i) h = refl
+kept_all absent h = refl
+kept_all (process_closed n) h = refl
+
+pub decoded : (a : Answer) (word : ℕ) → Fits a → word ≡ reply_word a → kept (word_parts word) ≡ parts_of a
+decoded a word h e = ap (λ (n : ℕ). kept (word_parts n)) e ∙ ap kept (word_parts_lem a h) ∙ kept_all a h
 
 pub accepted_by_lem : (a : Answer) (r : Reply) (offered : Bool) (counts : List ℕ) → Possible offered counts a → r
     ≡ parts_of a → (offered && not (eqb r.value 0)) ≡ is_held a
 unfolding parts_of
-accepted_by_lem (turned_back n place) r offered counts h e = rw e (none offered)
-  where
-    none : (b : Bool) → (b && false) ≡ false
-    none true = refl
-    none false = refl
+accepted_by_lem (turned_back n place) r offered counts h e = rw e (and-false offered)
 accepted_by_lem (state taken truth kept) r offered counts h e = rw (e, h.0)
 accepted_by_lem nothing_ready r offered counts h e = rw (e, h)
 accepted_by_lem (held n) r offered counts h e = rw (e, h.0, ne_eqb n 0 (omega arith))
@@ -31,11 +57,7 @@ accepted_by_lem (process_closed n) r offered counts h e = absurd h
 pub again_by : (a : Answer) (r : Reply) (counts : List ℕ) → Possible false counts a → r ≡ parts_of a
     → (eqb r.number 35 || (eqb r.number 0 && not (eqb r.value 0))) ≡ takes_again a
 unfolding parts_of takes_again
-again_by (turned_back n place) r counts h e = rw (e, ne_eqb n 0 (omega arith)) (plain (eqb n 35))
-  where
-    plain : (b : Bool) → (b || false) ≡ b
-    plain true = refl
-    plain false = refl
+again_by (turned_back n place) r counts h e = rw (e, ne_eqb n 0 (omega arith)) (or-false (eqb n 35))
 again_by (state taken truth kept) r counts h e = rw (e, ne_eqb kept 0 (omega arith))
 again_by nothing_ready r counts h e = rw e
 again_by (held n) r counts h e = absurd (never h.0)
@@ -46,3 +68,10 @@ again_by again r counts h e = rw e
 again_by (found i) r counts h e = absurd h
 again_by absent r counts h e = absurd h
 again_by (process_closed n) r counts h e = absurd h
+
+-- No event was pending, so the number alone tells.
+pub again_by_number : (a : Answer) (r : Refused) (counts : List ℕ) → Possible false counts a → reply_of (Err r) ≡ parts_of a
+    → eqb r.number 35 ≡ takes_again a
+again_by_number a r counts h e =
+    let some = ne_eqb r.number 0 (omega (arith, r.some)) in
+    sym (rw some (or-false (eqb r.number 35))) ∙ again_by a (reply_of (Err r)) counts h e

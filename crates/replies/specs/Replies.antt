@@ -1,7 +1,27 @@
--- Replies: an answer's parts, as the code has them, and the answers that the program can get.
-use Rattle.std.specs.Prelude.{ℕ, ◌≤◌, ◌<◌, ◌≡◌, Bool, true, false, List}
+-- Replies: an answer's parts, how the code has them, and the answers that the program can get.
+use Rattle.std.specs.Prelude.{ℕ, ◌≤◌, ◌<◌, ◌≡◌, Bool, true, false, List, Result, Ok, Err}
+use Rattle.numbers.specs.declared.fault.Fault.{Fault}
+use Rattle.numbers.specs.RefusalNumber.{number_of}
 use Rattle.answers.specs.Answer.{Answer, turned_back, state, nothing_ready, held, again, found, absent, process_closed}
-use Rattle.replies.specs.declared.Reply.{Reply}
+use Rattle.replies.specs.declared.reply.Accepted.{Accepted}
+use Rattle.replies.specs.declared.reply.Refused.{Refused}
+
+-- An answer's parts: a refusal's number and place, both 0 where there is none; the rule's truth; the frontiers kept or
+-- the events pending.
+pub record Reply : Type 0 where
+  pub number : ℕ
+  pub place : ℕ
+  pub holds : Bool
+  pub value : ℕ
+
+-- The parts, as the code has them.
+abbrev pub reply_of : Result Accepted Refused → Reply
+reply_of (Ok accepted) = record { number = 0; place = 0; holds = accepted.holds; value = accepted.value }
+reply_of (Err refused) = record { number = refused.number; place = refused.place; holds = false; value = 0 }
+
+-- The parts of what is answered to a text's fault.
+abbrev pub reply_of_fault : Fault → Reply
+reply_of_fault fault = record { number = number_of fault.refusal; place = fault.place; holds = false; value = 0 }
 
 -- A refusal's number and place, both 0 where there is none; the rule's truth; the frontiers kept or the events pending.
 -- A state's counts stand in the record. Without a value the truth alone tells "again" from nothing ready.

@@ -2,56 +2,75 @@
 
 #![tactic(auto)]
 
+// What a call or a line is answered with.
+pub mod reply;
+
 ghost use Rattle.std.specs.Prelude.{◌≡◌, false};
-ghost use Rattle.replies.specs.Following.{takes_again, next_stage};
+ghost use Rattle.replies.specs.Following.{takes_again, next_stage, stage_number};
 ghost use Rattle.answers.specs.Kinds.{is_held};
+ghost use Rattle.replies.specs.Replies.{reply_of};
 ghost use Rattle.replies.specs.Promises.{PartsPromised, FollowPromised};
 
-// An answer's parts: a refusal's number and place, both 0 where there is none; the rule's truth; the frontiers kept or
-// the events pending.
-#[derive(Clone, Copy)]
-pub struct Reply {
-    pub number: u64,
-    pub place: u64,
-    pub holds: bool,
-    pub value: u64,
+use crate::reply::{Accepted, Refused};
+use numbers::refusal::Refusal;
+
+// Which line comes next: the watch line, the rule's, the start labels' or an event's; or the program is over.
+#[derive(Clone, Copy, Debug, PartialEq, Eq)]
+pub enum Stage {
+    Watch,
+    Rule,
+    Start,
+    Event,
+    Over,
 }
 
 // An answer's parts, out of its reply word.
-pub fn decode(word: u64) -> Reply
-    ensures { PartsPromised word result }
+pub fn decode(word: u64) -> Result<Accepted, Refused>
+    ensures { PartsPromised word (reply_of result) }
 {
-    Reply {
-        number: word % 256,
-        place: word / 4294967296,
+    let number = word % 256;
+    if number != 0 {
+        return Err(Refused {
+            number,
+            place: word / 4294967296,
+        });
+    }
+    Ok(Accepted {
         holds: word / 256 % 2 == 1,
         value: word / 65536 % 65536,
-    }
+    })
 }
 
 // Whether takes follow a line: after an offer that was accepted, and so left an event pending.
-pub fn takes(offered: bool, reply: Reply) -> bool
-    ensures { FollowPromised is_held offered reply result }
+pub fn takes(offered: bool, reply: Result<Accepted, Refused>) -> bool
+    ensures { FollowPromised is_held offered (reply_of reply) result }
 {
-    offered & (reply.value != 0)
+    match reply {
+        Ok(accepted) => offered & (accepted.value != 0),
+        Err(_) => false,
+    }
 }
 
 // Whether a take is followed by another.
-pub fn takes_again(reply: Reply) -> bool
-    ensures { FollowPromised takes_again false reply result }
+pub fn takes_again(reply: Result<Accepted, Refused>) -> bool
+    ensures { FollowPromised takes_again false (reply_of reply) result }
 {
-    (reply.number == 35) | ((reply.number == 0) & (reply.value != 0))
+    match reply {
+        Ok(accepted) => accepted.value != 0,
+        Err(refused) => refused.number == u64::from(Refusal::FalseClock),
+    }
 }
 
 // The stage of the next line, after a line at this one that was refused or not.
-pub fn next_stage(stage: u64, refused: bool) -> u64
-    ensures { result ≡ next_stage stage refused }
+#[tactic(auto, unfolding(crate::specs::Following::next_stage))]
+pub fn next_stage(stage: Stage, refused: bool) -> Stage
+    ensures { stage_number result ≡ next_stage (stage_number stage) refused }
 {
-    if stage >= 3 {
-        return stage;
+    match (stage, refused) {
+        (Stage::Event | Stage::Over, _) => stage,
+        (_, true) => Stage::Over,
+        (Stage::Watch, false) => Stage::Rule,
+        (Stage::Rule, false) => Stage::Start,
+        (Stage::Start, false) => Stage::Event,
     }
-    if refused {
-        return 4;
-    }
-    stage + 1
 }

@@ -1,23 +1,17 @@
--- The answers' text, piece by piece: each piece goes behind the text so far.
+-- The answers' text, piece by piece: each piece goes after the text so far.
 use Prim.Native.Nat.{ℕ, zero, suc, ◌+◌, ◌-◌, ◌/◌, ◌%◌, ◌≤◌, ◌<◌}
 use native.Mathlib.Omega.{arith}
 use native.Mathlib.Numerals.{add-one}
 use mathlib.Core.Path.{◌≡◌, sym, ap, ◌∙◌}
 use mathlib.Core.List.{List, [], ◌∷◌, ◌++◌, append_assoc, append-nil}
-use lib.ListN.{length, get_or, set, take}
-use lib.Seq.{take-suc, take-suc-set}
+use lib.ListN.{length, get_or, set, take, drop, length-drop}
+use lib.Seq.{take-suc-set, length-take-le}
+use Rattle.std.proofs.Common.{max}
+use Rattle.std.proofs.lemmas.Grind.{common_steps}
 use borrow.Author.Tests.{lt-ltb, le-ltb}
 use Rattle.clocks.specs.Counts.{at}
 use Rattle.codec.specs.Decimal.{numeral_of, numeral}
 use Rattle.reply_text.specs.Texts.{more_counts, counts_text}
-
--- One byte more behind the text so far.
-pub laid_next : (out start bytes : List ℕ) (at i : ℕ) → at + i < length out → i < length bytes → take (at + i) out ≡ start ++ take i bytes
-    → take (at + (i + 1)) (set out (at + i) (get_or bytes i 0)) ≡ start ++ take (i + 1) bytes
-laid_next out start bytes at i h l e =
-    let s : at + (i + 1) ≡ suc (at + i) = omega arith in
-    rw (s, add-one i, take-suc-set out (at + i) (get_or bytes i 0) h, take-suc bytes i 0 l, e)
-    (append_assoc start (take i bytes) (get_or bytes i 0 ∷ []))
 
 -- A piece more behind a text that is known.
 pub behind : {x y z : List ℕ} (w : List ℕ) → y ≡ z → x ≡ y ++ w → x ≡ z ++ w
@@ -41,17 +35,22 @@ last_digit out text at (suc most) n h m l e =
     let s : suc most - 1 ≡ most = omega arith in
     rw (add-one at, le-ltb n 10 l, take-suc-set out at (48 + n % 10) h, e, s) (append_assoc text (numeral_of most (n / 10)) ((48 + n % 10) ∷ []))
 
--- One count more behind the counts so far, with a space before it.
-pub counts_next : (start counts : List ℕ) (p : ℕ) → 1 ≤ p
-    → start ++ more_counts counts (p - 1) ++ (32 ∷ []) ++ numeral (at counts p) ≡ start ++ more_counts counts (p + 1 - 1)
+-- The counts after the first, one by one.
+pub count_here : (counts : List ℕ) (n i : ℕ) → i < length (take n (drop 1 counts)) → get_or (take n (drop 1 counts)) i 0 ≡ at counts (i + 1)
+count_here counts n i l = grind (arith, common_steps)
+
+pub counts_long : (counts : List ℕ) (k : ℕ) → 1 ≤ length counts → k ≤ length counts → length (take (max k 1 - 1) (drop 1 counts)) ≡ k - 1
+counts_long counts k some few =
+    length-take-le (max k 1 - 1) (drop 1 counts) (omega (arith, length-drop 1 counts)) ∙ omega arith
+
+-- One count more after the counts so far, with a space before it.
+pub counts_next : (start counts : List ℕ) (i n : ℕ) → n ≡ at counts (i + 1)
+    → start ++ more_counts counts i ++ (32 ∷ []) ++ numeral n ≡ start ++ more_counts counts (i + 1)
 unfolding more_counts
-counts_next start counts zero h = absurd (omega (arith, h))
-counts_next start counts (suc p) h =
-    let here : suc p - 1 ≡ p = omega arith in
-    let next : suc (suc p) - 1 ≡ suc p = omega arith in
-    rw (add-one (suc p), here, next, append_assoc start (more_counts counts p) (32 ∷ []), append_assoc start (more_counts counts p ++ (32 ∷ [])) (numeral (at counts (suc p))))
+counts_next start counts i n e =
+    rw (e, add-one i, append_assoc start (more_counts counts i) (32 ∷ []), append_assoc start (more_counts counts i ++ (32 ∷ [])) (numeral (at counts (suc i))))
 
 -- All the counts.
-pub counts_end : (start counts : List ℕ) (k p : ℕ) → p - 1 ≡ k - 1 → start ++ numeral (at counts 0) ++ more_counts counts (p - 1) ≡ start ++ counts_text counts k
+pub counts_end : (start counts : List ℕ) (k i n : ℕ) → i ≡ k - 1 → n ≡ at counts 0 → start ++ numeral n ++ more_counts counts i ≡ start ++ counts_text counts k
 unfolding counts_text
-counts_end start counts k p e = rw e (append_assoc start (numeral (at counts 0)) (more_counts counts (k - 1)))
+counts_end start counts k i n e f = rw (e, f) (append_assoc start (numeral (at counts 0)) (more_counts counts (k - 1)))

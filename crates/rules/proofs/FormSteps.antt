@@ -7,9 +7,8 @@ use mathlib.Core.List.{List, ◌++◌}
 use lib.ListN.{length, take, replicate, length-append}
 use Rattle.rules.specs.declared.Unary.{Unary}
 use Rattle.rules.specs.declared.Binary.{Binary}
-use Rattle.rules.specs.declared.WordRead.{WordRead}
-use Rattle.rules.specs.declared.Read.{Read}
-use Rattle.rules.specs.declared.Read.TheVariants.{Form, Refused}
+use Rattle.rules.specs.WordRead.{WordRead}
+use Rattle.rules.specs.ReaderCode.{Form, Refused}
 use Rattle.rules.specs.Line.{lines_before, lines_after, lines_between, lines_after_both, line_count, lines_at}
 use Rattle.rules.proofs.LayingSteps.{lay-lay}
 use Rattle.rules.specs.Text.{byte_at}
@@ -92,10 +91,10 @@ laid_formed : (n : ℕ) (old new : List ℕ) (reading : Reading) (j : ℕ) (f : 
 unfolding LaidDown
 laid_formed n old new reading j f e d = subst (LaidDown n old new) e d
 
-pub form_done : (laid closed : ℕ) (old new : List ℕ) (reading : Reading) (r : Read) (j l c : ℕ) → Done laid closed old new reading r → r ≡ Form j l c
+pub form_done : (laid closed : ℕ) (old new : List ℕ) (reading : Reading) (j l c : ℕ) → Done laid closed old new reading (Form j l c)
     → FormDone laid closed old new reading j l c
-form_done laid closed old new reading r j l c d e =
-    let x = read_of_form laid closed reading j l c (sym d.answer ∙ e) in
+form_done laid closed old new reading j l c d =
+    let x = read_of_form laid closed reading j l c (sym d.answer) in
     record {
       form = x.0;
       read = x.1;
@@ -104,9 +103,9 @@ form_done laid closed old new reading r j l c d e =
       table = laid_formed laid old new reading j x.0 x.1 d.table;
     }
 
-pub fault_done : (laid closed : ℕ) (old new : List ℕ) (reading : Reading) (r : Read) (n j : ℕ) → Done laid closed old new reading r → r ≡ Refused n j
+pub fault_done : (laid closed : ℕ) (old new : List ℕ) (reading : Reading) (n j : ℕ) → Done laid closed old new reading (Refused n j)
     → reading ≡ faulty n j
-fault_done laid closed old new reading r n j d e = read_of-refused laid closed reading n j (sym d.answer ∙ e)
+fault_done laid closed old new reading n j d = read_of-refused laid closed reading n j (sym d.answer)
 
 -- A form read at a text's first byte: which, and the front of the table with its lines.
 pub record RuleDone (s : List ℕ) (k : ℕ) (new : List ℕ) (j l : ℕ) : Type 0 where
@@ -116,10 +115,10 @@ pub record RuleDone (s : List ℕ) (k : ℕ) (new : List ℕ) (j l : ℕ) : Type
   pub count : l ≡ line_count form
   pub table : take 192 new ≡ table_of form
 
-pub rule_done : (s : List ℕ) (k : ℕ) {new : List ℕ} {r : Read} {j l c : ℕ}
-    → Done 0 0 (replicate 600 0) new (form_at 32 s k 0 0) r → r ≡ Form j l c → RuleDone s k new j l
-rule_done s k {new} {r} {j} {l} {c} d e =
-    let x = form_done 0 0 (replicate 600 0) new (form_at 32 s k 0 0) r j l c d e in
+pub rule_done : (s : List ℕ) (k : ℕ) {new : List ℕ} {j l c : ℕ}
+    → Done 0 0 (replicate 600 0) new (form_at 32 s k 0 0) (Form j l c) → RuleDone s k new j l
+rule_done s k {new} {j} {l} {c} d =
+    let x = form_done 0 0 (replicate 600 0) new (form_at 32 s k 0 0) j l c d in
     let y = form_at-formed s k 32 0 0 j x.form x.read in
     let short : line_count x.form ≤ 64 = omega (arith, y.short) in
     record {
@@ -137,11 +136,11 @@ pub record InnerDone (a : ℕ) (s : List ℕ) (k laid closed i : ℕ) (old new :
   pub short : closed + line_count done.form ≤ 64
   pub near : j ≤ i + 9 * line_count done.form
 
-pub inner_done : (a : ℕ) (s : List ℕ) (k i : ℕ) {laid closed : ℕ} {old new : List ℕ} {r : Read} {j l c : ℕ}
-    → Done laid closed old new (inner_with (form_at a s k) s closed i) r → r ≡ Form j l c
+pub inner_done : (a : ℕ) (s : List ℕ) (k i : ℕ) {laid closed : ℕ} {old new : List ℕ} {j l c : ℕ}
+    → Done laid closed old new (inner_with (form_at a s k) s closed i) (Form j l c)
     → InnerDone a s k laid closed i old new j l c
-inner_done a s k i {laid} {closed} {old} {new} {r} {j} {l} {c} d e =
-    let x = form_done laid closed old new (inner_with (form_at a s k) s closed i) r j l c d e in
+inner_done a s k i {laid} {closed} {old} {new} {j} {l} {c} d =
+    let x = form_done laid closed old new (inner_with (form_at a s k) s closed i) j l c d in
     let f = x.form in
     let y = (inner_formed s k a (form_at a s k) (form_at-formed s k a) closed i j f x.read).1 in
     record { done = x; some = line_count_pos f; short = y.short; near = omega (arith, y.span.ends, length-text_of f) }

@@ -11,8 +11,7 @@ use Rattle.codec.specs.SetsLaws.{sets-append}
 use Rattle.pactl.specs.declared.Line.{Line}
 use Rattle.rules.specs.declared.Unary.{Unary}
 use Rattle.rules.specs.declared.Unary.TheVariants.{Not, Ey, Ep, Ap, Ay, Eh, Ah}
-use Rattle.rules.specs.declared.Read.{Read}
-use Rattle.rules.specs.declared.Read.TheVariants.{Form, Refused}
+use Rattle.rules.specs.ReaderCode.{Read, Form, Refused, read_of}
 use Rattle.pactl.specs.TableLaws.{length-table_bytes, table_bytes-append}
 use Rattle.rules.specs.Line.{true_lines, lines_before, line_count, lines_at}
 use Rattle.pactl.specs.Table.{table_bytes}
@@ -20,7 +19,6 @@ use Rattle.rules.specs.Text.{byte_at}
 use Rattle.rules.specs.Laying.{lay, Laid, has_true, close_read, LaidDown, Done}
 use Rattle.rules.specs.Formula.{Formula}
 use Rattle.rules.specs.Reader.{expect, close_at, formed, faulty}
-use Rattle.rules.specs.ReaderCode.{read_of}
 
 pub length-lay : (bytes : List ℕ) (n : ℕ) (ls : List Line) → length (lay bytes n ls) ≡ length bytes
 unfolding lay

@@ -4,15 +4,11 @@ use Rattle.std.proofs.lemmas.List.Edits.{sets}
 use Rattle.pactl.specs.declared.Line.{Line}
 use Rattle.rules.specs.declared.Unary.{Unary}
 use Rattle.rules.specs.declared.Unary.TheVariants.{Not, Ey, Ep, Ap, Ay, Eh, Ah}
-use Rattle.rules.specs.declared.Read.{Read}
-use Rattle.rules.specs.declared.Read.TheVariants.{Form, Refused}
-use Rattle.rules.specs.declared.DigitRead.{DigitRead}
-use Rattle.rules.specs.declared.DigitRead.TheVariants.{Digit, NoDigit}
+use Rattle.rules.specs.ReaderCode.{Read, Form, Refused, DigitRead, Digit, NoDigit, read_of}
 use Rattle.rules.specs.Line.{lines_at}
 use Rattle.pactl.specs.Table.{table_bytes}
 use Rattle.rules.specs.Text.{byte_at}
 use Rattle.rules.specs.Reader.{Reading, formed, faulty}
-use Rattle.rules.specs.ReaderCode.{read_of}
 
 -- A table's bytes with lines laid down from line n on.
 unfoldable pub lay : List ℕ → ℕ → List Line → List ℕ

@@ -4,10 +4,13 @@
 pub mod Formula
 pub mod Line
 pub mod Text
+pub mod WordRead
 pub mod Reader
 pub mod Fault
+pub mod RuleRead
 pub mod RuleTable
 -- What the reader's functions' contracts cite
+pub mod KindNumber
 pub mod Laying
 pub mod ReaderCode
 -- What is proved

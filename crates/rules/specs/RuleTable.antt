@@ -1,8 +1,7 @@
 -- What reading a rule answers and leaves: the number of lines and the table, or the fault and the table as it was (01,
 -- Turned back, from the input: 1 to 4, and 6 for a table of a wrong length).
 use Rattle.std.specs.Prelude.{ℕ, ◌-◌, ◌*◌, cond, List, ◌++◌, eqb, length, replicate}
-use Rattle.rules.specs.declared.RuleRead.{RuleRead}
-use Rattle.rules.specs.declared.RuleRead.TheVariants.{Accepted, Refused}
+use Rattle.rules.specs.RuleRead.{RuleRead, Accepted, Refused}
 use Rattle.rules.specs.Formula.{Formula}
 use Rattle.rules.specs.Line.{line_count, lines_at}
 use Rattle.pactl.specs.Table.{table_bytes}

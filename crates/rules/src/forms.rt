@@ -3,235 +3,205 @@
 ghost use Rattle.std.specs.Prelude.{◌+◌, ◌-◌, ◌≤◌, ◌<◌, ◌≡◌, length};
 ghost use Rattle.rules.specs.Formula.{constant};
 ghost use Rattle.rules.specs.Reader.{atom_at, close_at, inner_with, unary_with, binary_with, form_at};
+ghost use Rattle.rules.specs.ReaderCode.{Expected, DigitDone, form_read};
 ghost use Rattle.rules.specs.Laying.{digit_at, close_read, Done, Room};
 
-use crate::laying::{lay_after, lay_after_both, lay_before, lay_between, lay_constant, put_line};
-use crate::words::{byte_at, read_word};
-use crate::{Binary, Constant, DigitRead, Read, Unary, WordRead};
+use crate::laying::{
+    Kind, Table, lay_after, lay_after_both, lay_before, lay_between, lay_constant, put_line,
+};
+use crate::words::{Word, byte_at, read_word};
+use crate::{Binary, Constant, Unary};
+use numbers::fault::Fault;
+use numbers::refusal::Refusal;
+
+// A rule's text, and the number of processes that it may name.
+#[derive(Clone, Copy)]
+pub struct Rule<'a> {
+    pub text: &'a [u8],
+    pub k: u32,
+}
+
+// How far a rule is read: the next byte's place, the lines laid down so far, and those of the forms closed so far.
+#[derive(Clone, Copy, Debug, PartialEq, Eq)]
+pub struct Reached {
+    pub place: usize,
+    pub laid: usize,
+    pub closed: usize,
+}
+
+// Goes on if the byte at a place is the one that the grammar has there.
+fn expect(text: &[u8], place: usize, byte: u8) -> Result<(), Fault>
+    ensures { Expected text.now place byte result }
+{
+    if byte_at(text, place) == Some(byte) {
+        Ok(())
+    } else {
+        Err(Fault {
+            refusal: Refusal::Grammar,
+            place,
+        })
+    }
+}
 
 // The digit at a place, below a bound.
-fn read_digit(text: &[u8], i: usize, bound: u32) -> DigitRead
-    ensures { result ≡ digit_at text.now i bound }
+fn read_digit(text: &[u8], place: usize, bound: u32) -> Result<usize, Fault>
+    ensures { DigitDone place (digit_at text.now place bound) result }
 {
-    let c = byte_at(text, i);
-    if c < 48 {
-        return DigitRead::NoDigit { number: 1 };
-    }
-    if 57 < c {
-        return DigitRead::NoDigit { number: 1 };
-    }
-    let value = c - 48;
-    if value < bound {
-        DigitRead::Digit {
-            value: value as usize,
-        }
+    let Some(byte @ b'0'..=b'9') = byte_at(text, place) else {
+        return Err(Fault {
+            refusal: Refusal::Grammar,
+            place,
+        });
+    };
+    let value = byte - b'0';
+    if u32::from(value) < bound {
+        Ok(usize::from(value))
     } else {
-        DigitRead::NoDigit { number: 4 }
+        Err(Fault {
+            refusal: Refusal::Atom,
+            place,
+        })
     }
 }
 
-// The closing bracket of a form whose lines are those from line `laid` up to line `end`. They are counted with those of
-// the forms closed before it.
-fn close(text: &[u8], place: usize, laid: usize, end: usize, closed: usize) -> Read
-    requires { (place ≤ 1024) × (laid ≤ end) × (end ≤ 200) × (closed ≤ 64) }
-    ensures { result ≡ close_read text.now place end (closed + (end - laid)) }
+// The closing bracket at a place, of the form that began at `from` and whose lines end before line `end`. They are
+// counted with those of the forms closed before it.
+fn close(text: &[u8], place: usize, from: Reached, end: usize) -> Result<Reached, Fault>
+    requires { (place ≤ 1024) × (from.laid ≤ end) × (end ≤ 200) × (from.closed ≤ 64) }
+    ensures { form_read result ≡ close_read text.now place end (from.closed + (end - from.laid)) }
 {
-    if byte_at(text, place) != b')' as u32 {
-        return Read::Refused { number: 1, place };
-    }
-    let count = closed + (end - laid);
-    if count <= 64 {
-        Read::Form {
+    expect(text, place, b')')?;
+    let closed = from.closed + (end - from.laid);
+    if closed <= 64 {
+        Ok(Reached {
             place: place + 1,
             laid: end,
-            closed: count,
-        }
+            closed,
+        })
     } else {
-        Read::Refused { number: 3, place }
+        Err(Fault {
+            refusal: Refusal::TooManyLines,
+            place,
+        })
     }
 }
 
-// (at p b) from behind its word on.
-fn read_atom(
-    text: &[u8],
-    k: u32,
-    place: usize,
-    laid: usize,
-    closed: usize,
-    table: &mut [u8],
-) -> Read
-    requires { (length table.old ≡ 600) × (place ≤ 900) × (laid < 200) × (closed ≤ 64) }
-    ensures { Done laid closed table.old table.new (atom_at text.now k closed place) result }
+// (at p b) from after its word on.
+fn read_atom(rule: Rule, from: Reached, table: &mut Table) -> Result<Reached, Fault>
+    requires { (from.place ≤ 900) × (from.laid < 200) × (from.closed ≤ 64) }
+    ensures { Done from.laid from.closed table.old table.new (atom_at rule.entry.text.now rule.entry.k from.closed from.place) (form_read result) }
 {
-    if byte_at(text, place) != b' ' as u32 {
-        return Read::Refused { number: 1, place };
-    }
-    let first = read_digit(text, place + 1, k);
-    match first {
-        DigitRead::NoDigit { number } => Read::Refused {
-            number,
-            place: place + 1,
-        },
-        DigitRead::Digit { value: p } => {
-            if byte_at(text, place + 2) != b' ' as u32 {
-                return Read::Refused {
-                    number: 1,
-                    place: place + 2,
-                };
-            }
-            let second = read_digit(text, place + 3, 8);
-            match second {
-                DigitRead::NoDigit { number } => Read::Refused {
-                    number,
-                    place: place + 3,
-                },
-                DigitRead::Digit { value: b } => {
-                    let end = put_line(table, laid, 0, p, b);
-                    close(text, place + 4, laid, end, closed)
-                }
-            }
-        }
-    }
+    let place = from.place;
+    expect(rule.text, place, b' ')?;
+    let p = read_digit(rule.text, place + 1, rule.k)?;
+    expect(rule.text, place + 2, b' ')?;
+    let b = read_digit(rule.text, place + 3, 8)?;
+    let end = put_line(table, from.laid, Kind::Proposition, p, b);
+    close(rule.text, place + 4, from, end)
 }
 
-// A word alone, from behind it on.
+// A word alone, from after it on.
 fn read_constant(
-    text: &[u8],
+    rule: Rule,
     word: Constant,
-    place: usize,
-    laid: usize,
-    closed: usize,
-    table: &mut [u8],
-) -> Read
-    requires { (length table.old ≡ 600) × (place ≤ 900) × (laid + 5 ≤ 200) × (closed ≤ 64) }
-    ensures { Done laid closed table.old table.new (close_at text.now closed place (constant word)) result }
+    from: Reached,
+    table: &mut Table,
+) -> Result<Reached, Fault>
+    requires { (from.place ≤ 900) × (from.laid + 5 ≤ 200) × (from.closed ≤ 64) }
+    ensures { Done from.laid from.closed table.old table.new (close_at rule.entry.text.now from.closed from.place (constant word)) (form_read result) }
 {
-    let end = lay_constant(table, word, laid);
-    close(text, place, laid, end, closed)
+    let end = lay_constant(table, word, from.laid);
+    close(rule.text, from.place, from, end)
 }
 
 // A space and a form inside another.
 #[cycle(reading)]
 fn read_inner(
-    text: &[u8],
-    k: u32,
+    rule: Rule,
     allowance: usize,
-    place: usize,
-    laid: usize,
-    closed: usize,
-    table: &mut [u8],
-) -> Read
-    requires { Room allowance laid closed (place + 1) table.old }
-    ensures { Done laid closed table.old table.new (inner_with (form_at allowance text.now k) text.now closed place) result }
+    from: Reached,
+    table: &mut Table,
+) -> Result<Reached, Fault>
+    requires { Room allowance from.laid from.closed (from.place + 1) table.old }
+    ensures { Done from.laid from.closed table.old table.new (inner_with (form_at allowance rule.entry.text.now rule.entry.k) rule.entry.text.now from.closed from.place) (form_read result) }
 {
-    if byte_at(text, place) != b' ' as u32 {
-        return Read::Refused { number: 1, place };
-    }
-    read_form(text, k, allowance, place + 1, laid, closed, table)
+    expect(rule.text, from.place, b' ')?;
+    let inside = Reached {
+        place: from.place + 1,
+        ..from
+    };
+    read_form(rule, allowance, inside, table)
 }
 
-// A word with one form inside, from behind the word on.
+// A word with one form inside, from after the word on.
 #[cycle(reading)]
 fn read_unary(
-    text: &[u8],
-    k: u32,
+    rule: Rule,
     allowance: usize,
     word: Unary,
-    place: usize,
-    laid: usize,
-    closed: usize,
-    table: &mut [u8],
-) -> Read
-    requires { Room allowance (laid + 4) closed (place + 1) table.old }
-    ensures { Done laid closed table.old table.new (unary_with (form_at allowance text.now k) text.now word closed place) result }
+    from: Reached,
+    table: &mut Table,
+) -> Result<Reached, Fault>
+    requires { Room allowance (from.laid + 4) from.closed (from.place + 1) table.old }
+    ensures { Done from.laid from.closed table.old table.new (unary_with (form_at allowance rule.entry.text.now rule.entry.k) rule.entry.text.now word from.closed from.place) (form_read result) }
 {
-    let start = lay_before(table, word, laid);
-    let inner = read_inner(text, k, allowance, place, start, closed, table);
-    match inner {
-        Read::Refused { number, place: at } => Read::Refused { number, place: at },
-        Read::Form {
-            place: at,
-            laid: end,
-            ..
-        } => {
-            let total = lay_after(table, word, laid + 3, end - 1);
-            close(text, at, laid, total, closed)
-        }
-    }
+    let start = Reached {
+        laid: lay_before(table, word, from.laid),
+        ..from
+    };
+    let inner = read_inner(rule, allowance, start, table)?;
+    let end = lay_after(table, word, from.laid + 3, inner.laid - 1);
+    close(rule.text, inner.place, from, end)
 }
 
-// A word with two forms inside, from behind the word on.
+// A word with two forms inside, from after the word on.
 #[cycle(reading)]
 fn read_binary(
-    text: &[u8],
-    k: u32,
+    rule: Rule,
     allowance: usize,
     word: Binary,
-    place: usize,
-    laid: usize,
-    closed: usize,
-    table: &mut [u8],
-) -> Read
-    requires { Room allowance (laid + 4) closed (place + 1) table.old }
-    ensures { Done laid closed table.old table.new (binary_with (form_at allowance text.now k) text.now word closed place) result }
+    from: Reached,
+    table: &mut Table,
+) -> Result<Reached, Fault>
+    requires { Room allowance (from.laid + 4) from.closed (from.place + 1) table.old }
+    ensures { Done from.laid from.closed table.old table.new (binary_with (form_at allowance rule.entry.text.now rule.entry.k) rule.entry.text.now word from.closed from.place) (form_read result) }
 {
-    let first = read_inner(text, k, allowance, place, laid, closed, table);
-    match first {
-        Read::Refused { number, place: at } => Read::Refused { number, place: at },
-        Read::Form {
-            place: middle,
-            laid: half,
-            closed: some,
-        } => {
-            let last = half - 1;
-            let start = lay_between(table, word, last);
-            let second = read_inner(text, k, allowance, middle, start, some, table);
-            match second {
-                Read::Refused { number, place: at } => Read::Refused { number, place: at },
-                Read::Form {
-                    place: at,
-                    laid: end,
-                    ..
-                } => {
-                    let total = lay_after_both(table, word, last, end - 1);
-                    close(text, at, laid, total, closed)
-                }
-            }
-        }
-    }
+    let first = read_inner(rule, allowance, from, table)?;
+    let last = first.laid - 1;
+    let start = Reached {
+        laid: lay_between(table, word, last),
+        ..first
+    };
+    let second = read_inner(rule, allowance, start, table)?;
+    let end = lay_after_both(table, word, last, second.laid - 1);
+    close(rule.text, second.place, from, end)
 }
 
-// The form at a place, with brackets nested at most as deep as the allowance. `laid` lines are laid down so far, and
-// `closed` are those of the forms closed so far.
+// The form at a place, with brackets nested at most as deep as the allowance.
 #[cycle(reading)]
 pub fn read_form(
-    text: &[u8],
-    k: u32,
+    rule: Rule,
     allowance: usize,
-    place: usize,
-    laid: usize,
-    closed: usize,
-    table: &mut [u8],
-) -> Read
-    requires { Room allowance laid closed place table.old }
-    ensures { Done laid closed table.old table.new (form_at allowance text.now k closed place) result }
+    from: Reached,
+    table: &mut Table,
+) -> Result<Reached, Fault>
+    requires { Room allowance from.laid from.closed from.place table.old }
+    ensures { Done from.laid from.closed table.old table.new (form_at allowance rule.entry.text.now rule.entry.k from.closed from.place) (form_read result) }
 {
-    if byte_at(text, place) != b'(' as u32 {
-        return Read::Refused { number: 1, place };
-    }
+    expect(rule.text, from.place, b'(')?;
     if allowance == 0 {
-        return Read::Refused { number: 2, place };
+        return Err(Fault {
+            refusal: Refusal::Nesting,
+            place: from.place,
+        });
     }
     let less = allowance - 1;
-    let found = read_word(text, place + 1);
-    match found {
-        WordRead::AtWord(at) => read_atom(text, k, at, laid, closed, table),
-        WordRead::ConstantWord(word, at) => read_constant(text, word, at, laid, closed, table),
-        WordRead::UnaryWord(word, at) => read_unary(text, k, less, word, at, laid, closed, table),
-        WordRead::BinaryWord(word, at) => read_binary(text, k, less, word, at, laid, closed, table),
-        WordRead::NoWord(at) => Read::Refused {
-            number: 1,
-            place: at,
-        },
+    let (word, place) = read_word(rule.text, from.place + 1)?;
+    let inside = Reached { place, ..from };
+    match word {
+        Word::At => read_atom(rule, inside, table),
+        Word::Constant(word) => read_constant(rule, word, inside, table),
+        Word::Unary(word) => read_unary(rule, less, word, inside, table),
+        Word::Binary(word) => read_binary(rule, less, word, inside, table),
     }
 }

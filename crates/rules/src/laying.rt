@@ -2,43 +2,74 @@
 
 ghost use Rattle.std.specs.Prelude.{◌+◌, ◌≤◌, ◌<◌, ◌≡◌, [], ◌∷◌, length};
 ghost use Rattle.rules.specs.Line.{true_lines, constant_lines, lines_before, lines_after, lines_between, lines_after_both};
+ghost use Rattle.rules.specs.KindNumber.{kind_number};
 ghost use Rattle.rules.specs.Laying.{Laid, has_true};
 ghost use Rattle.pactl.specs.Line.{line, not_line};
 
 use crate::{Binary, Constant, Unary};
 
+// Room for the lines that are laid down before a rule is found too long: three bytes for each.
+pub type Table = [u8; 600];
+
+// The kinds of line.
+#[derive(Clone, Copy, Debug, PartialEq, Eq)]
+pub enum Kind {
+    Proposition,
+    Not,
+    And,
+    Ey,
+    Es,
+    As,
+}
+
+impl From<Kind> for u8 {
+    ghost from_gives = { λ kind number. number ≡ kind_number kind };
+
+    fn from(kind: Kind) -> u8 {
+        match kind {
+            Kind::Proposition => 0,
+            Kind::Not => 1,
+            Kind::And => 2,
+            Kind::Ey => 3,
+            Kind::Es => 4,
+            Kind::As => 5,
+        }
+    }
+}
+
 // Lays a line down as line n of a table. This one, and each below, answers the number of lines that are then laid down.
-pub fn put_line(table: &mut [u8], n: usize, kind: u8, a: usize, b: usize) -> usize
-    requires { (length table.old ≡ 600) × (n < 200) × (a < 200) × (b < 200) }
-    ensures { Laid n 1 (line kind a b ∷ []) table.old table.new result }
+// By hand, as no plainer: n stands beside the table as the later lines name the earlier ones by it.
+pub fn put_line(table: &mut Table, n: usize, kind: Kind, a: usize, b: usize) -> usize
+    requires { (n < 200) × (a < 200) × (b < 200) }
+    ensures { Laid n 1 (line (kind_number kind) a b ∷ []) table.old table.new result }
 {
     let at = 3 * n;
-    table[at] = kind;
+    table[at] = u8::from(kind);
     table[at + 1] = a as u8;
     table[at + 2] = b as u8;
     n + 1
 }
 
 // The lines of true, from line n on.
-fn lay_true(table: &mut [u8], n: usize) -> usize
-    requires { (length table.old ≡ 600) × (n + 4 ≤ 200) }
+fn lay_true(table: &mut Table, n: usize) -> usize
+    requires { n + 4 ≤ 200 }
     ensures { Laid n 4 (true_lines n) table.old table.new result }
 {
-    let second = put_line(table, n, 0, 0, 0);
-    let third = put_line(table, second, 1, n, 0);
-    let fourth = put_line(table, third, 2, n, second);
-    put_line(table, fourth, 1, third, 0)
+    let second = put_line(table, n, Kind::Proposition, 0, 0);
+    let third = put_line(table, second, Kind::Not, n, 0);
+    let fourth = put_line(table, third, Kind::And, n, second);
+    put_line(table, fourth, Kind::Not, third, 0)
 }
 
 // The lines of a word alone, from line n on.
-pub fn lay_constant(table: &mut [u8], word: Constant, n: usize) -> usize
-    requires { (length table.old ≡ 600) × (n + 5 ≤ 200) }
+pub fn lay_constant(table: &mut Table, word: Constant, n: usize) -> usize
+    requires { n + 5 ≤ 200 }
     ensures { Laid n 5 (constant_lines word n) table.old table.new result }
 {
     let end = lay_true(table, n);
     match word {
         Constant::True => end,
-        Constant::False => put_line(table, end, 1, n + 3, 0),
+        Constant::False => put_line(table, end, Kind::Not, n + 3, 0),
     }
 }
 
@@ -46,20 +77,12 @@ pub fn lay_constant(table: &mut [u8], word: Constant, n: usize) -> usize
 fn has_true(word: Unary) -> bool
     ensures { result ≡ has_true word }
 {
-    match word {
-        Unary::Not => false,
-        Unary::Ey => false,
-        Unary::Ep => true,
-        Unary::Ap => true,
-        Unary::Ay => false,
-        Unary::Eh => true,
-        Unary::Ah => true,
-    }
+    matches!(word, Unary::Eh | Unary::Ah | Unary::Ep | Unary::Ap)
 }
 
 // The lines before the form inside a word with one form.
-pub fn lay_before(table: &mut [u8], word: Unary, n: usize) -> usize
-    requires { (length table.old ≡ 600) × (n + 4 ≤ 200) }
+pub fn lay_before(table: &mut Table, word: Unary, n: usize) -> usize
+    requires { n + 4 ≤ 200 }
     ensures { Laid n 4 (lines_before word n) table.old table.new result }
 {
     if has_true(word) {
@@ -70,35 +93,35 @@ pub fn lay_before(table: &mut [u8], word: Unary, n: usize) -> usize
 }
 
 // Not line `last`, a line, and not that one, behind `last`.
-fn lay_negated(table: &mut [u8], last: usize, kind: u8, a: usize, b: usize) -> usize
-    requires { (length table.old ≡ 600) × (last + 4 ≤ 200) × (a < 200) × (b < 200) }
-    ensures { Laid (last + 1) 3 (not_line last ∷ line kind a b ∷ not_line (last + 2) ∷ []) table.old table.new result }
+fn lay_negated(table: &mut Table, last: usize, kind: Kind, a: usize, b: usize) -> usize
+    requires { (last + 4 ≤ 200) × (a < 200) × (b < 200) }
+    ensures { Laid (last + 1) 3 (not_line last ∷ line (kind_number kind) a b ∷ not_line (last + 2) ∷ []) table.old table.new result }
 {
-    let second = put_line(table, last + 1, 1, last, 0);
+    let second = put_line(table, last + 1, Kind::Not, last, 0);
     let third = put_line(table, second, kind, a, b);
-    put_line(table, third, 1, second, 0)
+    put_line(table, third, Kind::Not, second, 0)
 }
 
 // The lines after that form's. Its last line is `last`, and that of true is `truth`.
-pub fn lay_after(table: &mut [u8], word: Unary, truth: usize, last: usize) -> usize
-    requires { (length table.old ≡ 600) × (truth < 200) × (last + 4 ≤ 200) }
+pub fn lay_after(table: &mut Table, word: Unary, truth: usize, last: usize) -> usize
+    requires { (truth < 200) × (last + 4 ≤ 200) }
     ensures { Laid (last + 1) 3 (lines_after word truth last) table.old table.new result }
 {
     let n = last + 1;
     match word {
-        Unary::Not => put_line(table, n, 1, last, 0),
-        Unary::Ey => put_line(table, n, 3, last, 0),
-        Unary::Ep => put_line(table, n, 4, truth, last),
-        Unary::Ap => put_line(table, n, 5, truth, last),
-        Unary::Ay => lay_negated(table, last, 3, n, 0),
-        Unary::Eh => lay_negated(table, last, 5, truth, n),
-        Unary::Ah => lay_negated(table, last, 4, truth, n),
+        Unary::Not => put_line(table, n, Kind::Not, last, 0),
+        Unary::Ey => put_line(table, n, Kind::Ey, last, 0),
+        Unary::Ep => put_line(table, n, Kind::Es, truth, last),
+        Unary::Ap => put_line(table, n, Kind::As, truth, last),
+        Unary::Ay => lay_negated(table, last, Kind::Ey, n, 0),
+        Unary::Eh => lay_negated(table, last, Kind::As, truth, n),
+        Unary::Ah => lay_negated(table, last, Kind::Es, truth, n),
     }
 }
 
 // The lines between the forms inside a word with two forms. The first form's last line is `last`.
-pub fn lay_between(table: &mut [u8], word: Binary, last: usize) -> usize
-    requires { (length table.old ≡ 600) × (last + 2 ≤ 200) }
+pub fn lay_between(table: &mut Table, word: Binary, last: usize) -> usize
+    requires { last + 2 ≤ 200 }
     ensures { Laid (last + 1) 1 (lines_between word last) table.old table.new result }
 {
     let n = last + 1;
@@ -106,20 +129,20 @@ pub fn lay_between(table: &mut [u8], word: Binary, last: usize) -> usize
         Binary::And => n,
         Binary::Es => n,
         Binary::As => n,
-        Binary::Or => put_line(table, n, 1, last, 0),
+        Binary::Or => put_line(table, n, Kind::Not, last, 0),
     }
 }
 
 // The lines after both. Their last lines are `first` and `last`.
-pub fn lay_after_both(table: &mut [u8], word: Binary, first: usize, last: usize) -> usize
-    requires { (length table.old ≡ 600) × (first < last) × (last + 4 ≤ 200) }
+pub fn lay_after_both(table: &mut Table, word: Binary, first: usize, last: usize) -> usize
+    requires { (first < last) × (last + 4 ≤ 200) }
     ensures { Laid (last + 1) 3 (lines_after_both word first last) table.old table.new result }
 {
     let n = last + 1;
     match word {
-        Binary::And => put_line(table, n, 2, first, last),
-        Binary::Es => put_line(table, n, 4, first, last),
-        Binary::As => put_line(table, n, 5, first, last),
-        Binary::Or => lay_negated(table, last, 2, first + 1, n),
+        Binary::And => put_line(table, n, Kind::And, first, last),
+        Binary::Es => put_line(table, n, Kind::Es, first, last),
+        Binary::As => put_line(table, n, Kind::As, first, last),
+        Binary::Or => lay_negated(table, last, Kind::And, first + 1, n),
     }
 }

@@ -1,114 +1,106 @@
 // Reading a rule's words.
 
 ghost use Rattle.std.specs.Prelude.{◌+◌, ◌≤◌, ◌≡◌, length};
+ghost use Rattle.numbers.specs.declared.refusal.Refusal.TheVariants.{Grammar};
 ghost use Rattle.rules.specs.Text.{byte_at};
 ghost use Rattle.rules.specs.Reader.{rest_at, a_word_at, e_word_at, word_at};
+ghost use Rattle.rules.specs.ReaderCode.{byte_of, word_then, word_read};
 
-use crate::{Binary, Constant, Unary, WordRead};
-use pactl::table::wide;
+use crate::{Binary, Constant, Unary};
+use numbers::fault::Fault;
+use numbers::refusal::Refusal;
 
-// The letters that tell words apart, as wide as the byte at a place.
-const A: u32 = b'a' as u32;
+// A word of a form.
+#[derive(Clone, Copy, Debug, PartialEq, Eq)]
+pub enum Word {
+    At,
+    Constant(Constant),
+    Unary(Unary),
+    Binary(Binary),
+}
 
-const E: u32 = b'e' as u32;
+// No word has this byte there.
+#[derive(Clone, Copy, Debug, PartialEq, Eq)]
+pub struct NoWord {
+    pub place: usize,
+}
 
-const F: u32 = b'f' as u32;
+impl From<NoWord> for Fault {
+    ghost from_gives = { λ missing fault. fault ≡ record { refusal = Grammar; place = missing.place } };
 
-const H: u32 = b'h' as u32;
+    fn from(missing: NoWord) -> Fault {
+        Fault {
+            refusal: Refusal::Grammar,
+            place: missing.place,
+        }
+    }
+}
 
-const N: u32 = b'n' as u32;
-
-const O: u32 = b'o' as u32;
-
-const P: u32 = b'p' as u32;
-
-const S: u32 = b's' as u32;
-
-const T: u32 = b't' as u32;
-
-const Y: u32 = b'y' as u32;
-
-// The byte at a place of a text; behind its end 256, which is no byte.
-pub fn byte_at(text: &[u8], i: usize) -> u32
-    ensures { result ≡ byte_at text.now i }
+// The byte at a place of a text.
+pub fn byte_at(text: &[u8], i: usize) -> Option<u8>
+    ensures { byte_of result ≡ byte_at text.now i }
 {
-    if i < text.len() { wide(text[i]) } else { 256 }
+    text.get(i).copied()
 }
 
 // The rest of a word, letter by letter.
-fn rest(text: &[u8], i: usize, letters: &[u8], word: WordRead) -> WordRead
+fn rest(text: &[u8], i: usize, letters: &[u8], word: Word) -> Result<(Word, usize), NoWord>
     requires { i + length letters.now ≤ 1024 }
-    ensures { result ≡ rest_at text.now i letters.now word }
+    ensures { word_read result ≡ rest_at text.now i letters.now (word_then word (i + length letters.now)) }
 {
-    let mut j: usize = 0;
-    while j < letters.len() {
-        let c = byte_at(text, i + j);
-        if c != wide(letters[j]) {
-            return WordRead::NoWord(i + j);
+    for (j, letter) in letters.iter().enumerate() {
+        if byte_at(text, i + j) != Some(*letter) {
+            return Err(NoWord { place: i + j });
         }
-        j += 1;
     }
-    word
+    Ok((word, i + letters.len()))
 }
 
 // The words that begin with a, from their second letter on: at, as, ap, ay, ah, and.
-fn a_word(text: &[u8], i: usize) -> WordRead
+fn a_word(text: &[u8], i: usize) -> Result<(Word, usize), NoWord>
     requires { i ≤ 1000 }
-    ensures { result ≡ a_word_at text.now i }
+    ensures { word_read result ≡ a_word_at text.now i }
 {
-    let c = byte_at(text, i);
     let next = i + 1;
-    match c {
-        T => WordRead::AtWord(next),
-        S => WordRead::BinaryWord(Binary::As, next),
-        P => WordRead::UnaryWord(Unary::Ap, next),
-        Y => WordRead::UnaryWord(Unary::Ay, next),
-        H => WordRead::UnaryWord(Unary::Ah, next),
-        N => rest(text, next, b"d", WordRead::BinaryWord(Binary::And, i + 2)),
-        _ => WordRead::NoWord(i),
+    match byte_at(text, i) {
+        Some(b't') => Ok((Word::At, next)),
+        Some(b's') => Ok((Word::Binary(Binary::As), next)),
+        Some(b'p') => Ok((Word::Unary(Unary::Ap), next)),
+        Some(b'y') => Ok((Word::Unary(Unary::Ay), next)),
+        Some(b'h') => Ok((Word::Unary(Unary::Ah), next)),
+        Some(b'n') => rest(text, next, b"d", Word::Binary(Binary::And)),
+        _ => Err(NoWord { place: i }),
     }
 }
 
 // The words that begin with e, from their second letter on: ey, es, ep, eh.
-fn e_word(text: &[u8], i: usize) -> WordRead
+fn e_word(text: &[u8], i: usize) -> Result<(Word, usize), NoWord>
     requires { i ≤ 1000 }
-    ensures { result ≡ e_word_at text.now i }
+    ensures { word_read result ≡ e_word_at text.now i }
 {
-    let c = byte_at(text, i);
     let next = i + 1;
-    match c {
-        Y => WordRead::UnaryWord(Unary::Ey, next),
-        S => WordRead::BinaryWord(Binary::Es, next),
-        P => WordRead::UnaryWord(Unary::Ep, next),
-        H => WordRead::UnaryWord(Unary::Eh, next),
-        _ => WordRead::NoWord(i),
+    match byte_at(text, i) {
+        Some(b'y') => Ok((Word::Unary(Unary::Ey), next)),
+        Some(b's') => Ok((Word::Binary(Binary::Es), next)),
+        Some(b'p') => Ok((Word::Unary(Unary::Ep), next)),
+        Some(b'h') => Ok((Word::Unary(Unary::Eh), next)),
+        _ => Err(NoWord { place: i }),
     }
 }
 
-// The word at a place: those with a, those with e, not, true, false, or.
-pub fn read_word(text: &[u8], i: usize) -> WordRead
+// The word at a place, with the place after it: those with a, those with e, not, true, false, or.
+pub fn read_word(text: &[u8], i: usize) -> Result<(Word, usize), NoWord>
     requires { i ≤ 900 }
-    ensures { result ≡ word_at text.now i }
+    ensures { word_read result ≡ word_at text.now i }
 {
-    let c = byte_at(text, i);
     let next = i + 1;
-    match c {
-        A => a_word(text, next),
-        E => e_word(text, next),
-        N => rest(text, next, b"ot", WordRead::UnaryWord(Unary::Not, i + 3)),
-        T => rest(
-            text,
-            next,
-            b"rue",
-            WordRead::ConstantWord(Constant::True, i + 4),
-        ),
-        F => rest(
-            text,
-            next,
-            b"alse",
-            WordRead::ConstantWord(Constant::False, i + 5),
-        ),
-        O => rest(text, next, b"r", WordRead::BinaryWord(Binary::Or, i + 2)),
-        _ => WordRead::NoWord(i),
+    match byte_at(text, i) {
+        Some(b'a') => a_word(text, next),
+        Some(b'e') => e_word(text, next),
+        Some(b'n') => rest(text, next, b"ot", Word::Unary(Unary::Not)),
+        Some(b't') => rest(text, next, b"rue", Word::Constant(Constant::True)),
+        Some(b'f') => rest(text, next, b"alse", Word::Constant(Constant::False)),
+        Some(b'o') => rest(text, next, b"r", Word::Binary(Binary::Or)),
+        _ => Err(NoWord { place: i }),
     }
 }

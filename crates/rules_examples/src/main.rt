@@ -3,36 +3,24 @@
 
 #![tactic(auto)]
 
-ghost use Rattle.std.specs.Prelude.{◌≤◌, length, IfOk};
+ghost use Rattle.std.specs.Prelude.{◌≤◌, length};
 
+use numbers::fault::Fault;
+use pactl::judging::judge;
+use pactl::table::good_table;
+use rules::reading::read_rule;
 use std::io;
 use std::io::Read;
 
-// The place of the first line feed from a place on, or the length.
-fn line_end(input: &[u8], from: usize) -> usize
-    requires { from ≤ length input.now }
-    ensures { (from ≤ result) × (result ≤ length input.now) }
-{
-    for i in from..input.len() {
-        if input[i] == b'\n' {
-            return i;
-        }
-    }
-    input.len()
-}
-
-fn print_number(rt: &impl Print, n: u64) -> io::Result<()> {
-    print!(rt; " {n}")
-}
-
-fn print_byte(rt: &impl Print, b: u8) -> io::Result<()> {
-    print_number(rt, b as u64)
+// A fault's number and place.
+fn print_fault(rt: &impl Print, fault: Fault) -> io::Result<()> {
+    print!(rt; " {} {}", u8::from(fault.refusal), fault.place)
 }
 
 // The bytes of a table's lines.
 fn print_table(rt: &impl Print, bytes: &[u8]) -> io::Result<()> {
     for byte in bytes {
-        print_byte(rt, *byte)?;
+        print!(rt; " {byte}")?;
     }
     Ok(())
 }
@@ -40,41 +28,24 @@ fn print_table(rt: &impl Print, bytes: &[u8]) -> io::Result<()> {
 // A frontier with these labels judged with nothing before it, and with cuts before it that have every second line or
 // all but a few.
 fn print_judged(rt: &impl Print, table: &[u8], lines: u32, labels: [u8; 8]) -> io::Result<()> {
-    if lines > 64 {
+    if lines > 64 || table.len() < 192 {
         return Ok(());
     }
-    if table.len() < 192 {
-        return Ok(());
-    }
-    print_number(rt, pactl::judging::judge(table, lines, labels, 0, 0, false))?;
-    print_number(
-        rt,
-        pactl::judging::judge(table, lines, labels, 0xaaaa_aaaa_aaaa_aaaa, 0, true),
-    )?;
-    print_number(
-        rt,
-        pactl::judging::judge(
-            table,
-            lines,
-            labels,
-            0xffff_ffff_ffff_ffff,
-            0x5555_5555_5555_5555,
-            true,
-        ),
-    )
+    let first = judge(table, lines, labels, 0, 0, false);
+    let second = judge(table, lines, labels, 0xaaaa_aaaa_aaaa_aaaa, 0, true);
+    let third = judge(table, lines, labels, u64::MAX, 0x5555_5555_5555_5555, true);
+    print!(rt; " {first} {second} {third}")
 }
 
 fn print_accepted(rt: &impl Print, k: u32, table: &[u8], lines: u32) -> io::Result<()> {
-    print!(rt; "accepted")?;
-    print_number(rt, lines as u64)?;
-    if lines <= 64 {
-        if table.len() == 192 {
-            if pactl::table::good_table(k, table, lines) {
-                print!(rt; " good:")?;
-            } else {
-                print!(rt; " bad:")?;
-            }
-        }
+    print!(rt; "accepted {lines}")?;
+    if lines <= 64 && table.len() == 192 {
+        let said = if good_table(k, table, lines) {
+            "good"
+        } else {
+            "bad"
+        };
+        print!(rt; " {said}:")?;
     }
     let end = 3 * (lines as usize);
     if end <= table.len() {
@@ -87,66 +58,41 @@ fn print_accepted(rt: &impl Print, k: u32, table: &[u8], lines: u32) -> io::Resu
 
 fn answer(rt: &impl Print, k: u32, text: &[u8]) -> io::Result<()> {
     let mut table = [255u8; 192];
-    let read = rules::reading::read_rule(text, k, &mut table);
-    match read {
-        rules::RuleRead::Accepted { lines } => print_accepted(rt, k, &table, lines)?,
-        rules::RuleRead::Refused { number, place } => {
+    match read_rule(text, k, &mut table) {
+        Ok(lines) => print_accepted(rt, k, &table, lines)?,
+        Err(fault) => {
             print!(rt; "refused")?;
-            print_number(rt, number as u64)?;
-            print_number(rt, place as u64)?;
+            print_fault(rt, fault)?;
         }
     }
     println!(rt; "")
 }
 
-// The number of a digit.
-fn value(digit: u8) -> u32 {
-    if digit < 48 { 0 } else { (digit - 48) as u32 }
-}
-
+// The line's first byte is the number of processes, as a digit.
 fn answer_line(rt: &impl Print, line: &[u8]) -> io::Result<()> {
-    if line.len() == 0 {
-        return Ok(());
+    match line {
+        [] => Ok(()),
+        [digit, text @ ..] => answer(rt, u32::from(digit.saturating_sub(b'0')), text),
     }
-    answer(rt, value(line[0]), &line[1..])
 }
 
 fn answer_lines(rt: &impl Print, input: &[u8]) -> io::Result<()> {
-    let mut start: usize = 0;
-    while start < input.len() {
-        let end = line_end(input, start);
-        answer_line(rt, &input[start..end])?;
-        start = end + 1;
+    for line in input.split(|byte| *byte == b'\n') {
+        answer_line(rt, line)?;
     }
     Ok(())
 }
 
-// Reads until the buffer is full or the input ends: how many bytes that is.
-fn read_full(input: &mut impl Read, buf: &mut [u8]) -> io::Result<usize>
-    ensures { IfOk result (λ n. n ≤ length buf.new) }
-{
-    let mut done: usize = 0;
-    while done < buf.len() {
-        let n = input.read(&mut buf[done..])?;
-        if n == 0 {
-            break;
-        }
-        done += n;
-    }
-    Ok(done)
-}
-
 fn main(rt: HostRuntime) -> io::Result<()> {
     let mut input = [0u8; 32768];
-    let n = read_full(&mut rt.stdin(), &mut input)?;
-    answer_lines(&rt, &input[..n])?;
+    // As much of the input as there is room for.
+    let n = io::copy(&mut rt.stdin().take(32768), &mut &mut input[..])?;
+    answer_lines(&rt, &input[..(n as usize).min(32768)])?;
     // a table of a wrong length
     let mut short = [7u8; 191];
-    let read = rules::reading::read_rule(b"(true)", 1, &mut short);
-    if let rules::RuleRead::Refused { number, place } = read {
-        print_number(&rt, number as u64)?;
-        print_number(&rt, place as u64)?;
+    if let Err(fault) = read_rule(b"(true)", 1, &mut short) {
+        print_fault(&rt, fault)?;
     }
-    print_byte(&rt, short[0])?;
+    print!(&rt; " {}", short[0])?;
     println!(rt; "")
 }

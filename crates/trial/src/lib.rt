@@ -18,6 +18,7 @@ ghost use Rattle.trial.specs.TrialCode.{choice_for, MarkedFor};
 
 use clocks::Event;
 use frontiers::stored::counts_at;
+use frontiers::width::CountWidth;
 use lookup::order::counts_same;
 use records::fields::{closed_mask, pending_count, pending_event, process_count, taken_counts};
 use turn::{in_order, place_in_turn};
@@ -40,6 +41,7 @@ pub fn kept_with(
     n: usize,
     e: Event,
 ) -> usize
+    // By hand, as promised: docs/DECISIONS.md names this function, so it asks for a number as before.
     requires width { Width w }
     requires record_len { length «record».now ≡ record_length w }
     requires record_bound { process_count «record».now ≤ 8 }
@@ -50,8 +52,8 @@ pub fn kept_with(
     ensures marked { Marked (setting_in w «record».now e) w window.now n marks.new }
 {
     let k = process_count(record);
-    let closed = closed_mask(record) as u64;
-    let reached = clocks::step::apply(e, taken_counts(record, w));
+    let closed = u64::from(closed_mask(record));
+    let reached = clocks::step::apply(e, taken_counts(record, CountWidth::of(w)));
     window::kept::count_after(window, marks, w, n, k, closed, e, reached)
 }
 
@@ -59,10 +61,7 @@ pub fn kept_with(
 fn fitting(kept: usize, allowed: usize) -> bool
     ensures { result ≡ (ltb 0 kept && leb kept allowed) }
 {
-    if kept == 0 {
-        return false;
-    }
-    kept <= allowed
+    0 < kept && kept <= allowed
 }
 
 // The first pending event in turn that has a false clock, or that fits, with its marks; or none, and whether one was
@@ -75,6 +74,7 @@ pub fn decide(
     n: usize,
     allowed: usize,
 ) -> Choice
+    // By hand, as promised: docs/DECISIONS.md names this function, so it asks for a number as before.
     requires width { Width w }
     requires record_len { length «record».now ≡ record_length w }
     requires record_bound { process_count «record».now ≤ 8 }
@@ -84,35 +84,30 @@ pub fn decide(
     ensures value { result ≡ choice_for w «record».now (frontiers w window.now n) (trial w «record».now allowed (frontiers w window.now n)) }
     ensures marked_for { MarkedFor w «record».now window.now n marks.new result }
 {
-    let taken = taken_counts(record, w);
+    let width = CountWidth::of(w);
+    let taken = taken_counts(record, width);
     let pending = pending_count(record);
-    let ordered = in_order(record, w, pending);
+    let ordered = in_order(record, width, pending);
     let mut choice = Choice::Undecided { seen: false };
-    let mut turn = 0;
-    'events: while turn < pending {
-        let i = place_in_turn(record, w, pending, ordered, turn);
-        let e = pending_event(record, w, i);
+    'events: for turn in 0..pending {
+        let i = place_in_turn(record, width, pending, ordered, turn);
+        let e = pending_event(record, width, i);
         if clocks::step::ready(e, taken) {
             let known = clocks::step::lowered(e);
-            let mut j = 0;
-            loop {
-                if j == n {
-                    choice = Choice::Falsified { place: i };
-                    break 'events;
+            for j in 0..n {
+                if counts_same(counts_at(window, width, j), known) {
+                    let kept = kept_with(record, w, window, marks, n, e);
+                    if fitting(kept, allowed) {
+                        choice = Choice::Chosen { place: i, kept };
+                        break 'events;
+                    }
+                    choice = Choice::Undecided { seen: true };
+                    continue 'events;
                 }
-                if counts_same(counts_at(window, w, j), known) {
-                    break;
-                }
-                j += 1;
             }
-            let kept = kept_with(record, w, window, marks, n, e);
-            if fitting(kept, allowed) {
-                choice = Choice::Chosen { place: i, kept };
-                break 'events;
-            }
-            choice = Choice::Undecided { seen: true };
+            choice = Choice::Falsified { place: i };
+            break 'events;
         }
-        turn += 1;
     }
     choice
 }

@@ -1,5 +1,5 @@
 -- What the writers of the record lay down, store by store.
-use Prim.Native.Nat.{ℕ, ◌+◌, ◌*◌, zero, suc, ◌-◌, ◌≤◌, ◌<◌, ◌^◌}
+use Prim.Native.Nat.{ℕ, ◌+◌, ◌*◌, ◌-◌, ◌≤◌, ◌<◌, ◌^◌}
 use native.Mathlib.Numerals.{add-one}
 use native.Mathlib.Omega.{arith}
 use native.Mathlib.Decide.{dec_lt}
@@ -27,29 +27,18 @@ use Rattle.records.specs.RecordLaws.{event-within, place_below, place_next, even
 
 -- ---- The last clocks
 
--- An event of which mask and clock are known.
-abbrev pub bare : ℕ → List ℕ → Event
-bare mask clock = record { mask = mask; clock = clock; labels = [] }
-
--- Its labels make no difference to the last clocks.
-pub clocks_set-bare : (w n : ℕ) (s : List ℕ) (e : Event) → clocks_set w n s (bare e.mask e.clock) ≡ clocks_set w n s e
-unfolding clocks_set involved
-clocks_set-bare w zero s e = refl
-clocks_set-bare w (suc n) s e = rw (clocks_set-bare w n s e)
-
 pub clocks_none : (w : ℕ) (s : List ℕ) (e : Event) → s ≡ clocks_set w 0 s e
 unfolding clocks_set
 clocks_none w s e = refl
 
-pub clocks_next : (w p : ℕ) (s : List ℕ) (mask : ℕ) (clock : List ℕ) → bit mask p ≡ true
-    → sets (clocks_set w p s (bare mask clock)) (clocks_place w + p * (8 * w)) (count_bytes w clock) ≡ clocks_set w (p + 1) s (bare mask clock)
+pub clocks_next : (w p : ℕ) (s : List ℕ) (e : Event) → bit e.mask p ≡ true
+    → sets (clocks_set w p s e) (clocks_place w + p * (8 * w)) (count_bytes w e.clock) ≡ clocks_set w (p + 1) s e
 unfolding clocks_set involved
-clocks_next w p s mask clock h = rw (add-one, h)
+clocks_next w p s e h = rw (add-one, h)
 
-pub clocks_skip : (w p : ℕ) (s : List ℕ) (mask : ℕ) (clock : List ℕ) → bit mask p ≡ false
-    → clocks_set w p s (bare mask clock) ≡ clocks_set w (p + 1) s (bare mask clock)
+pub clocks_skip : (w p : ℕ) (s : List ℕ) (e : Event) → bit e.mask p ≡ false → clocks_set w p s e ≡ clocks_set w (p + 1) s e
 unfolding clocks_set involved
-clocks_skip w p s mask clock h = rw (add-one, h)
+clocks_skip w p s e h = rw (add-one, h)
 
 -- ---- Pending events
 

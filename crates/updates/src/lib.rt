@@ -11,11 +11,12 @@ ghost use Rattle.records.specs.Record.{event_length, record_length, pending_coun
 
 use clocks::Event;
 use frontiers::moving::{clear, move_down, move_up};
+use frontiers::width::CountWidth;
 use records::fields::{event_length, pending_count, pending_place, taken_counts};
 
 // Stores eight counts at a place.
-pub fn write_counts_at(record: &mut [u8], w: usize, place: usize, counts: [u32; 8])
-    requires width { Width w }
+#[tactic(auto, using(frontiers::specs::StoreLaws::lent_tail))]
+pub fn write_counts_at(record: &mut [u8], w: CountWidth, place: usize, counts: [u32; 8])
     requires w_in_bounds { place + 8 * w ≤ length «record».old }
     requires by_index { (p : ℕ) → at counts p < 256 ^ w }
     ensures { «record».new ≡ sets «record».old place (count_bytes w counts) }
@@ -24,24 +25,23 @@ pub fn write_counts_at(record: &mut [u8], w: usize, place: usize, counts: [u32; 
 }
 
 // Stores a pending event's bytes at a place.
+#[tactic(auto, using(crate::proofs::UpdateSteps::stored_event))]
 pub fn write_event(record: &mut [u8], w: usize, place: usize, e: Event)
+    // By hand, as promised: docs/DECISIONS.md names this function, so it asks for a number as before.
     requires width { Width w }
     requires w_in_bounds { place + event_length w ≤ length «record».old }
     requires by_index { (p : ℕ) → at e.clock p < 256 ^ w }
     ensures { «record».new ≡ sets «record».old place (event_bytes w e) }
 {
-    let clock = e.clock;
-    let labels = e.labels;
-    let behind = place + 8;
     record[place] = e.mask;
     clear(record, place + 1, 7);
-    write_counts_at(record, w, behind, clock);
-    frontiers::stored::write_eight(record, behind + 8 * w, labels);
+    write_counts_at(record, CountWidth::of(w), place + 8, e.clock);
+    frontiers::stored::write_eight(record, place + 8 + 8 * w, e.labels);
 }
 
 // Lays an event down as number i of the pending ones, those from i on moved up by one.
-pub fn insert_event(record: &mut [u8], w: usize, i: usize, e: Event)
-    requires width { Width w }
+#[tactic(auto, using(records::specs::RecordLaws::place_below))]
+pub fn insert_event(record: &mut [u8], w: CountWidth, i: usize, e: Event)
     requires record_len { length «record».old ≡ record_length w }
     requires i_bound { i ≤ pending_count «record».old }
     requires record_bound { pending_count «record».old < 32 }
@@ -52,13 +52,13 @@ pub fn insert_event(record: &mut [u8], w: usize, i: usize, e: Event)
     let place = pending_place(w, i);
     let end = pending_place(w, n);
     move_up(record, place, end - place, event_length(w));
-    write_event(record, w, place, e);
+    write_event(record, w.bytes(), place, e);
     record[2] = (n + 1) as u8;
 }
 
 // Takes pending event number i out, those behind it moved down by one, the freed place 0.
-pub fn remove_event(record: &mut [u8], w: usize, i: usize)
-    requires width { Width w }
+#[tactic(auto, using(records::specs::RecordLaws::place_below))]
+pub fn remove_event(record: &mut [u8], w: CountWidth, i: usize)
     requires record_len { length «record».old ≡ record_length w }
     requires i_bound { i < pending_count «record».old }
     requires record_bound { pending_count «record».old ≤ 32 }
@@ -74,35 +74,32 @@ pub fn remove_event(record: &mut [u8], w: usize, i: usize)
 }
 
 // The clock of an event stored as the last one of each of its processes.
-pub fn set_clocks(record: &mut [u8], w: usize, e: Event)
-    requires width { Width w }
+pub fn set_clocks(record: &mut [u8], w: CountWidth, e: Event)
     requires record_len { length «record».old ≡ record_length w }
     requires by_index { (p : ℕ) → at e.clock p < 256 ^ w }
     ensures { «record».new ≡ clocks_set w 8 «record».old e }
 {
-    let mask = e.mask as u64;
-    let clock = e.clock;
-    let mut place = 8 + 8 * w;
-    let mut p: u32 = 0;
-    while p < 8 {
+    let mask = u64::from(e.mask);
+    for p in 0..8 {
         if codec::has_bit(mask, p) {
-            write_counts_at(record, w, place, clock);
+            write_counts_at(
+                record,
+                w,
+                8 + 8 * w.bytes() + p as usize * (8 * w.bytes()),
+                e.clock,
+            );
         }
-        place = place + 8 * w;
-        p = p + 1;
     }
 }
 
 // Counts a ready event as taken: the taken counts with it, its clock as its processes' last, the frontiers kept.
-pub fn count_taken(record: &mut [u8], w: usize, e: Event, kept: u32)
-    requires width { Width w }
+pub fn count_taken(record: &mut [u8], w: CountWidth, e: Event, kept: u32)
     requires record_len { length «record».old ≡ record_length w }
     requires by_index { (p : ℕ) → at e.clock p < 256 ^ w }
     requires t { T (ready_in w «record».old e) }
     ensures { «record».new ≡ counted w «record».old e kept }
 {
-    let taken = taken_counts(record, w);
-    let counts = clocks::step::apply(e, taken);
+    let counts = clocks::step::apply(e, taken_counts(record, w));
     codec::write_u32(record, 4, kept);
     write_counts_at(record, w, 8, counts);
     set_clocks(record, w, e);

@@ -6,8 +6,9 @@
 // Standard input, from chunks of any size to lines.
 mod input;
 
-use input::{Input, next_line};
+use input::Input;
 use program::turn::{OUT_BYTES, begin, respond};
+use replies::Stage;
 use reply_text::form::{RECORD_BYTES, WINDOW_BYTES};
 
 // What is kept of a line. Its first 4,107 bytes decide what it is answered with (line_laws LinePrefix).
@@ -17,8 +18,6 @@ const LINE_BYTES: usize = 4112;
 // line is waited for. A first state that cannot be written ends the program. A proved loop has to end, and nothing says
 // that the input does: so lines are counted, up to a number that no input has.
 fn main(rt: HostRuntime) {
-    let mut stdin = rt.stdin();
-    let mut chunk = [0u8; 4096];
     let mut line = [0u8; LINE_BYTES];
     let mut rule = [0u8; LINE_BYTES];
     let mut record = [0u8; RECORD_BYTES];
@@ -26,18 +25,11 @@ fn main(rt: HostRuntime) {
     let mut scratch = [0u8; WINDOW_BYTES];
     let mut out = [0u8; OUT_BYTES];
     let mut session = begin();
-    let mut input = Input {
-        at: 0,
-        end: 0,
-        over: false,
-    };
+    let mut input = Input::new(rt.stdin());
     for _ in 0..u64::MAX {
-        let next = next_line(&mut stdin, input, &mut chunk, &mut line);
-        if !next.found {
+        let Some(n) = input.next_line(&mut line) else {
             return;
-        }
-        input = next.rest;
-        let n = next.length;
+        };
         let turn = respond(
             session,
             &line[..n],
@@ -47,9 +39,8 @@ fn main(rt: HostRuntime) {
             &mut scratch,
             &mut out,
         );
-        let end = turn.length;
-        let written = rt.write_all(&out[..end]).is_ok();
-        if !turn.on | (!written & (session.stage < 3)) {
+        let written = rt.write_all(&out[..turn.length]).is_ok();
+        if !turn.session.goes_on() || (!written && session.stage != Stage::Event) {
             return;
         }
         session = turn.session;

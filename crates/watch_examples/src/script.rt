@@ -14,12 +14,10 @@ fn place_of(byte: u8, bytes: &[u8], from: usize) -> usize
     requires { from ≤ length bytes.now }
     ensures { (from ≤ result) × (result ≤ length bytes.now) }
 {
-    for i in from..bytes.len() {
-        if bytes[i] == byte {
-            return i;
-        }
+    match bytes[from..].iter().position(|b| *b == byte) {
+        Some(i) => from + i,
+        None => bytes.len(),
     }
-    bytes.len()
 }
 
 // The number behind so many blanks from a place on. Parts between commas are numbers of the processes in turn, so many
@@ -29,10 +27,7 @@ fn number(line: &[u8], from: usize, blanks: u32, bits: u64) -> u64 {
     let mut before: u64 = 0;
     let mut shift: u64 = 0;
     let mut part: u64 = 0;
-    let mut i = from;
-    while i < line.len() {
-        let c = line[i];
-        i += 1;
+    for &c in line.iter().skip(from) {
         if c == b' ' {
             if left == 0 {
                 break;
@@ -42,11 +37,11 @@ fn number(line: &[u8], from: usize, blanks: u32, bits: u64) -> u64 {
             shift = 0;
             part = 0;
         } else if c == b',' {
-            before = before | (part << (shift % 64));
+            before |= part << (shift % 64);
             shift = (shift % 64) + (bits % 64);
             part = 0;
         } else {
-            part = (part % 10000) * 10 + ((c % 16) as u64);
+            part = (part % 10000) * 10 + u64::from(c % 16);
         }
     }
     before | (part << (shift % 64))
@@ -56,19 +51,16 @@ fn number(line: &[u8], from: usize, blanks: u32, bits: u64) -> u64 {
 fn call(line: &[u8], at: usize, s: &mut [u8; 1368], window: &mut [u8], scratch: &mut [u8]) -> u64
     requires { at < length line.now }
 {
-    let code = line[at];
     let first = number(line, at, 1, 0);
     let second = number(line, at, 2, 16);
-    if code == b'o' {
-        let rule = place_of(b'(', line, at);
-        watch::watch_open(&line[rule..], second, 0, s, window)
-    } else if code == b't' {
-        watch::watch_take(s, window, scratch)
-    } else if code == b'f' {
-        watch::watch_find(second, s, window)
-    } else {
-        let labels = number(line, at, 3, 8);
-        watch::watch_offer(first, second, 0, labels, s)
+    match line[at] {
+        b'o' => {
+            let rule = place_of(b'(', line, at);
+            watch::watch_open(&line[rule..], second, 0, s, window)
+        }
+        b't' => watch::watch_take(s, window, scratch),
+        b'f' => watch::watch_find(second, s, window),
+        _ => watch::watch_offer(first, second, 0, number(line, at, 3, 8), s),
     }
 }
 
@@ -81,25 +73,22 @@ fn step(
     window: &mut [u8],
     scratch: &mut [u8],
 ) -> io::Result<()> {
-    let at = say(rt, line, 0, 0, s)?;
+    let at = say(rt, line, 0, s)?;
     if at >= line.len() {
         return Ok(());
     }
     let room = number(line, at, 1, 0) as usize;
-    if room > window.len() {
+    if room > window.len() || room > scratch.len() {
         return Ok(());
     }
-    if room > scratch.len() {
-        return Ok(());
-    }
-    let word = call(line, at, s, &mut window[0..room], &mut scratch[0..room]);
+    let word = call(line, at, s, &mut window[..room], &mut scratch[..room]);
     if at > 1 {
         say_answer(rt, line[at], word, s)?;
     }
     Ok(())
 }
 
-// The lines from a place on up to an empty one; the place behind that.
+// The lines from a place on up to an empty one; the place after that.
 pub(crate) fn run(
     rt: &impl Print,
     input: &[u8],

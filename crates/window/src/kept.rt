@@ -10,14 +10,9 @@ ghost use Rattle.window.specs.Room.{RoomFor};
 ghost use Rattle.window.specs.Marks.{Marked};
 ghost use Rattle.window.specs.Prepared.{Counted};
 
+use crate::prepared::{lowest_counts, open_ones, spans, stays, within};
 use clocks::Event;
-
-// 1 for yes, 0 for no.
-fn one_if(t: bool) -> usize
-    ensures { (result ≡ one t) × (result ≤ 1) }
-{
-    if t { 1 } else { 0 }
-}
+use frontiers::width::CountWidth;
 
 // How many frontiers there are after the event; each frontier's mark says what comes of it.
 pub fn count_after(
@@ -30,6 +25,7 @@ pub fn count_after(
     e: Event,
     reached: [u32; 8],
 ) -> usize
+    // By hand, as promised: docs/DECISIONS.md names this function, so it asks for a number as before.
     requires width { Width w }
     requires room_for { RoomFor w n window.now }
     requires k_bound { k ≤ 8 }
@@ -39,18 +35,17 @@ pub fn count_after(
     ensures upper_bound { result ≤ 2048 }
     ensures by_index_2 { (table : List ℕ) (lines : ℕ) → Marked (setting_with k closed table lines e reached) w window.now n marks.new }
 {
-    let low = crate::prepared::bound_counts(e, false);
-    let span = crate::prepared::bound_counts(e, true);
-    let opens = crate::prepared::open_ones(k, closed);
+    let width = CountWidth::of(w);
+    let low = lowest_counts(e);
+    let span = spans(e);
+    let opens = open_ones(k, closed);
     let mut total = 0;
-    let mut i = 0;
-    while i < n {
-        let counts = frontiers::stored::counts_at(window, w, i);
-        let here = one_if(crate::prepared::stays(opens, reached, counts));
-        let there = one_if(crate::prepared::within(low, span, counts));
-        marks[i] = (here + 2 * there) as u8;
-        total = total + here + there;
-        i = i + 1;
+    for i in 0..n {
+        let counts = frontiers::stored::counts_at(window, width, i);
+        let here = u8::from(stays(opens, reached, counts));
+        let there = u8::from(within(low, span, counts));
+        marks[i] = here + 2 * there;
+        total += usize::from(here + there);
     }
     total
 }

@@ -9,6 +9,7 @@ ghost use Rattle.window_step.specs.FullBytes.{full_byte, full_bytes};
 
 use clocks::Event;
 use frontiers::Frontier;
+use std::array;
 
 // The first of two bytes where the chooser is full, the second where it is empty.
 fn chosen(full: u8, a: u8, b: u8) -> u8
@@ -29,28 +30,15 @@ fn full_byte(t: bool) -> u8
 pub fn full_bytes(mask: u8) -> [u8; 8]
     ensures { result ≡ full_bytes mask }
 {
-    let word = mask as u64;
-    let mut out = [0u8; 8];
-    let mut p: u32 = 0;
-    while p < 8 {
-        let i = p as usize;
-        out[i] = full_byte(codec::has_bit(word, p));
-        p = p + 1;
-    }
-    out
+    let word = u64::from(mask);
+    array::from_fn(|p| full_byte(codec::has_bit(word, p as u32)))
 }
 
 // New bytes at the processes in a mask, the old ones at the others: the mask by its full bytes.
 fn renewed(full: [u8; 8], news: [u8; 8], olds: [u8; 8]) -> [u8; 8]
     ensures { (mask : ℕ) → full ≡ full_bytes mask → result ≡ list_of 8 (λ p. cond (bit mask p) (get_or news p 0) (get_or olds p 0)) }
 {
-    let mut out = [0u8; 8];
-    let mut p = 0;
-    while p < 8 {
-        out[p] = chosen(full[p], news[p], olds[p]);
-        p = p + 1;
-    }
-    out
+    array::from_fn(|p| chosen(full[p], news[p], olds[p]))
 }
 
 // The frontier that the event leads to: it has the values of the one that it came from.
@@ -59,18 +47,10 @@ pub fn advanced(e: Event, full: [u8; 8], f: Frontier) -> Frontier
     requires t { T (ready 8 e (at f.counts)) }
     ensures { (s : Setting) → s.stored ≡ 8 → s.event ≡ e → result ≡ advancedBy s f }
 {
-    let from = f.counts;
-    let old_labels = f.labels;
-    let old_masks = f.masks;
-    let new_labels = e.labels;
-    let mask = e.mask;
-    let counts = clocks::step::apply(e, from);
-    let labels = renewed(full, new_labels, old_labels);
-    let masks = renewed(full, [mask; 8], old_masks);
     Frontier {
-        counts,
-        labels,
-        masks,
+        counts: clocks::step::apply(e, f.counts),
+        labels: renewed(full, e.labels, f.labels),
+        masks: renewed(full, [e.mask; 8], f.masks),
         values: f.values,
     }
 }

@@ -1,7 +1,6 @@
 // What is gathered for a new frontier from the frontiers laid down before it.
 
 ghost use Rattle.std.specs.Prelude.{◌≤◌, ◌<◌, ◌≡◌};
-ghost use Rattle.frontiers.specs.Width.{Width};
 ghost use Rattle.frontiers.specs.Bytes.{frontiers};
 ghost use Rattle.window.specs.Step.{Setting, gathered};
 ghost use Rattle.window.specs.Room.{RoomFor};
@@ -9,6 +8,7 @@ ghost use Rattle.window_step.specs.Gathering.{sought_with, gathered_of};
 
 use crate::Found;
 use frontiers::Frontier;
+use frontiers::width::CountWidth;
 
 // Whether process p's last event may lead to a new frontier: it is not the event itself, and p is the first of its
 // processes.
@@ -16,56 +16,38 @@ fn is_sought(mask: u8, last: u8, p: u32) -> bool
     requires { p < 8 }
     ensures { result ≡ sought_with mask last p }
 {
-    let word = mask as u64;
-    if codec::has_bit(word, p) {
-        return false;
-    }
-    if last == 0 {
-        return false;
-    }
-    codec::lowest_bit(last) == p
+    !codec::has_bit(u64::from(mask), p) && last != 0 && codec::lowest_bit(last) == p
 }
 
 // All of the k processes that are sought are considered, each looked up from its hint among the m frontiers laid down;
 // the frontier that g came from precedes it always.
 pub fn gather(
     scratch: &[u8],
-    w: usize,
+    w: CountWidth,
     m: usize,
     k: u32,
     mask: u8,
     g: Frontier,
-    hints: [usize; 8],
+    mut hints: [usize; 8],
 ) -> Found
-    requires width { Width w }
     requires room_for { RoomFor w m scratch.now }
     requires k_bound { k ≤ 8 }
     ensures { (s : Setting) → s.stored ≡ 8 → s.event.mask ≡ mask → gathered_of result ≡ gathered s (frontiers w scratch.now m) hints g k }
 {
     let mut ors = g.values;
     let mut ands = g.values;
-    let mut begins = hints;
-    let masks = g.masks;
-    let counts = g.counts;
-    let mut p: u32 = 0;
-    while p < k {
+    for p in 0..k {
         let i = p as usize;
-        let last = masks[i];
+        let last = g.masks[i];
         if is_sought(mask, last, p) {
-            let key = clocks::step::minus(last, counts);
-            let place = lookup::seek::seek(scratch, w, m, key, begins[i]);
-            if place < m {
+            let key = clocks::step::minus(last, g.counts);
+            if let Some(place) = lookup::seek::seek(scratch, w, m, key, hints[i]) {
                 let values = frontiers::stored::values_at(scratch, w, place);
-                ors = codec::or_words(ors, values);
-                ands = codec::and_words(ands, values);
-                begins[i] = place + 1;
+                ors |= values;
+                ands &= values;
+                hints[i] = place + 1;
             }
         }
-        p = p + 1;
     }
-    Found {
-        ors,
-        ands,
-        hints: begins,
-    }
+    Found { ors, ands, hints }
 }

@@ -3,7 +3,6 @@
 ghost use Rattle.std.specs.Prelude.{◌+◌, ◌*◌, ◌≤◌, ◌≡◌, [], ◌∷◌, ◌++◌, T, length};
 ghost use Rattle.clocks.specs.Counts.{at};
 ghost use Rattle.clocks.specs.Tested.{ready};
-ghost use Rattle.frontiers.specs.Width.{Width};
 ghost use Rattle.frontiers.specs.Bytes.{frontier_at, frontiers};
 ghost use Rattle.window.specs.StepCode.{Fitting};
 ghost use Rattle.window.specs.Room.{PlaceFor};
@@ -13,16 +12,16 @@ ghost use Rattle.window_step.specs.Gathering.{fresh_from, hints_from};
 
 use crate::Stepping;
 use frontiers::Frontier;
+use frontiers::width::CountWidth;
 
 // Frontier i of the window stays: it is laid down as number m.
-pub fn lay_staying(window: &[u8], scratch: &mut [u8], w: usize, i: usize, m: usize)
-    requires width { Width w }
+pub fn lay_staying(window: &[u8], scratch: &mut [u8], w: CountWidth, i: usize, m: usize)
     requires place_for { PlaceFor w i window.now }
     requires place_for_2 { PlaceFor w m scratch.old }
     ensures { frontiers w scratch.new (m + 1) ≡ frontiers w scratch.old m ++ (frontier_at w window.now i ∷ []) }
 {
     let f = frontiers::stored::frontier_at(window, w, i);
-    frontiers::stored::lay_frontier(scratch, w, m, f);
+    frontiers::stored::lay_frontier(scratch, w.bytes(), m, f);
 }
 
 // The event leads on from frontier j of the window: the new frontier is judged and laid down as number m. Gives where
@@ -37,7 +36,6 @@ pub fn lay_fresh(
     m: usize,
     hints: [usize; 8],
 ) -> [usize; 8]
-    requires width { Width fixed.w }
     requires fitting { Fitting fixed.w fixed.event }
     requires place_for { PlaceFor fixed.w j window.now }
     requires place_for_2 { PlaceFor fixed.w m scratch.old }
@@ -52,20 +50,9 @@ pub fn lay_fresh(
     let e = fixed.event;
     let f = frontiers::stored::frontier_at(window, w, j);
     let g = crate::advance::advanced(e, full, f);
-    let mask = e.mask;
-    let found = crate::gather::gather(scratch, w, m, fixed.k, mask, g, hints);
-    let ors = found.ors;
-    let ands = found.ands;
-    let counts = g.counts;
-    let labels = g.labels;
-    let masks = g.masks;
-    let values = pactl::judging::judge(table, fixed.lines, labels, ors, ands, true);
-    let judged = Frontier {
-        counts,
-        labels,
-        masks,
-        values,
-    };
-    frontiers::stored::lay_frontier(scratch, w, m, judged);
+    let found = crate::gather::gather(scratch, w, m, fixed.k, e.mask, g, hints);
+    let values = pactl::judging::judge(table, fixed.lines, g.labels, found.ors, found.ands, true);
+    let judged = Frontier { values, ..g };
+    frontiers::stored::lay_frontier(scratch, w.bytes(), m, judged);
     found.hints
 }

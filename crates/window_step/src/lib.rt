@@ -3,6 +3,7 @@
 #![tactic(auto)]
 
 use clocks::Event;
+use frontiers::width::CountWidth;
 
 pub mod advance;
 pub mod gather;
@@ -15,7 +16,7 @@ pub mod step;
 // Its code goes by the marks: closed and reached only say what was marked.
 #[derive(Clone, Copy)]
 pub struct Stepping {
-    pub w: usize,
+    pub w: CountWidth,
     pub n: usize,
     pub kept: usize,
     pub k: u32,

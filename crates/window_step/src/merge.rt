@@ -3,7 +3,6 @@
 ghost use Rattle.std.specs.Prelude.{ℕ, ◌+◌, ◌*◌, ◌≤◌, ◌<◌, ◌≡◌, Bool, true, List, length};
 ghost use Rattle.codec.specs.Bit.{bit};
 ghost use Rattle.frontiers.specs.declared.Frontier.{Frontier};
-ghost use Rattle.frontiers.specs.Width.{Width};
 ghost use Rattle.frontiers.specs.Bytes.{frontier_at, frontiers};
 ghost use Rattle.window.specs.Step.{kept_after};
 ghost use Rattle.window.specs.StepCode.{Fitting};
@@ -14,6 +13,7 @@ ghost use Rattle.window.specs.Marks.{Marked, Tells};
 
 use crate::Stepping;
 use clocks::Event;
+use frontiers::width::CountWidth;
 
 // The bits of a mark: the frontier stays; the event leads on from it.
 const STAYS: u32 = 0;
@@ -25,10 +25,11 @@ fn is_marked(mark: u8, p: u32) -> bool
     requires { p < 64 }
     ensures { result ≡ bit mark p }
 {
-    codec::has_bit(mark as u64, p)
+    codec::has_bit(u64::from(mark), p)
 }
 
-// The first frontier from a number on whose mark has bit p; n for none.
+// The first frontier from a number on whose mark has bit p, or else the end, n.
+// By hand, as no plainer: a merge goes on from this place, so the end is a place as any other, and no missing one.
 pub fn next_marked(marks: &[u8], n: usize, from: usize, p: u32) -> usize
     requires n_in_bounds { (n ≤ length marks.now) × (from ≤ n) }
     requires p_bound { p < 64 }
@@ -36,19 +37,16 @@ pub fn next_marked(marks: &[u8], n: usize, from: usize, p: u32) -> usize
     ensures from_value { (t : Frontier → Bool) (w : ℕ) (window : List ℕ) → Tells p t w window n marks.now → rest_of t w window n from ≡ rest_of t w window n result }
     ensures result_value { (t : Frontier → Bool) (w : ℕ) (window : List ℕ) → Tells p t w window n marks.now → result < n → t (frontier_at w window result) ≡ true }
 {
-    let mut next = from;
-    while next < n {
+    for next in from..n {
         if is_marked(marks[next], p) {
             return next;
         }
-        next = next + 1;
     }
     n
 }
 
 // Whether the next one to be laid down is new: i is the next that stays, j the next that the event leads on from.
-pub fn fresh_first(window: &[u8], w: usize, n: usize, i: usize, j: usize, e: Event) -> bool
-    requires width { Width w }
+pub fn fresh_first(window: &[u8], w: CountWidth, n: usize, i: usize, j: usize, e: Event) -> bool
     requires room_for { RoomFor w n window.now }
     requires j_value { j < n → takes e (frontier_at w window.now j) ≡ true }
     ensures { result ≡ fresh_at e w window.now n i j }
@@ -67,7 +65,6 @@ pub fn fresh_first(window: &[u8], w: usize, n: usize, i: usize, j: usize, e: Eve
 
 // Lays down in the scratch all frontiers that there are after the event, by the marks.
 pub fn lay_all(window: &[u8], marks: &[u8], scratch: &mut [u8], table: &[u8], fixed: Stepping)
-    requires width { Width fixed.w }
     requires fitting { Fitting fixed.w fixed.event }
     requires room_for { RoomFor fixed.w fixed.n window.now }
     requires room_for_2 { RoomFor fixed.w fixed.kept scratch.old }
@@ -80,24 +77,21 @@ pub fn lay_all(window: &[u8], marks: &[u8], scratch: &mut [u8], table: &[u8], fi
 {
     let w = fixed.w;
     let n = fixed.n;
-    let kept = fixed.kept;
     let e = fixed.event;
-    let mask = e.mask;
-    let full = crate::advance::full_bytes(mask);
+    let full = crate::advance::full_bytes(e.mask);
     let mut hints = [0usize; 8];
     let mut i = next_marked(marks, n, 0, STAYS);
     let mut j = next_marked(marks, n, 0, LEADS);
-    let mut m = 0;
-    while m < kept {
+    for m in 0..fixed.kept {
         if fresh_first(window, w, n, i, j, e) {
-            let ended = crate::lay::lay_fresh(window, scratch, table, fixed, full, j, m, hints);
+            // By hand, for the proof: once `w` was read from `fixed`, the check covers no handing on of it as it is.
+            let here = Stepping { w, ..fixed };
+            let ended = crate::lay::lay_fresh(window, scratch, table, here, full, j, m, hints);
             hints = ended;
             j = next_marked(marks, n, j + 1, LEADS);
-            m = m + 1;
         } else {
             crate::lay::lay_staying(window, scratch, w, i, m);
             i = next_marked(marks, n, i + 1, STAYS);
-            m = m + 1;
         }
     }
 }

@@ -1,7 +1,6 @@
 // A window's step for an event: its frontiers are laid down in the scratch, and copied back.
 
 ghost use Rattle.std.specs.Prelude.{◌*◌, ◌-◌, ◌≤◌, ◌≡◌, length, replicate};
-ghost use Rattle.frontiers.specs.Width.{Width};
 ghost use Rattle.frontiers.specs.Bytes.{frontier_length, frontiers, replaced};
 ghost use Rattle.window.specs.Step.{kept_after};
 ghost use Rattle.window.specs.StepCode.{Fitting};
@@ -10,23 +9,19 @@ ghost use Rattle.window_step.specs.Fixed.{setting_of, frontiers_of, stepped_of};
 ghost use Rattle.window.specs.Marks.{Marked};
 
 use crate::Stepping;
+use frontiers::width::CountWidth;
 
-// How many bytes are left of n frontiers behind m others.
-fn left_over(w: usize, n: usize, m: usize) -> usize
-    requires width { Width w }
+// How many bytes are left of n frontiers after m others.
+fn left_over(w: CountWidth, n: usize, m: usize) -> usize
     requires n_bound { n ≤ 1024 }
     ensures { result ≡ (n - m) * frontier_length w }
 {
-    if n <= m {
-        return 0;
-    }
-    frontiers::place::frontier_place(w, n - m)
+    frontiers::place::frontier_place(w, n.saturating_sub(m))
 }
 
 // The first m frontiers of the scratch take the place of the window's n; what is left of those and the scratch are
 // cleared.
-pub fn copy_back(window: &mut [u8], scratch: &mut [u8], w: usize, n: usize, m: usize)
-    requires width { Width w }
+pub fn copy_back(window: &mut [u8], scratch: &mut [u8], w: CountWidth, n: usize, m: usize)
     requires room_for { RoomFor w n window.old }
     requires room_for_2 { RoomFor w m window.old }
     requires room_for_3 { RoomFor w m scratch.old }
@@ -42,7 +37,6 @@ pub fn copy_back(window: &mut [u8], scratch: &mut [u8], w: usize, n: usize, m: u
 
 // The window after the event, of so many frontiers as are kept; the scratch is cleared.
 pub fn step(window: &mut [u8], marks: &[u8], scratch: &mut [u8], table: &[u8], fixed: Stepping)
-    requires width { Width fixed.w }
     requires fitting { Fitting fixed.w fixed.event }
     requires room_for { RoomFor fixed.w fixed.n window.old }
     requires room_for_2 { RoomFor fixed.w fixed.kept scratch.old }
@@ -56,6 +50,10 @@ pub fn step(window: &mut [u8], marks: &[u8], scratch: &mut [u8], table: &[u8], f
     ensures scratch_after { scratch.new ≡ replicate (length scratch.old) 0 }
     ensures kept_after { frontiers fixed.w window.new fixed.kept ≡ stepped_of fixed table.now window.old }
 {
+    // By hand, for the proof: read first, as the check covers no field of `fixed` once it was handed on.
+    let w = fixed.w;
+    let n = fixed.n;
+    let kept = fixed.kept;
     crate::merge::lay_all(window, marks, scratch, table, fixed);
-    copy_back(window, scratch, fixed.w, fixed.n, fixed.kept);
+    copy_back(window, scratch, w, n, kept);
 }

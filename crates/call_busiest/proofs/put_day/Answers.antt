@@ -18,69 +18,55 @@ use Rattle.call_busiest.proofs.put_day.Goals as goal
 pub loop-p-init : goal.loop-p-init
 unfolding events_bytes day total list_of
 loop-p-init c = (
-  search rules,
   sym (zero-mul (event_length c.args.w)),
   refl,
-  refl,
 )
-
-pub put_singles-requires-clause-p_bound : goal.put_singles-requires-clause-p_bound
-put_singles-requires-clause-p_bound c = omega arith
 
 pub put_singles-requires-clause-n_bound : goal.put_singles-requires-clause-n_bound
 put_singles-requires-clause-n_bound c =
     let l = c.loop-p in
     let a = c.args in
-    let f = evenly a.each a.more in
-    let mine = c.share-count.ensures.0 in
-    let inside : l.p < a.k = search rules in
-    omega (arith, share-within f l.p a.k inside, mine)
+    let f = evenly a.shares.each a.shares.more in
+    let mine = c.of-count.ensures.0 in
+    let inside : l.p < a.shares.processes = search rules in
+    omega (arith, share-within f l.p a.shares.processes inside, mine)
 
 pub put_singles-requires-clause-w_in_bounds : goal.put_singles-requires-clause-w_in_bounds
 put_singles-requires-clause-w_in_bounds c =
     let l = c.loop-p in
     let a = c.args in
-    let f = evenly a.each a.more in
-    let mine = c.share-count.ensures.0 in
-    let inside : l.p < a.k = search rules in
-    let long : length c.clear_all.new.s ≡ length a.events.now =
-    ap length c.clear_all.ensures ∙ length-replicate {A = ℕ} (length a.events.now) 0 in
-    omega (arith, l.invariant.1, l.invariant.2, long, place-within a.w f l.p a.k _ inside mine)
+    let f = evenly a.shares.each a.shares.more in
+    let mine = c.of-count.ensures.0 in
+    let inside : l.p < a.shares.processes = search rules in
+    let long : length c.fill.new.self ≡ length a.events.now =
+    ap length (c.fill.ensures.after (λ y e. e)) ∙ length-replicate {A = ℕ} (length a.events.now) 0 in
+    omega (arith, l.invariant.0, c.loop-p.auto.events, long, place-within a.w f l.p a.shares.processes _ inside mine)
 
 pub put_singles-requires-clause-blank : goal.put_singles-requires-clause-blank
 put_singles-requires-clause-blank c =
     let l = c.loop-p in
     let a = c.args in
-    let f = evenly a.each a.more in
-    let clear : Blank c.clear_all.new.s 0 =
-    λ i m. rw c.clear_all.ensures (blank_zeros (length a.events.now) i) in
+    let f = evenly a.shares.each a.shares.more in
+    let clear : Blank c.fill.new.self 0 =
+    λ i m. rw (c.fill.ensures.after (λ y e. e)) (blank_zeros (length a.events.now) i) in
     λ i m.
-    rw l.invariant.3
-    (day_blank a.w f c.clear_all.new.s l.p clear i (omega (arith, l.invariant.1)))
-
-pub overflow_mul-place : goal.overflow_mul-place
-overflow_mul-place c =
-    record {
-      fits = omega (
-        arith,
-        mul-le-mul {n₂ = 65536} {m₂ = 48} c.share-count.ensures.1 c.event_length-size.ensures.1,
-      );
-    }
+    rw l.invariant.1
+    (day_blank a.w f c.fill.new.self l.p clear i (omega (arith, l.invariant.0)))
 
 pub overflow_add-place : goal.overflow_add-place
 overflow_add-place c =
     let l = c.loop-p in
     let a = c.args in
-    let f = evenly a.each a.more in
-    let some : total (sharing a.k a.each a.more) ≤ 65535 = search rules in
+    let f = evenly a.shares.each a.shares.more in
+    let some : total (sharing a.shares.processes a.shares.each a.shares.more) ≤ 65535 = search rules in
     let wide : event_length a.w ≤ 48 = omega arith in
     record {
       fits =
           rw c.event_length-size.ensures.0
           (omega (
             arith,
-            l.invariant.1,
-            place-within a.w f l.p a.k c.share-count.result (search rules) c.share-count.ensures.0,
+            l.invariant.0,
+            place-within a.w f l.p a.shares.processes c.of-count.result (search rules) c.of-count.ensures.0,
             mul-le-mul {n₂ = 65535} {m₂ = 48} some wide,
           ));
     }
@@ -89,22 +75,20 @@ pub loop-p-preserved : goal.loop-p-preserved
 loop-p-preserved c =
     let l = c.loop-p in
     let a = c.args in
-    let f = evenly a.each a.more in (
-      search rules,
-      rw (c.event_length-size.ensures.0, l.invariant.1)
-          (place_next a.w f l.p c.share-count.result c.share-count.ensures.0),
-      search rules,
-      day_step a.w f c.clear_all.new.s l.p l.events l.place c.share-count.result _ l.invariant.3
-          l.invariant.1 c.share-count.ensures.0 c.put_singles.ensures,
+    let f = evenly a.shares.each a.shares.more in (
+      rw (c.event_length-size.ensures.0, l.invariant.0)
+          (place_next a.w f l.p c.of-count.result c.of-count.ensures.0),
+      day_step a.w f c.fill.new.self l.p l.events l.place c.of-count.result _ l.invariant.1
+          l.invariant.0 c.of-count.ensures.0 c.put_singles.ensures,
     )
 
 pub returns : goal.returns
 returns c =
     let l = c.loop-p in
     let a = c.args in
-    let f = evenly a.each a.more in
-    let all : l.p ≡ a.k = omega arith in
-    let long : length (events_bytes a.w (day f a.k)) ≡ length c.clear_all.new.s =
-    length-day a.w f a.k
-    ∙ sym (ap length c.clear_all.ensures ∙ length-replicate {A = ℕ} (length a.events.now) 0 ∙ search rules) in
-    (rw all at l.invariant.3) ∙ sets_whole c.clear_all.new.s (events_bytes a.w (day f a.k)) long
+    let f = evenly a.shares.each a.shares.more in
+    let all : l.p ≡ a.shares.processes = omega arith in
+    let long : length (events_bytes a.w (day f a.shares.processes)) ≡ length c.fill.new.self =
+    length-day a.w f a.shares.processes
+    ∙ sym (ap length (c.fill.ensures.after (λ y e. e)) ∙ length-replicate {A = ℕ} (length a.events.now) 0 ∙ search rules) in
+    (rw all at l.invariant.1) ∙ sets_whole c.fill.new.self (events_bytes a.w (day f a.shares.processes)) long

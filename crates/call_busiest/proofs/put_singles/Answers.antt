@@ -13,7 +13,7 @@ use Rattle.call_busiest.proofs.put_singles.Goals as goal
 
 pub loop-i-init : goal.loop-i-init
 unfolding events_bytes singles list_of
-loop-i-init c = (search rules, omega (arith, zero-mul (event_length c.args.w)), search rules, refl)
+loop-i-init c = (omega (arith, zero-mul (event_length c.args.w)), refl)
 
 pub put_single-requires-clause-mask_value : goal.put_single-requires-clause-mask_value
 put_single-requires-clause-mask_value c =
@@ -24,14 +24,14 @@ pub put_single-requires-clause-w_in_bounds : goal.put_single-requires-clause-w_i
 put_single-requires-clause-w_in_bounds c =
     let l = c.loop-i in
     let a = c.args in
-    omega (arith, l.invariant.1, l.invariant.2, count-within l.i a.n (event_length a.w) (search rules))
+    omega (arith, l.invariant.0, count-within l.i a.n (event_length a.w) (search rules))
 
 pub put_single-requires-clause-blank : goal.put_single-requires-clause-blank
 put_single-requires-clause-blank c =
     let l = c.loop-i in
     let a = c.args in
     let blank = singles_blank a.w a.p a.events.now a.place l.i (search rules) in
-    λ j m. rw l.invariant.3 (blank j (omega (arith, l.invariant.1)))
+    λ j m. rw l.invariant.1 (blank j (omega (arith, l.invariant.0)))
 
 pub overflow_add-at : goal.overflow_add-at
 overflow_add-at c =
@@ -40,7 +40,7 @@ overflow_add-at c =
     record {
       fits = omega (
         arith,
-        l.invariant.1,
+        l.invariant.0,
         c.event_length-size.ensures.0,
         count-within l.i a.n (event_length a.w) (search rules),
       );
@@ -50,10 +50,8 @@ pub loop-i-preserved : goal.loop-i-preserved
 loop-i-preserved c =
     let l = c.loop-i in
     let a = c.args in (
-      search rules,
-      omega (arith, l.invariant.1, c.event_length-size.ensures.0, add-mul l.i 1 (event_length a.w)),
-      search rules,
-      singles_step a.w a.p a.events.now a.place l.i l.events l.at _ l.invariant.3 l.invariant.1
+      omega (arith, l.invariant.0, c.event_length-size.ensures.0, add-mul l.i 1 (event_length a.w)),
+      singles_step a.w a.p a.events.now a.place l.i l.events l.at _ l.invariant.1 l.invariant.0
           c.put_single.ensures,
     )
 
@@ -61,4 +59,4 @@ pub returns : goal.returns
 returns c =
     let l = c.loop-i in
     let all : l.i ≡ c.args.n = omega arith in
-    rw all at l.invariant.3
+    rw all at l.invariant.1

@@ -18,38 +18,19 @@ drop_others-kept-requires-clause-room_for c =
     subst⁻¹ (λ (n : ℕ). n * frontier_length a.w ≤ length a.window.now) c.kept_count-n.ensures room.1 in
     (omega (arith, room.0), inside)
 
-pub returns-clause-reply : goal.returns-clause-reply
-returns-clause-reply c =
+pub returns : goal.returns
+returns c =
     let a = c.args in
     let k = c.process_count-k in
     let closed = c.with_process-closed in
-    let mask = closed.ensures.0 ∙ ap (λ (m : ℕ). closing m a.p) c.closed_mask-before.ensures.0 in
+    let before = c.from-before.ensures ∙ c.closed_mask.ensures.0 in
+    let mask = closed.ensures.0 ∙ ap (λ (m : ℕ). closing m a.p) before in
     let law =
     closed_by a.w a.p a.«record».now a.window.now c.kept_count-n.result k.result
     closed.result c.drop_others-kept.result c.taken_counts-reached.result c.kept_count-n.ensures k.ensures.0
     mask c.taken_counts-reached.ensures c.drop_others-kept.ensures.value in
-    law.0
-
-pub returns-clause-bytes : goal.returns-clause-bytes
-returns-clause-bytes c =
-    let a = c.args in
-    let k = c.process_count-k in
-    let closed = c.with_process-closed in
-    let mask = closed.ensures.0 ∙ ap (λ (m : ℕ). closing m a.p) c.closed_mask-before.ensures.0 in
-    let law =
-    closed_by a.w a.p a.«record».now a.window.now c.kept_count-n.result k.result
-    closed.result c.drop_others-kept.result c.taken_counts-reached.result c.kept_count-n.ensures k.ensures.0
-    mask c.taken_counts-reached.ensures c.drop_others-kept.ensures.value in
-    c.set_closed.ensures ∙ law.1
-
-pub returns-clause-window : goal.returns-clause-window
-returns-clause-window c =
-    let a = c.args in
-    let k = c.process_count-k in
-    let closed = c.with_process-closed in
-    let mask = closed.ensures.0 ∙ ap (λ (m : ℕ). closing m a.p) c.closed_mask-before.ensures.0 in
-    let law =
-    closed_by a.w a.p a.«record».now a.window.now c.kept_count-n.result k.result
-    closed.result c.drop_others-kept.result c.taken_counts-reached.result c.kept_count-n.ensures k.ensures.0
-    mask c.taken_counts-reached.ensures c.drop_others-kept.ensures.value in
-    c.drop_others-kept.ensures.window_after ∙ law.2
+    record {
+      reply = law.0;
+      bytes = c.set_closed.ensures ∙ law.1;
+      window = c.drop_others-kept.ensures.window_after ∙ law.2;
+    }

@@ -13,5 +13,5 @@ returns c =
     let one = 2 ^ a.p in
     let shifted : (1 * one) % 2 ^ 64 ≡ one = shl_exact {a = 1} 1 a.p 64 (omega arith) (omega arith) ∙ omega arith in
     let small = or_lt 8 a.closed one (search rules) (pow-lt {j = 8} (search rules)) in
-    let whole : c.or_words.result ≡ bit_or a.closed one = c.or_words.ensures ∙ ap (bit_or a.closed) shifted in
+    let whole : bit_or a.closed ((1 * one) % 2 ^ 64) ≡ bit_or a.closed one = ap (bit_or a.closed) shifted in
     (whole, rw whole small)

@@ -8,16 +8,19 @@ use Rattle.refusals.specs.RefusalCode.{watch_fault}
 use Rattle.refusals.specs.FaultLaws.{Good, good_watch}
 use Rattle.answers.specs.Answer.{reply_word}
 use Rattle.call_find.proofs.FindSteps.{find_faulted, find_passed}
+use Rattle.numbers.specs.RefusalNumber.{number_of}
+use Rattle.numbers.specs.RefusalLaws.{some_number}
+use Rattle.std.proofs.Common.{rules}
 use Rattle.call_find.proofs.find.Goals as goal
-use Rattle.call_find.proofs.find.Goals.{Else-fault-ne0}
+use Rattle.call_find.proofs.find.Goals.{In_default}
 
 -- ---- What is known where 6 and 34 have let the call pass
 
-none : (c : Else-fault-ne0) → let a = c.args in
+none : (c : In_default) → let a = c.args in
     watch_fault a.w a.«record».now (length a.window.now) ≡ 0
-none c = sym c.watch_fault-fault.ensures ∙ c.if-fault-ne0.false
+none c = sym c.in_default.ensures
 
-good : (c : Else-fault-ne0) → let a = c.args in
+good : (c : In_default) → let a = c.args in
     Good a.w a.«record».now (length a.window.now)
 good c =
     let a = c.args in
@@ -25,42 +28,44 @@ good c =
 
 -- ---- The goals
 
-pub returns-then-fault-ne0 : goal.returns-then-fault-ne0
-returns-then-fault-ne0 c =
+pub returns-in-Err : goal.returns-in-Err
+returns-in-Err c =
     let a = c.args in
-    find_faulted a.w a.line a.«record».now a.window.now _ c.watch_fault-fault.ensures c.if-fault-ne0.true
+    let refusal = c.in-Err.refusal in
+    c.into.ensures
+    ∙ find_faulted a.w a.line a.«record».now a.window.now (number_of refusal) c.in-Err.ensures (some_number refusal)
 
 pub line_total-requires : goal.line_total-requires
-line_total-requires c = omega (arith, (good (goal.at.line_total-requires c).Else-fault-ne0).record_long)
+line_total-requires c = omega (arith, (good (goal.at.line_total-requires c).In_default).record_long)
 
-pub returns-then-line_total-line : goal.returns-then-line_total-line
+pub returns-then-from-line : goal.returns-then-from-line
 unfolding reply_word
-returns-then-line_total-line c =
+returns-then-from-line c =
     let a = c.args in
     let far = le-leb (line_total a.«record».now) a.line (omega arith) in
-    rw (find_passed a.w a.line a.«record».now a.window.now (none (goal.at.returns-then-line_total-line c).Else-fault-ne0), far)
+    rw (find_passed a.w a.line a.«record».now a.window.now (none (goal.at.returns-then-from-line c).In_default), far) (search rules)
 
 pub kept_count-requires : goal.kept_count-requires
-kept_count-requires c = omega (arith, (good (goal.at.kept_count-requires c).Else-fault-ne0).record_long)
+kept_count-requires c = omega (arith, (good (goal.at.kept_count-requires c).In_default).record_long)
 
 pub find_first-requires-clause-line_bound : goal.find_first-requires-clause-line_bound
 find_first-requires-clause-line_bound c =
-    let fine = good (goal.at.find_first-requires-clause-line_bound c).Else-fault-ne0 in
+    let fine = good (goal.at.find_first-requires-clause-line_bound c).In_default in
     omega (arith, fine.lines)
 
 pub find_first-requires-clause-kept_bound : goal.find_first-requires-clause-kept_bound
 find_first-requires-clause-kept_bound c =
-    let fine = good (goal.at.find_first-requires-clause-kept_bound c).Else-fault-ne0 in
+    let fine = good (goal.at.find_first-requires-clause-kept_bound c).In_default in
     omega (arith, fine.kept)
 
 pub find_first-requires-clause-w_in_bounds : goal.find_first-requires-clause-w_in_bounds
 find_first-requires-clause-w_in_bounds c =
-    let fine = good (goal.at.find_first-requires-clause-w_in_bounds c).Else-fault-ne0 in
+    let fine = good (goal.at.find_first-requires-clause-w_in_bounds c).In_default in
     let held = fine.kept_within in
-    rw c.kept_count.ensures held
+    rw (c.kept_count.ensures, c.of-width.ensures) held
 
 pub returns : goal.returns
 returns c =
     let a = c.args in
     let there = lt-leb (line_total a.«record».now) a.line (omega arith) in
-    rw (find_passed a.w a.line a.«record».now a.window.now (none (goal.at.returns c).Else-fault-ne0), there) (cc)
+    rw (find_passed a.w a.line a.«record».now a.window.now (none (goal.at.returns c).In_default), there) (cc)

@@ -1,18 +1,16 @@
 -- The first frontier at which the line holds decides, or none: the laws `find_here` and `find_none`.
-use mathlib.Core.Path.{sym, ◌∙◌}
+use mathlib.Core.Path.{refl, sym, ◌∙◌}
+use native.Mathlib.Nat.{le_refl}
 use Rattle.call_find.proofs.FindSteps.{find_here, find_none}
-use Rattle.std.proofs.Common.{rules}
 use Rattle.call_find.proofs.find_first.Goals as goal
 
-pub returns-then-i-kept : goal.returns-then-i-kept
-returns-then-i-kept c =
+pub returns-in-Some : goal.returns-in-Some
+returns-in-Some c =
     let a = c.args in
-    let f = c.first_holding-i in
-    let here = f.ensures.line_value (search rules) in
-    sym (f.ensures.kept_value ∙ find_here a.w a.line a.window.now a.kept f.result (search rules) here)
+    let first = c.in-Some.ensures.first in
+    sym (first.2 ∙ find_here a.w a.line a.window.now a.kept c.in-Some.i first.0 first.1)
 
-pub returns-else-i-kept : goal.returns-else-i-kept
-returns-else-i-kept c =
+pub returns-in-None : goal.returns-in-None
+returns-in-None c =
     let a = c.args in
-    let f = c.first_holding-i in
-    sym (f.ensures.kept_value ∙ find_none a.w a.line a.window.now a.kept f.result (search rules))
+    sym (c.in-None.ensures.nowhere refl ∙ find_none a.w a.line a.window.now a.kept a.kept (le_refl _))

@@ -1,33 +1,37 @@
-use Prim.Native.Nat.{ℕ, ◌≤◌, ◌+◌}
-use native.Mathlib.Nat.{mul-le-mul_right}
-use native.Mathlib.Omega.{arith}
-use mathlib.Core.Path.{◌≡◌, refl, sym, ap, ◌∙◌}
-use mathlib.Core.Bool.{false}
-use Rattle.codec.specs.Bit.{bit}
+-- The line holds at none of the four that are passed: the law `fours_end`.
+use Rattle.std.proofs.Common.{rules, arith, ◌≤◌, ◌*◌, ◌+◌, ◌/◌, ◌≡◌, length}
+use borrow.Author.Tests.{tests}
+use Rattle.std.proofs.lemmas.Iterator.{serves_from_Range, first_from_Range}
+use Rattle.std.specs.Option.{unwrap_or}
+use Rattle.call_find.specs.FindCode.{reply_from}
 use Rattle.frontiers.specs.Bytes.{frontier_length}
-use Rattle.call_find.proofs.FindSteps.{find_further_four}
-use Rattle.call_find.specs.FindCode.{four_values}
-use Rattle.std.proofs.Common.{rules}
+use Rattle.call_find.proofs.FindSteps.{NoneOfFour, four_within, fours_end}
 use Rattle.call_find.proofs.pass_fours.Goals as goal
+use Rattle.call_find.proofs.pass_fours.Goals.{After-find}
 
-pub loop-i-init : goal.loop-i-init
-loop-i-init c = (search rules, refl)
-
-pub four_values-requires-clause-i_bound : goal.four_values-requires-clause-i_bound
-four_values-requires-clause-i_bound c = omega arith
-
-pub four_values-requires-clause-w_in_bounds : goal.four_values-requires-clause-w_in_bounds
-four_values-requires-clause-w_in_bounds c =
+pub find-requires-clause-callable : goal.find-requires-clause-callable
+find-requires-clause-callable c =
     let a = c.args in
-    let within : c.loop-i.i + 4 ≤ a.kept = omega arith in
-    omega (arith, mul-le-mul_right (frontier_length a.w) within)
+    serves_from_Range (λ x q h. search rules) (λ x l m y e.
+    let n = length a.window.now in
+    let within : (4 * y.now + 4) * frontier_length a.w ≤ n = four_within y.now a.kept (frontier_length a.w) n (omega arith) (search rules) in
+    search rules)
 
-pub loop-i-preserved : goal.loop-i-preserved
-loop-i-preserved c =
+passed : (c : After-find) → let a = c.args in let r = c.find.result in
+    (unwrap_or r (a.kept / 4) ≤ a.kept / 4)
+    × (reply_from a.w a.line a.window.now a.kept 0
+    ≡ reply_from a.w a.line a.window.now a.kept (4 * unwrap_or r (a.kept / 4)))
+passed c =
     let a = c.args in
-    let i = c.loop-i.i in
-    let four = c.four_values in
-    let none : bit (four_values a.w a.window.now i) a.line ≡ false =
-    ap (λ (v : ℕ). bit v a.line) (sym four.ensures) ∙ sym c.has_bit.ensures ∙ c.if-has_bit.false in
-    let further = find_further_four a.w a.line a.window.now a.kept i (omega arith) none in
-    (omega arith, c.loop-i.invariant.1 ∙ further)
+    fours_end a.w a.line a.window.now a.kept c.find.result
+    (first_from_Range _ _ _ _ (λ _. Unit {0}) (NoneOfFour a.w a.line a.window.now) c.find.ensures.ran (λ x q k. tt)
+    (λ x q k. search (rules, tests)))
+
+pub overflow_mul-result : goal.overflow_mul-result
+overflow_mul-result c =
+    let within = (passed (goal.at.overflow_mul-result c).After-find).0 in
+    record { fits = rw c.unwrap_or.ensures (omega arith) }
+
+pub returns-clause-kept_value : goal.returns-clause-kept_value
+returns-clause-kept_value c =
+    rw c.unwrap_or.ensures (passed (goal.at.returns-clause-kept_value c).After-find).1

@@ -1,130 +1,58 @@
 -- A number turns the move back; else record and window are moved: the laws `move_turned` and `move_whole`.
-use mathlib.Core.Path.{◌≡◌, sym, ◌∙◌}
-use lib.ListN.{length}
+use Rattle.std.proofs.Common.{◌≡◌, length, sym, ◌∙◌, arith}
+use Rattle.numbers.specs.RefusalLaws.{some_number}
 use Rattle.call_move.specs.MoveCode.{move_fault}
 use Rattle.call_move.proofs.CallSteps.{move_turned, move_right, move_fits, window_asked, move_whole}
 use Rattle.call_move.proofs.move_watch.Goals as goal
-use Rattle.call_move.proofs.move_watch.Goals.{Else-fault-ne0}
+use Rattle.call_move.proofs.move_watch.Goals.{In_default}
 
--- ---- What is known where nothing turns the move back
-
--- No number was found.
-none : (c : Else-fault-ne0) → let a = c.args in
-    move_fault a.v a.w a.«record».now a.window.now (length a.target.now)
-    (length a.target_window.now) ≡ 0
-none c = sym c.move_fault-fault.ensures ∙ c.if-fault-ne0.false
+-- Nothing turns the move back.
+none : (c : In_default) → let a = c.args in
+    move_fault a.v a.w a.«record».now a.window.now (length a.target.now) (length a.target_window.now) ≡ 0
+none c = rw (c.of-from_width.ensures, c.of-to_width.ensures) at (sym c.in_default.ensures)
 
 -- ---- The goals
 
-pub returns-then-fault-ne0-clause-reply : goal.returns-then-fault-ne0-clause-reply
-returns-then-fault-ne0-clause-reply c =
+pub returns-in-Err : goal.returns-in-Err
+returns-in-Err c =
     let a = c.args in
+    let some = some_number c.in-Err.refusal in
+    let fault = rw (c.of-from_width.ensures, c.of-to_width.ensures) at c.in-Err.ensures in
     let back =
-    move_turned a.v a.w a.«record».now a.window.now a.target.now a.target_window.now _
-    c.move_fault-fault.ensures c.if-fault-ne0.true in
-    back.0
+    move_turned a.v a.w a.«record».now a.window.now a.target.now a.target_window.now _ fault (λ z. omega arith) in
+    record { reply = c.from.ensures ∙ back.0; bytes = back.1; window = back.2 }
 
-pub returns-then-fault-ne0-clause-bytes : goal.returns-then-fault-ne0-clause-bytes
-returns-then-fault-ne0-clause-bytes c =
+pub move_record-requires : goal.move_record-requires
+move_record-requires c =
     let a = c.args in
-    let back =
-    move_turned a.v a.w a.«record».now a.window.now a.target.now a.target_window.now _
-    c.move_fault-fault.ensures c.if-fault-ne0.true in
-    back.1
+    let passed = none (goal.at.move_record-requires c).In_default in
+    let right = move_right a.v a.w a.«record».now a.window.now a.target.now a.target_window.now passed in
+    let fits = move_fits a.v a.w a.«record».now a.window.now a.target.now a.target_window.now passed in
+    record {
+      record_len = rw c.of-from_width.ensures right.source;
+      target_len = rw c.of-to_width.ensures right.target;
+      record_value = rw (c.of-from_width.ensures, c.of-to_width.ensures) fits.0;
+    }
 
-pub returns-then-fault-ne0-clause-window : goal.returns-then-fault-ne0-clause-window
-returns-then-fault-ne0-clause-window c =
+pub move_window-requires : goal.move_window-requires
+move_window-requires c =
     let a = c.args in
-    let back =
-    move_turned a.v a.w a.«record».now a.window.now a.target.now a.target_window.now _
-    c.move_fault-fault.ensures c.if-fault-ne0.true in
-    back.2
-
-pub move_record-requires-clause-record_len : goal.move_record-requires-clause-record_len
-move_record-requires-clause-record_len c =
-    let a = c.args in
-    let right =
-    move_right a.v a.w a.«record».now a.window.now a.target.now a.target_window.now
-    (none (goal.at.move_record-requires-clause-record_len c).Else-fault-ne0) in
-    right.source
-
-pub move_record-requires-clause-target_len : goal.move_record-requires-clause-target_len
-move_record-requires-clause-target_len c =
-    let a = c.args in
-    let right =
-    move_right a.v a.w a.«record».now a.window.now a.target.now a.target_window.now
-    (none (goal.at.move_record-requires-clause-target_len c).Else-fault-ne0) in
-    right.target
-
-pub move_record-requires-clause-record_value : goal.move_record-requires-clause-record_value
-move_record-requires-clause-record_value c =
-    let a = c.args in
-    let fits =
-    move_fits a.v a.w a.«record».now a.window.now a.target.now a.target_window.now (none (goal.at.move_record-requires-clause-record_value c).Else-fault-ne0) in
-    fits.0
-
-pub move_window-requires-clause-n_bound : goal.move_window-requires-clause-n_bound
-move_window-requires-clause-n_bound c =
-    let a = c.args in
-    let room = c.room_of-n.ensures in
     let asked =
     window_asked a.v a.w a.«record».now a.window.now a.target.now a.target_window.now _
-    (none (goal.at.move_window-requires-clause-n_bound c).Else-fault-ne0) room in
-    asked.0
+    (none (goal.at.move_window-requires c).In_default) (rw c.of-from_width.ensures at c.room_of-n.ensures) in
+    record {
+      n_bound = asked.0;
+      v_in_bounds = rw c.of-from_width.ensures asked.1;
+      w_in_bounds = rw c.of-to_width.ensures asked.2;
+      window_value = rw (c.of-from_width.ensures, c.of-to_width.ensures) asked.3;
+    }
 
-pub move_window-requires-clause-v_in_bounds : goal.move_window-requires-clause-v_in_bounds
-move_window-requires-clause-v_in_bounds c =
+pub returns : goal.returns
+returns c =
     let a = c.args in
-    let room = c.room_of-n.ensures in
-    let asked =
-    window_asked a.v a.w a.«record».now a.window.now a.target.now a.target_window.now _
-    (none (goal.at.move_window-requires-clause-v_in_bounds c).Else-fault-ne0) room in
-    asked.1
-
-pub move_window-requires-clause-w_in_bounds : goal.move_window-requires-clause-w_in_bounds
-move_window-requires-clause-w_in_bounds c =
-    let a = c.args in
-    let room = c.room_of-n.ensures in
-    let asked =
-    window_asked a.v a.w a.«record».now a.window.now a.target.now a.target_window.now _
-    (none (goal.at.move_window-requires-clause-w_in_bounds c).Else-fault-ne0) room in
-    asked.2
-
-pub move_window-requires-clause-window_value : goal.move_window-requires-clause-window_value
-move_window-requires-clause-window_value c =
-    let a = c.args in
-    let room = c.room_of-n.ensures in
-    let asked =
-    window_asked a.v a.w a.«record».now a.window.now a.target.now a.target_window.now _
-    (none (goal.at.move_window-requires-clause-window_value c).Else-fault-ne0) room in
-    asked.3
-
-pub returns-clause-reply : goal.returns-clause-reply
-returns-clause-reply c =
-    let a = c.args in
-    let bytes = c.move_record.ensures in
-    let frontiers = c.move_window.ensures in
     let whole =
     move_whole a.v a.w a.«record».now a.window.now a.target.now a.target_window.now _ _ _
-    (none (goal.at.returns-clause-reply c).Else-fault-ne0) c.room_of-n.ensures bytes frontiers in
-    whole.0
-
-pub returns-clause-bytes : goal.returns-clause-bytes
-returns-clause-bytes c =
-    let a = c.args in
-    let bytes = c.move_record.ensures in
-    let frontiers = c.move_window.ensures in
-    let whole =
-    move_whole a.v a.w a.«record».now a.window.now a.target.now a.target_window.now _ _ _
-    (none (goal.at.returns-clause-bytes c).Else-fault-ne0) c.room_of-n.ensures bytes frontiers in
-    whole.1
-
-pub returns-clause-window : goal.returns-clause-window
-returns-clause-window c =
-    let a = c.args in
-    let bytes = c.move_record.ensures in
-    let frontiers = c.move_window.ensures in
-    let whole =
-    move_whole a.v a.w a.«record».now a.window.now a.target.now a.target_window.now _ _ _
-    (none (goal.at.returns-clause-window c).Else-fault-ne0) c.room_of-n.ensures bytes frontiers in
-    whole.2
+    (none (goal.at.returns c).In_default) (rw c.of-from_width.ensures at c.room_of-n.ensures)
+    (rw (c.of-from_width.ensures, c.of-to_width.ensures) at c.move_record.ensures)
+    (rw (c.of-from_width.ensures, c.of-to_width.ensures) at c.move_window.ensures) in
+    record { reply = whole.0; bytes = whole.1; window = whole.2 }

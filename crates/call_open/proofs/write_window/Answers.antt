@@ -1,4 +1,5 @@
 -- The window cleared, then the frontier stored at its start: the law `stored_window`.
+use lib.ListN.{length}
 use Rattle.call_open.proofs.OpenSteps.{zeros_fit, stored_window}
 use Rattle.std.proofs.Common.{rules}
 use Rattle.call_open.proofs.write_window.Goals as goal
@@ -9,4 +10,5 @@ write_frontier-requires-clause-by_index c = zeros_fit 8 c.args.w
 pub returns : goal.returns
 returns c =
     let a = c.args in
-    cc (stored_window a.w a.window.now a.labels a.values (search rules) (search rules))
+    rw (c.write_frontier.ensures, c.fill.ensures.after (λ y e. e))
+    (stored_window a.w (length a.window.now) a.labels a.values (search rules) (search rules))

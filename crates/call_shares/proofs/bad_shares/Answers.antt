@@ -1,69 +1,40 @@
-use native.Mathlib.Omega.{arith}
-use mathlib.Core.Path.{◌≡◌, refl, sym, ap, ◌∙◌}
-use mathlib.Core.Bool.{◌||◌}
-use lib.Dec.{ltb}
-use lib.ListN.{length}
-use borrow.Author.Tests.{eq-eqb, ne_eqb, lt-ltb, le-ltb}
-use Rattle.clocks.specs.Bounded.{any_of}
-use Rattle.clocks.specs.Counts.{at}
-use Rattle.clocks.specs.stored.CountsLaws.{list_of-at}
-use Rattle.clocks.specs.stored.SearchLaws.{search_here, search_next, search_none}
-use Rattle.pool.specs.Pool.{sum_below}
-use Rattle.pool.specs.PoolLaws.{sum_next}
+-- None, too many, one of 0, or what the sum decides: the laws `any_listed` and `sum_listed` for the library's words.
+use Rattle.std.proofs.Common.{rules, ℕ, Bool, sym, ap, ◌≡◌, ◌∙◌, length, lt-ltb, le-ltb, eqb, ltb}
+use Rattle.std.specs.List.{sum_by}
+use Rattle.std.proofs.iter.runs.Made.{chains}
+use Rattle.call_shares.proofs.BadSteps.{any_listed, sum_listed}
 use Rattle.call_shares.specs.Shares.{bad_shares}
-use Rattle.std.proofs.Common.{rules}
-use Rattle.call_shares.proofs.bad_shares.Invariants.{empty}
 use Rattle.call_shares.proofs.bad_shares.Goals as goal
-use Rattle.call_shares.proofs.bad_shares.Goals.{Else-n-gt-MEMBERS}
+use Rattle.call_shares.proofs.bad_shares.Goals.{then-is_empty-via-then-is_empty, then-is_empty-via-else-is_empty+then-shares-gt-MEMBERS, then-is_empty-via-else-is_empty+else-shares-gt-MEMBERS+then-contains}
 
--- One to eight: what they are decides.
-some_few : (c : Else-n-gt-MEMBERS)
-    → let shares = c.args.shares.now in
-    bad_shares shares ≡ (any_of empty shares || ltb 1024 (sum_below (length shares) (at shares)))
+abbrev empty : ℕ → Bool
+empty share = eqb share 0
+
+pub returns-then-is_empty : goal.returns-then-is_empty
 unfolding bad_shares
-some_few c =
-    let n = length c.args.shares.now in
-    rw (ne_eqb n 0 c.if-n-eq0.false, le-ltb 8 n c.if-n-gt-MEMBERS.false)
-
-pub returns-then-n-eq0 : goal.returns-then-n-eq0
-unfolding bad_shares
-returns-then-n-eq0 c = rw (eq-eqb (length c.args.shares.now) 0 c.if-n-eq0.true)
-
-pub returns-then-n-gt-MEMBERS : goal.returns-then-n-gt-MEMBERS
-unfolding bad_shares
-returns-then-n-gt-MEMBERS c =
-    let n = length c.args.shares.now in
-    rw (ne_eqb n 0 c.if-n-eq0.false, lt-ltb 8 n c.if-n-gt-MEMBERS.true)
-
-pub loop-i-init : goal.loop-i-init
-unfolding sum_below
-loop-i-init c =
+returns-then-is_empty c =
     let shares = c.args.shares.now in
-    (search rules, refl, search rules, ap (any_of empty) (sym (list_of-at (length shares) shares refl)))
-
-pub returns-then-share-eq0 : goal.returns-then-share-eq0
-returns-then-share-eq0 c =
-    let l = c.loop-i in
-    let shares = c.args.shares.now in
-    let here = eq-eqb (at shares l.i) 0 (omega (arith, c.wide-share.ensures.0, c.if-share-eq0.true)) in
-    rw (some_few (goal.at.returns-then-share-eq0 c).Else-n-gt-MEMBERS, l.invariant.3, search_here (length shares) (at shares) empty l.i (search rules) here)
-
-pub loop-i-preserved : goal.loop-i-preserved
-loop-i-preserved c =
-    let l = c.loop-i in
-    let shares = c.args.shares.now in
-    let w = c.wide-share in
-    let here = ne_eqb (at shares l.i) 0 (λ e. c.if-share-eq0.false (w.ensures.0 ∙ e)) in (
-      search rules,
-      sum_next (at shares) l.i l.sum w.result l.invariant.1 w.ensures.0,
-      search rules,
-      l.invariant.3 ∙ search_next (length shares) (at shares) empty l.i (search rules) here,
-    )
+    let n = length shares in
+    elim c.then-is_empty.branch [
+      | then-is_empty-via-then-is_empty w ↦ rw (sym c.is_empty.ensures ∙ w.if-is_empty.true)
+      | then-is_empty-via-else-is_empty+then-shares-gt-MEMBERS w ↦
+          rw (sym c.is_empty.ensures ∙ w.if-is_empty.false, lt-ltb 8 n w.if-shares-gt-MEMBERS.true)
+      | then-is_empty-via-else-is_empty+else-shares-gt-MEMBERS+then-contains w ↦
+          rw (
+            sym c.is_empty.ensures ∙ w.if-is_empty.false,
+            le-ltb 8 n w.if-shares-gt-MEMBERS.false,
+            sym (any_listed empty shares) ∙ sym w.contains.ensures.value ∙ w.if-contains.true,
+          )
+    ]
 
 pub returns : goal.returns
+unfolding bad_shares
 returns c =
-    let l = c.loop-i in
     let shares = c.args.shares.now in
-    let all : l.i ≡ length shares = omega arith in
-    rw (some_few (goal.at.returns c).Else-n-gt-MEMBERS, l.invariant.3, search_none (length shares) (at shares) empty l.i (omega arith))
-    (ap (ltb 1024) (rw all at l.invariant.1))
+    let total : c.sum-sum.result ≡ sum_by (λ x. x) shares = search (rules, chains) in
+    rw (
+      sym c.is_empty.ensures ∙ c.if-is_empty.false,
+      le-ltb 8 (length shares) c.if-shares-gt-MEMBERS.false,
+      sym (any_listed empty shares) ∙ sym c.contains.ensures.value ∙ c.if-contains.false,
+    )
+    (ap (ltb 1024) (total ∙ sum_listed shares))

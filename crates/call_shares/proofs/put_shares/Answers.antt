@@ -1,7 +1,6 @@
 use native.Mathlib.Omega.{arith}
-use mathlib.Core.Path.{◌≡◌, refl, ap, ◌∙◌}
+use mathlib.Core.Path.{◌≡◌, refl, ◌∙◌}
 use lib.ListN.{length, replicate}
-use Rattle.codec.specs.SetsLaws.{sets_whole}
 use Rattle.call_shares.proofs.PutSteps.{share_step, all-written}
 use Rattle.call_shares.specs.Shares.{shares_bytes}
 use Rattle.std.proofs.Common.{rules}
@@ -10,11 +9,8 @@ use Rattle.call_shares.proofs.put_shares.Goals as goal
 pub loop-i-init : goal.loop-i-init
 unfolding shares_bytes
 loop-i-init c =
-    let pool = c.args.pool.now in
-    let size : 32 ≡ length pool = search rules in
-    let cleared : c.clear.new.s ≡ replicate 32 0 =
-    c.clear.ensures ∙ sets_whole pool (replicate 32 0) size in
-    (search rules, ap length cleared, cleared)
+    let cleared : c.fill.new.self ≡ replicate 32 0 = search rules in
+    (search rules, search rules, cleared)
 
 pub loop-i-preserved : goal.loop-i-preserved
 loop-i-preserved c =

@@ -7,6 +7,7 @@ use Rattle.pool.specs.Pool.{bad_pool_length}
 use Rattle.pool.specs.PoolLaws.{length_right}
 use Rattle.call_shares.specs.Shares.{bad_shares}
 use Rattle.call_shares.specs.SharesCases.{length-turned, shares-turned, shares-set, shares_good}
+use Rattle.std.proofs.Common.{rules}
 use Rattle.call_shares.proofs.set_shares.Goals as goal
 use Rattle.call_shares.proofs.set_shares.Goals.{Else-bad_pool_length, Else-bad_shares}
 
@@ -26,14 +27,14 @@ unfolding result_word
 returns-then-bad_pool_length c =
     let a = c.args in
     let bad = sym c.bad_pool_length.ensures ∙ c.if-bad_pool_length.true in
-    rw (length-turned a.shares.now a.pool.now bad) (record { reply = refl; pool = refl })
+    rw (length-turned a.shares.now a.pool.now bad) (record { reply = search rules; pool = refl })
 
 pub returns-then-bad_shares : goal.returns-then-bad_shares
 unfolding result_word
 returns-then-bad_shares c =
     let a = c.args in
     let bad = sym c.bad_shares.ensures ∙ c.if-bad_shares.true in
-    rw (shares-turned a.shares.now a.pool.now (right_length (goal.at.returns-then-bad_shares c).Else-bad_pool_length) bad) (record { reply = refl; pool = refl })
+    rw (shares-turned a.shares.now a.pool.now (right_length (goal.at.returns-then-bad_shares c).Else-bad_pool_length) bad) (record { reply = search rules; pool = refl })
 
 pub put_shares-requires-clause-shares_len_bound : goal.put_shares-requires-clause-shares_len_bound
 put_shares-requires-clause-shares_len_bound c =

@@ -31,7 +31,7 @@ setting : (c : After-table_place-place) → let a = c.args in
     let s = a.«record».now in
     let place = c.table_place-place.result in
     setting_in a.w s a.e
-    ≡ setting_with c.process_count-k.result c.closed_mask-closed.result
+    ≡ setting_with c.process_count-k.result c.from-closed.result
     (take (length s - place) (drop place s)) c.line_total-lines.result a.e c.apply-reached.result
 setting c =
     let a = c.args in
@@ -40,7 +40,7 @@ setting c =
     c.apply-reached.ensures
     ∙ ap (λ (l : List ℕ). list_of 8 (apply a.e (at l))) c.taken_counts.ensures in
     setting_lent a.w s a.e _ _ _ _ _ (small (goal.at.After-table_place-place c).Start) c.process_count-k.ensures.0
-    c.closed_mask-closed.ensures.0 c.table_place-place.ensures.0 c.line_total-lines.ensures.0 counts
+    (c.from-closed.ensures ∙ c.closed_mask.ensures.0) c.table_place-place.ensures.0 c.line_total-lines.ensures.0 counts
 
 pub step-requires-clause-fitting : goal.step-requires-clause-fitting
 step-requires-clause-fitting c =

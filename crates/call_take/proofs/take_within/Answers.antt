@@ -26,7 +26,7 @@ pub decide-choice-requires-clause-room_for : goal.decide-choice-requires-clause-
 decide-choice-requires-clause-room_for c =
     let asked = c.requires.room_for in
     let count = c.kept_count-n.ensures in
-    (rw count asked.0, rw count asked.1)
+    (rw count asked.0, rw (count, c.bytes.ensures.value) asked.1)
 
 pub decide-choice-requires-clause-n_in_bounds : goal.decide-choice-requires-clause-n_in_bounds
 decide-choice-requires-clause-n_in_bounds c =
@@ -39,7 +39,7 @@ decision : (c : After-decide-choice) → let a = c.args in
     c.decide-choice.result
     ≡ choice_for a.w a.«record».now (kept a.w a.«record».now a.window.now)
     (trial a.w a.«record».now a.allowed (kept a.w a.«record».now a.window.now))
-decision c = rw (← c.kept_count-n.ensures) c.decide-choice.ensures.value
+decision c = rw (← c.kept_count-n.ensures) (rw c.bytes.ensures.value at c.decide-choice.ensures.value)
 
 pub remove_event-requires-clause-i_bound : goal.remove_event-requires-clause-i_bound
 remove_event-requires-clause-i_bound c =
@@ -86,95 +86,44 @@ take_event-requires-clause-n_in_bounds c =
     rw (long, count) asked.room_for.0
 
 pub take_event-requires-clause-marked : goal.take_event-requires-clause-marked
-take_event-requires-clause-marked c = c.decide-choice.ensures.marked_for _ _ c.in-Chosen.is
+take_event-requires-clause-marked c = rw c.bytes.ensures.value at (c.decide-choice.ensures.marked_for _ _ c.in-Chosen.is)
 
-pub returns-in-Undecided-clause-reply : goal.returns-in-Undecided-clause-reply
+pub returns-in-Undecided : goal.returns-in-Undecided
 unfolding decided
-returns-in-Undecided-clause-reply c =
+returns-in-Undecided c =
     let a = c.args in
-    let whole = within_by a.w a.allowed a.«record».now a.window.now _ (choice_undecided a.w a.«record».now a.allowed _ _ (sym c.in-Undecided.is ∙ decision (goal.at.returns-in-Undecided-clause-reply c).After-decide-choice)) in
-    c.undecided_word.ensures ∙ ap (λ (o : Taken). reply_word o.answer) (sym whole)
+    let whole = within_by a.w a.allowed a.«record».now a.window.now _ (choice_undecided a.w a.«record».now a.allowed _ _ (sym c.in-Undecided.is ∙ decision (goal.at.returns-in-Undecided c).After-decide-choice)) in
+    let cleared : c.fill.new.self ≡ replicate (length a.scratch.now) 0 = search rules in
+    record {
+      reply = c.undecided_word.ensures ∙ ap (λ (o : Taken). reply_word o.answer) (sym whole);
+      bytes = ap (λ (o : Taken). o.bytes) (sym whole);
+      window = ap (λ (o : Taken). o.window) (sym whole);
+      scratch = cleared ∙ ap (λ (n : ℕ). replicate n 0) c.requires.scratch_len ∙ ap (λ (o : Taken). o.scratch) (sym whole);
+    }
 
-pub returns-in-Undecided-clause-bytes : goal.returns-in-Undecided-clause-bytes
-unfolding decided
-returns-in-Undecided-clause-bytes c =
-    let a = c.args in
-    let whole = within_by a.w a.allowed a.«record».now a.window.now _ (choice_undecided a.w a.«record».now a.allowed _ _ (sym c.in-Undecided.is ∙ decision (goal.at.returns-in-Undecided-clause-bytes c).After-decide-choice)) in
-    ap (λ (o : Taken). o.bytes) (sym whole)
-
-pub returns-in-Undecided-clause-window : goal.returns-in-Undecided-clause-window
-unfolding decided
-returns-in-Undecided-clause-window c =
-    let a = c.args in
-    let whole = within_by a.w a.allowed a.«record».now a.window.now _ (choice_undecided a.w a.«record».now a.allowed _ _ (sym c.in-Undecided.is ∙ decision (goal.at.returns-in-Undecided-clause-window c).After-decide-choice)) in
-    ap (λ (o : Taken). o.window) (sym whole)
-
-pub returns-in-Undecided-clause-scratch : goal.returns-in-Undecided-clause-scratch
-unfolding decided
-returns-in-Undecided-clause-scratch c =
-    let a = c.args in
-    let whole = within_by a.w a.allowed a.«record».now a.window.now _ (choice_undecided a.w a.«record».now a.allowed _ _ (sym c.in-Undecided.is ∙ decision (goal.at.returns-in-Undecided-clause-scratch c).After-decide-choice)) in
-    c.clear_all.ensures ∙ ap (λ (n : ℕ). replicate n 0) c.requires.scratch_len ∙ ap (λ (o : Taken). o.scratch) (sym whole)
-
-pub returns-in-Falsified-clause-reply : goal.returns-in-Falsified-clause-reply
+pub returns-in-Falsified : goal.returns-in-Falsified
 unfolding decided reply_word
-returns-in-Falsified-clause-reply c =
+returns-in-Falsified c =
     let a = c.args in
-    let whole = within_by a.w a.allowed a.«record».now a.window.now _ (choice_falsified a.w a.«record».now a.allowed _ _ (sym c.in-Falsified.is ∙ decision (goal.at.returns-in-Falsified-clause-reply c).After-decide-choice)).0 in
-    ap (λ (o : Taken). reply_word o.answer) (sym whole)
+    let whole = within_by a.w a.allowed a.«record».now a.window.now _ (choice_falsified a.w a.«record».now a.allowed _ _ (sym c.in-Falsified.is ∙ decision (goal.at.returns-in-Falsified c).After-decide-choice)).0 in
+    let cleared : c.fill-in-Falsified.new.self ≡ replicate (length a.scratch.now) 0 = search rules in
+    record {
+      reply = c.into.ensures ∙ ap (λ (o : Taken). reply_word o.answer) (sym whole);
+      bytes = c.remove_event.ensures ∙ ap (λ (o : Taken). o.bytes) (sym whole);
+      window = ap (λ (o : Taken). o.window) (sym whole);
+      scratch = cleared ∙ ap (λ (n : ℕ). replicate n 0) c.requires.scratch_len ∙ ap (λ (o : Taken). o.scratch) (sym whole);
+    }
 
-pub returns-in-Falsified-clause-bytes : goal.returns-in-Falsified-clause-bytes
-unfolding decided reply_word
-returns-in-Falsified-clause-bytes c =
-    let a = c.args in
-    let whole = within_by a.w a.allowed a.«record».now a.window.now _ (choice_falsified a.w a.«record».now a.allowed _ _ (sym c.in-Falsified.is ∙ decision (goal.at.returns-in-Falsified-clause-bytes c).After-decide-choice)).0 in
-    c.remove_event.ensures ∙ ap (λ (o : Taken). o.bytes) (sym whole)
-
-pub returns-in-Falsified-clause-window : goal.returns-in-Falsified-clause-window
-unfolding decided reply_word
-returns-in-Falsified-clause-window c =
-    let a = c.args in
-    let whole = within_by a.w a.allowed a.«record».now a.window.now _ (choice_falsified a.w a.«record».now a.allowed _ _ (sym c.in-Falsified.is ∙ decision (goal.at.returns-in-Falsified-clause-window c).After-decide-choice)).0 in
-    ap (λ (o : Taken). o.window) (sym whole)
-
-pub returns-in-Falsified-clause-scratch : goal.returns-in-Falsified-clause-scratch
-unfolding decided reply_word
-returns-in-Falsified-clause-scratch c =
-    let a = c.args in
-    let whole = within_by a.w a.allowed a.«record».now a.window.now _ (choice_falsified a.w a.«record».now a.allowed _ _ (sym c.in-Falsified.is ∙ decision (goal.at.returns-in-Falsified-clause-scratch c).After-decide-choice)).0 in
-    c.clear_all-in-Falsified.ensures ∙ ap (λ (n : ℕ). replicate n 0) c.requires.scratch_len ∙ ap (λ (o : Taken). o.scratch) (sym whole)
-
-pub returns-in-Chosen-clause-reply : goal.returns-in-Chosen-clause-reply
+pub returns-in-Chosen : goal.returns-in-Chosen
 unfolding decided
-returns-in-Chosen-clause-reply c =
+returns-in-Chosen c =
     let a = c.args in
-    let whole = within_by a.w a.allowed a.«record».now a.window.now _ (choice_chosen a.w a.«record».now a.allowed _ _ _ (sym c.in-Chosen.is ∙ decision (goal.at.returns-in-Chosen-clause-reply c).After-decide-choice)).0 in
+    let whole = within_by a.w a.allowed a.«record».now a.window.now _ (choice_chosen a.w a.«record».now a.allowed _ _ _ (sym c.in-Chosen.is ∙ decision (goal.at.returns-in-Chosen c).After-decide-choice)).0 in
     let e = c.take_event.ensures in
     let count = c.kept_count-n.ensures in
-    rw (whole, ← count) e.reply
-
-pub returns-in-Chosen-clause-bytes : goal.returns-in-Chosen-clause-bytes
-unfolding decided
-returns-in-Chosen-clause-bytes c =
-    let a = c.args in
-    let whole = within_by a.w a.allowed a.«record».now a.window.now _ (choice_chosen a.w a.«record».now a.allowed _ _ _ (sym c.in-Chosen.is ∙ decision (goal.at.returns-in-Chosen-clause-bytes c).After-decide-choice)).0 in
-    let e = c.take_event.ensures in
-    let count = c.kept_count-n.ensures in
-    rw (whole, ← count) e.bytes
-
-pub returns-in-Chosen-clause-window : goal.returns-in-Chosen-clause-window
-unfolding decided
-returns-in-Chosen-clause-window c =
-    let a = c.args in
-    let whole = within_by a.w a.allowed a.«record».now a.window.now _ (choice_chosen a.w a.«record».now a.allowed _ _ _ (sym c.in-Chosen.is ∙ decision (goal.at.returns-in-Chosen-clause-window c).After-decide-choice)).0 in
-    let e = c.take_event.ensures in
-    let count = c.kept_count-n.ensures in
-    rw (whole, ← count) e.window
-
-pub returns-in-Chosen-clause-scratch : goal.returns-in-Chosen-clause-scratch
-unfolding decided
-returns-in-Chosen-clause-scratch c =
-    let a = c.args in
-    let whole = within_by a.w a.allowed a.«record».now a.window.now _ (choice_chosen a.w a.«record».now a.allowed _ _ _ (sym c.in-Chosen.is ∙ decision (goal.at.returns-in-Chosen-clause-scratch c).After-decide-choice)).0 in
-    let e = c.take_event.ensures in
-    rw whole e.scratch
+    record {
+      reply = rw (whole, ← count) e.reply;
+      bytes = rw (whole, ← count) e.bytes;
+      window = rw (whole, ← count) e.window;
+      scratch = rw whole e.scratch;
+    }

@@ -1,8 +1,13 @@
--- Each count is its part.
+-- The closure takes each part.
+use Rattle.std.proofs.Common.{List, ℕ, [], ◌∷◌, ◌/◌, ◌%◌, get_or, rules}
 use Rattle.clocks.specs.Counts.{list_of}
-use Rattle.call_words.specs.Words.{unpack_counts}
+use Rattle.clocks.specs.stored.CallLaws.{made_called}
+use Rattle.call_words.specs.Words.{part, unpack_counts}
 use Rattle.call_words.proofs.unpack_wide_counts.Goals as goal
 
 pub returns : goal.returns
 unfolding unpack_counts list_of
-returns c = cc
+returns c =
+    let a = c.args in
+    let words : List ℕ = a.c01 ∷ a.c23 ∷ a.c45 ∷ a.c67 ∷ [] in
+    made_called (λ p. part 32 (get_or words (p / 2) 0) (p % 2)) _ 8 0 c.from_fn.result c.from_fn.ensures.items (λ p y q l k. search rules)

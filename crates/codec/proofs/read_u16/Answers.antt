@@ -1,9 +1,7 @@
--- The number read is that of its two bytes, the law `number-add` at one byte each.
-use Rattle.std.proofs.Common.{◌+◌, arith}
-use Rattle.codec.specs.PutLaws.{number-add, number-one}
+-- The library reads the definition's number: the law `number-worths`.
+use Rattle.std.proofs.Common.{◌∙◌}
+use Rattle.codec.specs.LibraryLaws.{number-worths}
 use Rattle.codec.proofs.read_u16.Goals as goal
 
 pub returns : goal.returns
-returns c =
-    let a = c.args in
-    omega (arith, number-add a.s.now a.at 1 1, number-one a.s.now a.at, number-one a.s.now (a.at + 1))
+returns c = rw c.bytes_at.ensures at c.from_le_bytes.ensures ∙ number-worths c.args.s.now c.args.at 1

@@ -1,7 +1,7 @@
--- The number read is that of its two halves, the law `number-add` at two bytes each.
-use Rattle.std.proofs.Common.{arith}
-use Rattle.codec.specs.PutLaws.{number-add}
+-- The library reads the definition's number: the law `number-worths`.
+use Rattle.std.proofs.Common.{◌∙◌}
+use Rattle.codec.specs.LibraryLaws.{number-worths}
 use Rattle.codec.proofs.read_u32.Goals as goal
 
 pub returns : goal.returns
-returns c = omega (arith, number-add c.args.s.now c.args.at 2 2)
+returns c = rw c.bytes_at.ensures at c.from_le_bytes.ensures ∙ number-worths c.args.s.now c.args.at 3

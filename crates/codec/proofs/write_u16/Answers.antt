@@ -1,8 +1,10 @@
--- The two bytes stored are the bytes of v, which has no third.
-use Rattle.std.proofs.Common.{◌/◌, ◌%◌, ◌≡◌, add-one, arith}
-use Rattle.codec.specs.Little.{bytes_of, put}
+-- The library stores the definition's bytes: the law `put-stored`.
+use Rattle.std.proofs.Common.{◌≡◌, ◌+◌, ◌-◌, arith}
+use Rattle.codec.specs.LibraryLaws.{put-stored}
 use Rattle.codec.proofs.write_u16.Goals as goal
 
 pub returns : goal.returns
-unfolding put bytes_of
-returns c = let top : c.args.v / 256 % 256 ≡ c.args.v / 256 = omega arith in rw (add-one, top)
+returns c =
+    let a = c.args in
+    let n : a.at + 2 - a.at ≡ 2 = omega arith in
+    rw (n, c.copy_from_slice.ensures.after, c.to_le_bytes.ensures) (put-stored a.s.now a.at 2 a.v c.requires)

@@ -6,8 +6,7 @@ use Rattle.clocks.specs.stored.BoundedLaws.{and-true}
 use Rattle.rules.specs.Text.{byte_at}
 use Rattle.rules.specs.Fault.{StandsAt, Span}
 use Rattle.rules.specs.grammar.FirstBytes.{Begun, begun_nil}
-use Rattle.line_pieces.specs.declared.Read.{Read}
-use Rattle.line_pieces.specs.declared.Read.TheVariants.{At, Refused}
+use Rattle.line_pieces.specs.Read.{Read, At, Refused}
 use Rattle.line_pieces.specs.Reading.{then_end, line_limit, limited}
 use Rattle.line_laws.specs.Grammar.{Piece, PieceText, LineFault1, a_number, list, spaced_list, a_byte}
 use Rattle.line_laws.specs.Fault.{TenIn, TenFrom, Fault10, LineFault, FirstLineFault}

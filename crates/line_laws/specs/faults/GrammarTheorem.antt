@@ -5,8 +5,7 @@ use Rattle.std.proofs.Common.{arith, sym, ap, ◌∙◌, inl, inr, length-take, 
 use Rattle.rules.specs.Text.{byte_at}
 use Rattle.rules.specs.grammar.FirstBytes.{begun_nil}
 use Rattle.rules.specs.reading.WordsAnswered.{stands_to-same}
-use Rattle.line_pieces.specs.declared.Read.{Read}
-use Rattle.line_pieces.specs.declared.Read.TheVariants.{At, Refused}
+use Rattle.line_pieces.specs.Read.{Read, At, Refused}
 use Rattle.line_pieces.specs.Reading.{then_end}
 use Rattle.line_laws.specs.Grammar.{Piece, TextOf, LineFault1}
 use Rattle.line_laws.specs.pieces.ReadPieces.{read_pieces, place_in}

@@ -3,12 +3,11 @@
 use Rattle.std.specs.Prelude.{ℕ, ◌≡◌, refl, ◌↔◌, List}
 use Rattle.std.proofs.Common.{arith}
 use mathlib.Core.Logic.Iff
-use Rattle.line_pieces.specs.declared.Read.{Read}
-use Rattle.line_pieces.specs.declared.Read.TheVariants.{At, Refused}
+use Rattle.line_pieces.specs.Read.{Read, At, Refused}
 use Rattle.line_pieces.specs.Reading.{limited}
-use Rattle.lines.specs.declared.WatchLine.TheVariants.{Watch, Refused as WatchRefused}
-use Rattle.lines.specs.declared.StartLine.TheVariants.{Start, Refused as StartRefused}
-use Rattle.lines.specs.declared.DidLine.TheVariants.{Did, Refused as DidRefused}
+use Rattle.lines.specs.WatchLine.{Watch, Refused as WatchRefused}
+use Rattle.lines.specs.StartLine.{Start, Refused as StartRefused}
+use Rattle.lines.specs.DidLine.{Did, Refused as DidRefused}
 use Rattle.lines.specs.Words.{packed_word}
 use Rattle.lines.specs.Lines.{watch_of, start_of, did_of, did_line}
 use Rattle.line_laws.specs.Grammar.{watch_pieces, start_pieces, did_pieces, Names}

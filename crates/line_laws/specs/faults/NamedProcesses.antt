@@ -7,8 +7,7 @@ use Rattle.codec.specs.Ascii.{ascii}
 use Rattle.rules.specs.Text.{byte_at}
 use Rattle.rules.specs.Fault.{StandsAt}
 use Rattle.rules.specs.reading.WordLaws.{span_append}
-use Rattle.line_pieces.specs.declared.Read.{Read}
-use Rattle.line_pieces.specs.declared.Read.TheVariants.{At, Refused}
+use Rattle.line_pieces.specs.Read.{Read, At, Refused}
 use Rattle.codec.specs.Decimal.{value}
 use Rattle.line_pieces.specs.NumberLaws.{inside, digit_bounds}
 use Rattle.line_pieces.specs.Reading.{value_read, then_bytes, head_read, then_end}

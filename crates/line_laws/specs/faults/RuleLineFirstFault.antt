@@ -15,11 +15,9 @@ use Rattle.rules.specs.Formula.{Formula}
 use Rattle.rules.specs.Reader.{Reading, formed, faulty, read_rule}
 use Rattle.rules.specs.grammar.GrammarTheorem.{reader_first_fault}
 use Rattle.rules.specs.reading.WordLaws.{if_byte}
-use Rattle.line_pieces.specs.declared.Read.{Read}
-use Rattle.line_pieces.specs.declared.Read.TheVariants.{At, Refused}
+use Rattle.line_pieces.specs.Read.{Read, At, Refused}
 use Rattle.line_pieces.specs.Reading.{then_byte, then_bytes, head_read, line_limit, limited}
-use Rattle.lines.specs.declared.RuleLine.{RuleLine}
-use Rattle.lines.specs.declared.RuleLine.TheVariants.{Rule, Refused as RuleRefused}
+use Rattle.lines.specs.RuleLine.{RuleLine, Rule, Refused as RuleRefused}
 use Rattle.lines.specs.Lines.{rule_text, rule_closed, rule_of, rule_line}
 use Rattle.line_laws.specs.RuleLineFault.{Departs, RuleFault, RuleFirstFault}
 use Rattle.line_laws.specs.FirstFaults.{RuleLineFindsFirstFault, RuleLineAcceptsFaultless}

@@ -3,8 +3,7 @@ use Rattle.std.specs.Prelude.{ℕ, zero, suc, ◌+◌, ◌<◌, ◌≡◌, refl,
 use Rattle.std.proofs.Common.{arith, sym, ◌∙◌, inl, inr, append_assoc, append-nil, length-append, eqb-true, eq-eqb, ltb-false, leb-false}
 use Rattle.rules.specs.Text.{byte_at}
 use Rattle.rules.specs.reading.WordLaws.{span_nil, span_byte, span_append}
-use Rattle.line_pieces.specs.declared.Read.{Read}
-use Rattle.line_pieces.specs.declared.Read.TheVariants.{At, Refused}
+use Rattle.line_pieces.specs.Read.{Read, At, Refused}
 use Rattle.codec.specs.Decimal.{is_digit, digits, value}
 use Rattle.line_pieces.specs.Number.{number_of, number_at}
 use Rattle.line_pieces.specs.NumberLaws.{digits_next, digits-end, digits-first}

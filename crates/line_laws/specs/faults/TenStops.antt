@@ -6,8 +6,7 @@ use Rattle.std.proofs.lemmas.Bool.{lt-leb}
 use Rattle.rules.specs.Text.{byte_at}
 use Rattle.rules.specs.Fault.{StandsAt, Span}
 use Rattle.rules.specs.reading.WordLaws.{span_byte, span_append}
-use Rattle.line_pieces.specs.declared.Read.{Read}
-use Rattle.line_pieces.specs.declared.Read.TheVariants.{At, Refused}
+use Rattle.line_pieces.specs.Read.{Read, At, Refused}
 use Rattle.codec.specs.Decimal.{is_digit, digits, value}
 use Rattle.line_pieces.specs.Number.{number_of, number_at}
 use Rattle.line_pieces.specs.NumberLaws.{inside, digit_bounds, digits_next, digits-end}

@@ -6,8 +6,7 @@ use Rattle.rules.specs.Text.{byte_at}
 use Rattle.clocks.specs.stored.BoundedLaws.{and-true}
 use Rattle.rules.specs.reading.WordLaws.{if_byte}
 use Rattle.rules.specs.reading.WordsAnswered.{StandsTo, known}
-use Rattle.line_pieces.specs.declared.Read.{Read}
-use Rattle.line_pieces.specs.declared.Read.TheVariants.{At, Refused}
+use Rattle.line_pieces.specs.Read.{Read, At, Refused}
 use Rattle.codec.specs.Decimal.{is_digit, digits, value}
 use Rattle.line_pieces.specs.Number.{number_of, number_at}
 use Rattle.line_pieces.specs.NumberLaws.{digits_next, digits-end, digits-first}

@@ -5,8 +5,7 @@ use Rattle.std.proofs.Common.{arith, add-zero, ap, inl, inr, append_assoc, lengt
 use Rattle.rules.specs.Text.{byte_at}
 use Rattle.rules.specs.reading.WordLaws.{if_byte}
 use Rattle.rules.specs.reading.WordsAnswered.{StandsTo, known, stands_to_left, stands_to_right}
-use Rattle.line_pieces.specs.declared.Read.{Read}
-use Rattle.line_pieces.specs.declared.Read.TheVariants.{At, Refused}
+use Rattle.line_pieces.specs.Read.{Read, At, Refused}
 use Rattle.codec.specs.Decimal.{is_digit}
 use Rattle.line_pieces.specs.Number.{number_at}
 use Rattle.line_pieces.specs.NumberLaws.{inside, digit_bounds}

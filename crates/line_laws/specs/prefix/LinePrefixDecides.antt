@@ -2,8 +2,7 @@
 use Rattle.std.specs.Prelude.{ℕ, ◌≤◌, ◌<◌, ◌≡◌, refl, Bool, true, false, ◌&&◌, List, [], ◌∷◌, ◌++◌, map, leb, ltb, length, take}
 use Rattle.std.proofs.Common.{arith, sym, ap, ◌∙◌, inl, inr, take_all, take-take, length-take-le, get_or-take, leb-true, leb-false, lt-ltb}
 use Rattle.codec.specs.Ascii.{ascii}
-use Rattle.line_pieces.specs.declared.Read.{Read}
-use Rattle.line_pieces.specs.declared.Read.TheVariants.{At, Refused}
+use Rattle.line_pieces.specs.Read.{Read, At, Refused}
 use Rattle.line_pieces.specs.Reading.{value_read, then_bytes, head_read, line_limit, limited}
 use Rattle.lines.specs.Lines.{process_limit, watch_of, watch_line, start_of, start_line, did_of, did_line, rule_of, rule_line}
 use Rattle.line_laws.specs.LinePrefix.{FirstBytesDecide}
@@ -14,10 +13,10 @@ use Rattle.line_laws.specs.faults.GrammarTheorem.{line_read}
 use Rattle.line_laws.specs.faults.LinePieces.{watch_read_lem, start_read_lem, named, did_read}
 use Rattle.line_laws.specs.faults.NamedProcesses.{first_read, rest, line_after}
 use Rattle.line_laws.specs.prefix.PrefixDecides.{enough, Front, Same, AllModest, pieces_same, end_same, limited-same, line-enough}
-use Rattle.lines.specs.declared.WatchLine.TheVariants.{Refused as WatchRefused}
-use Rattle.lines.specs.declared.StartLine.TheVariants.{Refused as StartRefused}
-use Rattle.lines.specs.declared.DidLine.TheVariants.{Refused as DidRefused}
-use Rattle.lines.specs.declared.RuleLine.TheVariants.{Refused as RuleRefused}
+use Rattle.lines.specs.WatchLine.{Refused as WatchRefused}
+use Rattle.lines.specs.StartLine.{Refused as StartRefused}
+use Rattle.lines.specs.DidLine.{Refused as DidRefused}
+use Rattle.lines.specs.RuleLine.{Refused as RuleRefused}
 
 front_of : (s : List ℕ) → enough ≤ length s → Front s (take enough s)
 front_of s h = record { long = h; size = length-take-le enough s h; bytes = λ i k. get_or-take enough s i 256 k }

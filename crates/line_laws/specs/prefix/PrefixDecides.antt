@@ -10,8 +10,7 @@ use Rattle.std.proofs.Math.Dec.{ltb}
 use Rattle.std.proofs.Math.ListN.{length}
 use borrow.Author.Tests.{ltb-true, ltb-false, leb-true, leb-false, lt-ltb}
 use Rattle.rules.specs.Text.{byte_at}
-use Rattle.line_pieces.specs.declared.Read.{Read}
-use Rattle.line_pieces.specs.declared.Read.TheVariants.{At, Refused}
+use Rattle.line_pieces.specs.Read.{Read, At, Refused}
 use Rattle.codec.specs.Decimal.{is_digit, digits}
 use Rattle.line_pieces.specs.Number.{number_at}
 use Rattle.line_pieces.specs.NumberLaws.{digits_next, digits-end, number-after}

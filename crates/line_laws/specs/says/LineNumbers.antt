@@ -7,15 +7,14 @@ use Rattle.codec.specs.Ascii.{ascii}
 use Rattle.rules.specs.Text.{byte_at}
 use Rattle.rules.specs.Fault.{StandsAt, Span}
 use Rattle.rules.specs.reading.WordLaws.{span_nil, span_byte, span_append}
-use Rattle.line_pieces.specs.declared.Read.{Read}
-use Rattle.line_pieces.specs.declared.Read.TheVariants.{At, Refused}
+use Rattle.line_pieces.specs.Read.{Read, At, Refused}
 use Rattle.codec.specs.Decimal.{digits, value}
 use Rattle.line_pieces.specs.NumberLaws.{inside, number-after}
 use Rattle.line_pieces.specs.Reading.{value_read, then_byte, then_bytes, head_read, then_number, then_end, line_limit, limited, then_last}
 use Rattle.line_pieces.specs.NumberList.{then_list, then_spaced_list, then_close, eight_values}
-use Rattle.lines.specs.declared.WatchLine.TheVariants.{Watch}
-use Rattle.lines.specs.declared.StartLine.TheVariants.{Start}
-use Rattle.lines.specs.declared.DidLine.TheVariants.{Did}
+use Rattle.lines.specs.WatchLine.{Watch}
+use Rattle.lines.specs.StartLine.{Start}
+use Rattle.lines.specs.DidLine.{Did}
 use Rattle.lines.specs.Words.{packed_word}
 use Rattle.lines.specs.Lines.{k_limit, count_limit, label_limit, process_limit, room_limit, watch_of, watch_line, start_of, start_line, did_of, did_line}
 use Rattle.line_laws.specs.Grammar.{Numeral, between}

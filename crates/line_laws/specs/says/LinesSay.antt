@@ -8,9 +8,9 @@ use Rattle.codec.specs.Bit.{bit}
 use Rattle.clocks.specs.Counts.{at}
 use Rattle.clocks.specs.stored.CountsLaws.{at-list_of, at_beyond, length-list_of, list_of-at}
 use Rattle.call_words.specs.Words.{unpack_labels}
-use Rattle.line_pieces.specs.declared.Read.TheVariants.{At}
+use Rattle.line_pieces.specs.Read.{At}
 use Rattle.line_pieces.specs.NumberList.{eight_values}
-use Rattle.lines.specs.declared.DidLine.TheVariants.{Did}
+use Rattle.lines.specs.DidLine.{Did}
 use Rattle.lines.specs.Words.{packed_word, placed}
 use Rattle.lines.specs.Lines.{count_limit, label_limit, process_limit, clock_word, did_of}
 use Rattle.line_laws.specs.LineSays.{InLimits, Named, Offers, WatchIsAsSaid, StartIsAsSaid, StartSaidIsRead, EventIsAsSaid, EventSaidIsRead}

@@ -4,8 +4,7 @@ use Rattle.std.proofs.Common.{sym, ◌∙◌, append_assoc, append-nil, length-a
 use Rattle.clocks.specs.stored.BoundedLaws.{and-true}
 use Rattle.rules.specs.Text.{byte_at}
 use Rattle.rules.specs.reading.WordLaws.{span_nil, span_byte, span_append}
-use Rattle.line_pieces.specs.declared.Read.{Read}
-use Rattle.line_pieces.specs.declared.Read.TheVariants.{At, Refused}
+use Rattle.line_pieces.specs.Read.{Read, At, Refused}
 use Rattle.codec.specs.Decimal.{digits, value}
 use Rattle.line_pieces.specs.Number.{number_at}
 use Rattle.line_pieces.specs.NumberLaws.{number-after}

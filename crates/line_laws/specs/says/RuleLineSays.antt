@@ -9,11 +9,9 @@ use Rattle.rules.specs.Fault.{StandsAt, Span}
 use Rattle.rules.specs.Reader.{Reading, formed, faulty, read_rule}
 use Rattle.rules.specs.reading.ReaderAccepts.{reader_accepts}
 use Rattle.rules.specs.reading.WordLaws.{span_byte, span_append, if_byte}
-use Rattle.line_pieces.specs.declared.Read.{Read}
-use Rattle.line_pieces.specs.declared.Read.TheVariants.{At, Refused}
+use Rattle.line_pieces.specs.Read.{Read, At, Refused}
 use Rattle.line_pieces.specs.Reading.{head_read, line_limit, limited}
-use Rattle.lines.specs.declared.RuleLine.{RuleLine}
-use Rattle.lines.specs.declared.RuleLine.TheVariants.{Rule, Refused as RuleRefused}
+use Rattle.lines.specs.RuleLine.{RuleLine, Rule, Refused as RuleRefused}
 use Rattle.lines.specs.Lines.{rule_text, rule_closed, rule_of, rule_line}
 use Rattle.line_laws.specs.LineSays.{RuleSays, RuleIsAsSaid, RuleBytesAreTheForm}
 use Rattle.line_laws.specs.pieces.NumberTextRead.{if_known}

@@ -7,14 +7,14 @@ use Rattle.std.proofs.lemmas.List.{length-map}
 use Rattle.codec.specs.Ascii.{ascii}
 use Rattle.rules.specs.Text.{byte_at}
 use Rattle.rules.specs.Fault.{StandsAt}
-use Rattle.line_pieces.specs.declared.Read.TheVariants.{At}
+use Rattle.line_pieces.specs.Read.{At}
 use Rattle.codec.specs.Decimal.{is_digit, value}
 use Rattle.line_pieces.specs.Number.{number_of, number_at}
 use Rattle.line_pieces.specs.NumberLaws.{digit_bounds}
 use Rattle.line_pieces.specs.Reading.{value_read, then_byte, then_bytes, then_number, then_end, line_limit, limited, then_last}
 use Rattle.line_pieces.specs.NumberList.{list_read, after_number, numbers_at, then_list, then_spaced_list, then_close, eight_values}
-use Rattle.lines.specs.declared.WatchLine.TheVariants.{Watch}
-use Rattle.lines.specs.declared.StartLine.TheVariants.{Start}
+use Rattle.lines.specs.WatchLine.{Watch}
+use Rattle.lines.specs.StartLine.{Start}
 use Rattle.lines.specs.Words.{packed_word}
 use Rattle.lines.specs.Lines.{k_limit, count_limit, label_limit, process_limit, room_limit, watch_of, watch_line, start_of, start_line, did_of, did_line}
 use Rattle.line_laws.specs.Grammar.{AllDigits, Numeral, Numerals, spaced, between}

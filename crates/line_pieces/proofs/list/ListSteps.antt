@@ -7,16 +7,18 @@ use mathlib.Core.List.{List, [], ◌∷◌, ◌++◌}
 use lib.Dec.{ltb, eqb}
 use lib.ListN.{length, length-append, length-set, get_or, set, replicate, get_or-append}
 use lib.Seq.{ext_get_or, get_or-append_seam, get_or-set_same, get_or-set_other}
-use borrow.Author.Tests.{ltb-true, ltb-false, eqb-true, eqb-false, eq-eqb, ne_eqb}
+use borrow.Author.Tests.{ltb-true, ltb-false, eqb-true, eqb-false}
 use Rattle.clocks.specs.Counts.{at, list_of}
 use Rattle.clocks.specs.stored.CountsLaws.{length-list_of, get_d_list_of, at_beyond}
 use Rattle.rules.specs.Text.{byte_at}
-use Rattle.line_pieces.specs.declared.Read.{Read}
-use Rattle.line_pieces.specs.declared.Read.TheVariants.{At, Refused}
+use Rattle.line_pieces.specs.Read.{At}
+use Rattle.line_pieces.specs.ReadingCode.{fault_of}
 use Rattle.line_pieces.specs.Number.{number_at}
-use Rattle.line_pieces.specs.NumberLaws.{inside, number-after}
+use Rattle.line_pieces.specs.NumberLaws.{number-after}
+use Rattle.std.specs.Prelude.{Ok, Err}
 use Rattle.line_pieces.specs.NumberList.{after_number, numbers_at, all_numbers_at, eight_values}
-use Rattle.line_pieces.specs.NumberListCode.{numbers_read}
+use Rattle.line_pieces.specs.NumberListCode.{IsList}
+use Rattle.numbers.specs.declared.fault.Fault.{Fault}
 
 -- ---- The numbers kept
 
@@ -84,42 +86,33 @@ module _ {s : List ℕ} {ascending : Bool} {most start : ℕ} {values : List ℕ
       let e : length s + 1 - length g.numbers ≡ suc (length s - length g.numbers) = omega (arith, g.few) in
       g.goes ∙ rw e
 
-  pub going_refused : (n i : ℕ) → number_at s here least most ≡ Refused n i
-      → numbers_read (all_numbers_at s ascending most start) ≡ record { values = values; read = Refused n i }
-  unfolding numbers_read after_number
-  going_refused n i h = rw (going_step, h, g.values_are)
-
-  pub going_last : (i v : ℕ) → number_at s here least most ≡ At i v → (byte_at s i ≡ 32 → ⊥)
-      → numbers_read (all_numbers_at s ascending most start) ≡ record {
-        values = set values count v;
-        read =
-            At i (count + 1);
-      }
-  unfolding numbers_read after_number
-  going_last i v h q = rw (going_step, h, ne_eqb (byte_at s i) 32 q, g.values_are, g.count_is, eight_more)
-
-  pub going_on : (i v : ℕ) → number_at s here least most ≡ At i v → byte_at s i ≡ 32 → i < length s
-      → Going s ascending most start (set values count v) (count + 1) (cond ascending (v + 1) 0) (i + 1)
+  pub going_refused : (fault : Fault) → fault_of fault ≡ number_at s here least most
+      → IsList (Err fault) (all_numbers_at s ascending most start)
   unfolding after_number
-  going_on i v h q l =
-      let a = number-after s here least most i v h in
+  going_refused fault h = rw (going_step, ← h)
+
+  pub going_last : (i v : ℕ) (more : List ℕ) → At i v ≡ number_at s here least most → eqb (byte_at s i) 32 ≡ false
+      → more ≡ set values count v
+      → IsList (Ok (record { values = more; here = record { place = i; value = count + 1 } }))
+      (all_numbers_at s ascending most start)
+  unfolding after_number
+  going_last i v more h q m =
+      rw (going_step, ← h, q) (rw (m, g.values_are, g.count_is) (sym (eight_more g.numbers v)), rw g.count_is)
+
+  pub going_on : (i v next : ℕ) (more : List ℕ) → At i v ≡ number_at s here least most → eqb (byte_at s i) 32 ≡ true
+      → i < length s → more ≡ set values count v → next ≡ cond ascending (v + 1) 0
+      → Going s ascending most start more (count + 1) next (i + 1)
+  unfolding after_number
+  going_on i v next more h q l m e =
+      let a = number-after s here least most i v (sym h) in
       let n = length-append g.numbers (v ∷ []) in
-      let e : length s - length g.numbers ≡ length s + 1 - length (g.numbers ++ v ∷ []) =
+      let left : length s - length g.numbers ≡ length s + 1 - length (g.numbers ++ v ∷ []) =
       omega (arith, n, g.few, g.near) in
       record {
         numbers = g.numbers ++ v ∷ [];
-        values_are = rw (g.values_are, g.count_is) (sym (eight_more g.numbers v));
+        values_are = rw (m, g.values_are, g.count_is) (sym (eight_more g.numbers v));
         count_is = omega (arith, n, g.count_is);
         few = omega (arith, n, a.behind, g.near);
         near = omega (arith, n, a.behind, g.near);
-        goes = going_step ∙ rw (h, eq-eqb (byte_at s i) 32 q, e);
+        goes = going_step ∙ rw (← h, q, e, left);
       }
-
-  -- The same, in the code's own terms: what it read, the numbers then kept, the byte behind, and what the next number
-  -- is at least.
-  pub going_again : {r : Read} {i v b next : ℕ} {more : List ℕ} → r ≡ number_at s here least most → r ≡ At i v
-      → more ≡ set values count v
-      → b ≡ byte_at s i → b ≡ 32 → next ≡ cond ascending (v + 1) 0
-      → Going s ascending most start more (count + 1) next (i + 1)
-  going_again {r} {i} {v} {b} {next} {more} e h m c q n =
-      let p : i < length s = inside s i (omega arith) in rw (m, n) (going_on i v (sym e ∙ h) (sym c ∙ q) p)

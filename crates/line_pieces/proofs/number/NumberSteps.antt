@@ -9,7 +9,7 @@ use lib.Dec.{ltb, leb, eqb}
 use lib.ListN.{length, drop}
 use borrow.Author.Tests.{ltb-true, ltb-false, leb-true, leb-false, lt-ltb, le-leb, lt-leb}
 use Rattle.rules.specs.Text.{byte_at}
-use Rattle.line_pieces.specs.declared.Read.TheVariants.{At, Refused}
+use Rattle.line_pieces.specs.Read.{At, Refused}
 use Rattle.codec.specs.Decimal.{digits, value_from, value}
 use Rattle.line_pieces.specs.Number.{number_of, number_at}
 use Rattle.line_pieces.specs.Digits.{largest, grown, Says, DigitsRead}
@@ -40,22 +40,15 @@ says_next v c ds w h = go (leb v largest) refl h
 -- Within the limits, judged by the number that the code keeps.
 judged : (v w least most end i : ℕ) → Says v [] w → most ≤ largest
     → cond (leb least w && leb w most) (At end w) (Refused 10 i)
-    ≡ cond (ltb v least) (Refused 10 i) (cond (ltb most v) (Refused 10 i) (At end v))
+    ≡ cond (leb least v && leb v most) (At end v) (Refused 10 i)
 unfolding value_from
-judged v w least most end i (inl e) h = rw (← e) (go (ltb v least) (ltb most v) refl refl)
-  where
-    go : (a b : Bool) → ltb v least ≡ a → ltb most v ≡ b
-        → cond (leb least v && leb v most) (At end v) (Refused 10 i)
-        ≡ cond a (Refused 10 i) (cond b (Refused 10 i) (At end v))
-    go true b p q = rw (lt-leb least v (ltb-true v least p))
-    go false true p q = rw (le-leb least v (ltb-false v least p), lt-leb v most (ltb-true most v q))
-    go false false p q = rw (le-leb least v (ltb-false v least p), le-leb v most (ltb-false most v q))
+judged v w least most end i (inl e) h = rw (← e)
 judged v w least most end i (inr q) h =
     let a : leb w most ≡ false = lt-leb w most (omega (arith, q.1)) in
-    let b : ltb most v ≡ true = lt-ltb most v (omega (arith, q.0)) in
-    rw (a, b) (go (leb least w) (ltb v least))
+    let b : leb v most ≡ false = lt-leb v most (omega (arith, q.0)) in
+    rw (a, b) (go (leb least w) (leb least v))
   where
-    go : (a b : Bool) → cond (a && false) (At end w) (Refused 10 i) ≡ cond b (Refused 10 i) (Refused 10 i)
+    go : (a b : Bool) → cond (a && false) (At end w) (Refused 10 i) ≡ cond (b && false) (At end v) (Refused 10 i)
     go true true = refl
     go true false = refl
     go false true = refl
@@ -66,7 +59,7 @@ pub number_step : (s : List ℕ) (i end v least most : ℕ) → DigitsRead s i e
     → number_at s i least most
     ≡ cond (leb end i) (Refused 1 i)
     (cond (eqb (byte_at s i) 48 && ltb (i + 1) end) (Refused 1 (i + 1))
-    (cond (ltb v least) (Refused 10 i) (cond (ltb most v) (Refused 10 i) (At end v))))
+    (cond (leb least v && leb v most) (At end v) (Refused 10 i)))
 unfolding number_at number_of
 number_step s i end v least most found h = go (digits (drop i s)) refl
   where
@@ -74,7 +67,7 @@ number_step s i end v least most found h = go (digits (drop i s)) refl
         → number_of ds i least most
         ≡ cond (leb end i) (Refused 1 i)
         (cond (eqb (byte_at s i) 48 && ltb (i + 1) end) (Refused 1 (i + 1))
-        (cond (ltb v least) (Refused 10 i) (cond (ltb most v) (Refused 10 i) (At end v))))
+        (cond (leb least v && leb v most) (At end v) (Refused 10 i)))
     go [] e = rw (le-leb end i (omega (arith, found.ends, ap length e)))
     go (d ∷ ds) e =
         let end_is : end ≡ i + length (d ∷ ds) = rw e at found.ends in

@@ -1,14 +1,7 @@
--- A line's pieces: the step of the code's loop, and a short line.
-use Prim.Native.Nat.{ℕ, ◌+◌, ◌≤◌, ◌<◌}
-use native.Mathlib.Numerals.{add-one}
-use mathlib.Core.Path.{◌≡◌}
-use mathlib.Core.List.{List}
-use lib.ListN.{length, get_or, drop, drop_of_length-le}
-use lib.Seq.{drop-cons}
-use borrow.Author.Tests.{le-ltb}
-use Rattle.line_pieces.specs.declared.Read.{Read}
-use Rattle.line_pieces.specs.declared.Read.TheVariants.{At, Refused}
-use Rattle.line_pieces.specs.Reading.{then_byte, then_bytes, line_limit, limited}
+-- A line's pieces: the step of the code's loop.
+use Rattle.std.proofs.Common.{ℕ, ◌+◌, ◌≤◌, ◌<◌, ◌≡◌, refl, List, [], ◌∷◌, length, get_or, drop, add-one, drop_of_length-le, drop-cons}
+use Rattle.line_pieces.specs.Read.{Read, Refused}
+use Rattle.line_pieces.specs.Reading.{then_byte, then_bytes}
 
 -- While bytes are left, byte i is next; then the reading stays.
 pub then_bytes_next : (s bs : List ℕ) (i : ℕ) (r : Read) → i < length bs
@@ -20,8 +13,8 @@ pub then_bytes-end : (s bs : List ℕ) (i : ℕ) (r : Read) → length bs ≤ i 
 unfolding then_bytes
 then_bytes-end s bs i r h = rw (drop_of_length-le bs h)
 
--- A line within the limit keeps its reading.
-pub limited_short : (s : List ℕ) (r : Read) → length s ≤ line_limit → limited s r ≡ r
-unfolding limited
-limited_short s (At i v) h = rw (le-ltb line_limit (length s) h)
-limited_short s (Refused n i) h = rw (le-ltb line_limit (length s) h)
+-- A fault stays.
+pub then_bytes-refused : (s bs : List ℕ) (n i : ℕ) → then_bytes s bs (Refused n i) ≡ Refused n i
+unfolding then_byte then_bytes
+then_bytes-refused s [] n i = refl
+then_bytes-refused s (b ∷ bs) n i = then_bytes-refused s bs n i

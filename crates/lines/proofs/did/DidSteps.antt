@@ -1,32 +1,28 @@
--- An event's line from the eight numbers that the code keeps of each list.
-use Prim.Native.Nat.{ℕ, ◌+◌, ◌-◌, ◌≤◌, ◌<◌}
-use native.Mathlib.Omega.{arith}
-use mathlib.Core.Path.{◌≡◌, refl, sym, ◌∙◌}
-use mathlib.Core.Bool.{true, false}
-use mathlib.Core.List.{List}
-use lib.ListN.{length, replicate, get_or-replicate, take, drop}
-use lib.Seq.{take_all}
+-- An event's line, from the parts that the code reads.
+use Rattle.std.proofs.Common.{ℕ, ◌+◌, ◌-◌, ◌≤◌, ◌<◌, ◌≡◌, refl, sym, true, false, List, length, take, drop, Result, Ok, Err, arith}
+use lib.ListN.{replicate, get_or-replicate}
+use Rattle.numbers.specs.declared.fault.Fault.{Fault}
 use Rattle.clocks.specs.Counts.{at}
 use Rattle.clocks.specs.stored.CountsLaws.{length-list_of, list_of-at, at-list_of}
 use Rattle.codec.specs.Ascii.{ascii}
-use Rattle.line_pieces.specs.declared.Read.{Read}
-use Rattle.line_pieces.specs.declared.Read.TheVariants.{At, Refused}
-use Rattle.lines.specs.declared.DidLine.{DidLine}
-use Rattle.lines.specs.declared.DidLine.TheVariants.{Did}
-use Rattle.line_pieces.specs.declared.Numbers.{Numbers}
-use Rattle.line_pieces.specs.Reading.{value_read, then_bytes, head_read, then_last}
+use Rattle.line_pieces.specs.Read.{Read, At, Refused}
+use Rattle.line_pieces.specs.Reading.{value_read, then_byte, then_bytes, head_read, then_end, then_last}
 use Rattle.line_pieces.specs.NumberList.{then_list, then_close, eight_values}
-use Rattle.line_pieces.specs.NumberListCode.{numbers_read}
+use Rattle.line_pieces.specs.ReadingCode.{within_limit}
+use Rattle.lines.proofs.LineSteps.{Agrees, line_limited}
+use Rattle.lines.specs.declared.did.Did.{Did as DidRead}
+use Rattle.lines.specs.DidLine.{Did}
 use Rattle.lines.specs.Words.{packed_word, placed}
-use Rattle.lines.proofs.words.WordSteps.{placed_same, length-placed}
+use Rattle.lines.proofs.words.WordSteps.{placed_same}
 use Rattle.lines.specs.Lines.{count_limit, label_limit, process_limit, did_of, did_line}
+use Rattle.lines.specs.LinesCode.{did_line_of, did_pieces}
 
--- Of each list the first eight numbers are enough.
-pub did_eight : (n : ℕ) (processes counts labels : List ℕ) (whole : Read) → n ≤ 8
-    → did_of n (eight_values processes) (eight_values counts) (eight_values labels) whole
-    ≡ did_of n processes counts labels whole
+-- Of each list the first eight numbers are enough, and where the line ends decides nothing.
+pub did_eight : (n : ℕ) (processes counts labels : List ℕ) (i v : ℕ) → n ≤ 8
+    → did_of n (eight_values processes) (eight_values counts) (eight_values labels) (At 0 0)
+    ≡ did_of n processes counts labels (At i v)
 unfolding did_of
-did_eight n processes counts labels (At i v) h =
+did_eight n processes counts labels i v h =
     let same : (l : List ℕ) (j : ℕ) → j < n → at (eight_values l) j ≡ at l j =
     λ l j p. at-list_of 8 (at l) j (omega arith) in
     rw (
@@ -35,64 +31,56 @@ did_eight n processes counts labels (At i v) h =
       placed_same n (at (eight_values processes)) (at processes) (at (eight_values labels)) (at labels) (same processes)
           (same labels),
     )
-did_eight n processes counts labels (Refused m i) h = refl
-
--- All of eight numbers.
-all-eight : (l : List ℕ) → length l ≡ 8 → take (8 - 0) (drop 0 l) ≡ l
-all-eight l h = take_all 8 l (omega (arith, h))
 
 -- The words as the code makes them, each of what is made before.
-pub words_made : (n : ℕ) (processes counts labels marks placed' : List ℕ) (i v mask c01 c23 c45 c67 word' : ℕ) → n ≤ 8
+pub words_made : (n : ℕ) (processes counts labels marks placed' : List ℕ) (mask c01 c23 c45 c67 word' : ℕ)
     → length counts ≡ 8
-    → marks ≡ placed n (at processes) (at (replicate 8 1)) → mask ≡ packed_word 2 (take (8 - 0) (drop 0 marks))
+    → marks ≡ placed n (at processes) (at (replicate 8 1)) → mask ≡ packed_word 2 marks
     → c01 ≡ packed_word (count_limit + 1) (take (2 - 0) (drop 0 counts))
     → c23 ≡ packed_word (count_limit + 1) (take (4 - 2) (drop 2 counts))
     → c45 ≡ packed_word (count_limit + 1) (take (6 - 4) (drop 4 counts))
     → c67 ≡ packed_word (count_limit + 1) (take (8 - 6) (drop 6 counts))
-    → placed' ≡ placed n (at processes) (at labels) → word' ≡ packed_word 256 (take (8 - 0) (drop 0 placed'))
-    → Did mask c01 c23 c45 c67 word' ≡ did_of n processes counts labels (At i v)
+    → placed' ≡ placed n (at processes) (at labels) → word' ≡ packed_word 256 placed'
+    → n ≤ 8 → Did mask c01 c23 c45 c67 word' ≡ did_of n processes counts labels (At 0 0)
 unfolding did_of
-words_made n processes counts labels marks placed' i v mask c01 c23 c45 c67 word' h l m e e₀ e₁ e₂ e₃ p w =
+words_made n processes counts labels marks placed' mask c01 c23 c45 c67 word' l m e e₀ e₁ e₂ e₃ p w h =
     let ones : placed n (at processes) (λ j. 1) ≡ placed n (at processes) (at (replicate 8 1)) =
     placed_same n (at processes) (at processes) (λ j. 1) (at (replicate 8 1)) (λ j p. refl)
     (λ j p. sym (get_or-replicate 8 j 1 0 (omega arith)))
     in
-    rw (
-      ones,
-      list_of-at 8 counts l,
-      e,
-      e₀,
-      e₁,
-      e₂,
-      e₃,
-      w,
-      m,
-      p,
-      all-eight
-          (placed n (at processes) (at (replicate 8 1))) (length-placed n (at processes) (at (replicate 8 1))),
-      all-eight
-          (placed n (at processes) (at labels)) (length-placed n (at processes) (at labels)),
-    )
+    rw (ones, list_of-at 8 counts l, e, e₀, e₁, e₂, e₃, w, m, p)
 
--- The line, from the parts that the code reads.
-pub did_made : (s : List ℕ) (k n : ℕ) {head first first_bytes second second_bytes third whole : Read}
-    {processes counts labels : Numbers}
-    {answer : DidLine} → n ≤ 8
-    → head ≡ head_read s (ascii "(did (") → processes ≡ numbers_read (then_list s true process_limit head)
-    → first ≡ then_close s 1 8 processes.read → n ≡ value_read first
-    → first_bytes ≡ then_bytes s (ascii " (") first → counts ≡ numbers_read (then_list s false count_limit first_bytes)
-    → second ≡ then_close s k k counts.read
-    → second_bytes ≡ then_bytes s (ascii " (") second → labels ≡ numbers_read (then_list s false label_limit second_bytes)
-    → third ≡ then_close s n n labels.read → whole ≡ then_last s third
-    → answer ≡ did_of n processes.values counts.values labels.values whole → answer ≡ did_line s k
-unfolding numbers_read did_line
-did_made s k n {head} {first} {first_bytes} {second} {second_bytes} {third} {whole} {processes} {counts} {labels}
-    {answer} few h p f e fb c d sb l t w a =
-    let ps = then_list s true process_limit head in
-    let cs = then_list s false count_limit first_bytes in
-    let ls = then_list s false label_limit second_bytes in
-    let kept_all : did_of n processes.values counts.values labels.values whole
-    ≡ did_of n ps.numbers cs.numbers ls.numbers whole =
-    rw (p, c, l) (did_eight n ps.numbers cs.numbers ls.numbers whole few)
-    in
-    a ∙ kept_all ∙ rw (w, t, l, sb, d, c, fb, e, f, p, h)
+-- The line's pieces, each of what is read before it.
+pub did_made : (s : List ℕ) (k : ℕ)
+    {word processes first second counts third fourth labels last bracket whole : Read}
+    → word ≡ head_read s (ascii "(did (")
+    → processes ≡ (then_list s true process_limit word).read
+    → first ≡ then_close s 1 8 processes
+    → second ≡ then_bytes s (ascii " (") first
+    → counts ≡ (then_list s false count_limit second).read
+    → third ≡ then_close s k k counts
+    → fourth ≡ then_bytes s (ascii " (") third
+    → labels ≡ (then_list s false label_limit fourth).read
+    → last ≡ then_close s (value_read first) (value_read first) labels
+    → bracket ≡ then_byte s 41 last
+    → whole ≡ then_end s bracket
+    → did_of (value_read first) (then_list s true process_limit word).numbers
+    (then_list s false count_limit second).numbers (then_list s false label_limit fourth).numbers whole
+    ≡ did_pieces s k
+unfolding did_pieces
+did_made s k w p f e c t g l a b h = rw (h, b, a, l, g, t, c, e, f, p, w)
+
+-- The limit on the line's bytes.
+agrees : (n : ℕ) (processes counts labels : List ℕ) (whole : Read) (answer : Result DidRead Fault)
+    → did_line_of answer ≡ did_of n processes counts labels whole → Agrees whole answer
+unfolding did_of
+agrees n processes counts labels (At i v) (Ok w) h = tt
+agrees n processes counts labels (At i v) (Err f) h = cc
+agrees n processes counts labels (Refused m i) (Ok w) h = cc
+agrees n processes counts labels (Refused m i) (Err f) h = (cc, cc)
+
+pub did_whole : (s : List ℕ) (k : ℕ) (answer : Result DidRead Fault) → did_line_of answer ≡ did_pieces s k
+    → did_line_of (within_limit s answer) ≡ did_line s k
+unfolding did_of did_pieces did_line then_last
+did_whole s k answer h =
+    line_limited did_line_of (did_of _ _ _ _) (λ n i f p q. rw (p, q)) s _ answer (agrees _ _ _ _ _ answer h) h

@@ -1,20 +1,33 @@
 -- The line with the start labels, from the parts that the code reads.
-use Prim.Native.Nat.{ℕ}
-use mathlib.Core.Path.{◌≡◌}
-use mathlib.Core.List.{List}
+use Rattle.std.proofs.Common.{ℕ, ◌≡◌, List, Result, Ok, Err}
+use Rattle.numbers.specs.declared.fault.Fault.{Fault}
 use Rattle.codec.specs.Ascii.{ascii}
-use Rattle.line_pieces.specs.declared.Read.{Read}
-use Rattle.line_pieces.specs.declared.Numbers.{Numbers}
-use Rattle.lines.specs.declared.StartLine.{StartLine}
-use Rattle.line_pieces.specs.Reading.{head_read, then_end, limited}
-use Rattle.line_pieces.specs.NumberList.{then_spaced_list, then_close}
-use Rattle.line_pieces.specs.NumberListCode.{numbers_read}
+use Rattle.line_pieces.specs.Read.{Read, At, Refused}
+use Rattle.line_pieces.specs.Reading.{head_read, then_end}
+use Rattle.line_pieces.specs.NumberList.{then_spaced_list, then_close, eight_values}
+use Rattle.line_pieces.specs.ReadingCode.{within_limit}
+use Rattle.lines.proofs.LineSteps.{Agrees, line_limited}
 use Rattle.lines.specs.Lines.{label_limit, start_of, start_line}
+use Rattle.lines.specs.LinesCode.{start_line_of, start_pieces}
 
-pub start_made : (s : List ℕ) (k : ℕ) {head closed ended whole : Read} {labels : Numbers} {answer : StartLine}
-    → head ≡ head_read s (ascii "(start") → labels ≡ numbers_read (then_spaced_list s label_limit head)
-    → closed ≡ then_close s k k labels.read
-    → ended ≡ then_end s closed → whole ≡ limited s ended → answer ≡ start_of labels.values whole
-    → answer ≡ start_line s k
-unfolding numbers_read start_line
-start_made s k h l c e w a = rw (a, w, e, c, l, h)
+-- The line's pieces, each of what is read before it.
+pub start_made : (s : List ℕ) (k : ℕ) {word list bracket whole : Read} → word ≡ head_read s (ascii "(start")
+    → list ≡ (then_spaced_list s label_limit word).read → bracket ≡ then_close s k k list → whole ≡ then_end s bracket
+    → start_of (eight_values (then_spaced_list s label_limit word).numbers) whole ≡ start_pieces s k
+unfolding start_pieces
+start_made s k w l b e = rw (e, b, l, w)
+
+-- The limit on the line's bytes.
+agrees : (labels : List ℕ) (whole : Read) (answer : Result ℕ Fault) → start_line_of answer ≡ start_of labels whole
+    → Agrees whole answer
+unfolding start_of
+agrees labels (At i v) (Ok w) h = tt
+agrees labels (At i v) (Err f) h = cc
+agrees labels (Refused n i) (Ok w) h = cc
+agrees labels (Refused n i) (Err f) h = (cc, cc)
+
+pub start_whole : (s : List ℕ) (k : ℕ) (answer : Result ℕ Fault) → start_line_of answer ≡ start_pieces s k
+    → start_line_of (within_limit s answer) ≡ start_line s k
+unfolding start_of start_pieces start_line
+start_whole s k answer h =
+    line_limited start_line_of (start_of _) (λ n i f p q. rw (p, q)) s _ answer (agrees _ _ answer h) h

@@ -1,13 +1,13 @@
 -- Words and places: the code's steps.
-use Prim.Native.Nat.{ℕ, zero, suc, ◌+◌, ◌-◌, ◌*◌, ◌%◌, ◌^◌, ◌≤◌, ◌<◌}
+use Prim.Native.Nat.{ℕ, zero, suc, ◌+◌, ◌*◌, ◌%◌, ◌^◌, ◌≤◌, ◌<◌}
 use native.Mathlib.Nat.{mod-lt, mul-suc, mul-le-mul_left, pow-zero, pow-succ', pow-le-pow_right}
 use native.Mathlib.Omega.{arith}
 use native.Mathlib.Numerals.{add-one}
 use mathlib.Core.Path.{◌≡◌, refl, ◌∙◌}
 use mathlib.Core.List.{List, [], ◌∷◌}
-use lib.ListN.{length, length-take, length-set, set, take, drop}
-use lib.Seq.{drop-cons}
-use Rattle.clocks.specs.Counts.{at}
+use Rattle.std.proofs.Common.{map, reverse, ◌++◌, Bor}
+use Rattle.std.proofs.lemmas.List.{length-map, length-reverse, map-append, reverse-append}
+use lib.ListN.{length, length-set, set}
 use Rattle.lines.specs.Words.{packed_word, placed}
 
 -- ---- Numbers in a word
@@ -23,36 +23,23 @@ unfolding packed_word
 word_below base h [] = rw (pow-zero base) (omega arith)
 word_below base h (v ∷ vs) = one_more base (length vs) (packed_word base vs) v h (word_below base h vs)
 
--- There is room for it.
-pub word_fits : (base from to i v w : ℕ) (vs : List ℕ) → 0 < base → from < i → i ≤ to
-    → base ^ (to - from) ≤ 18446744073709551616
-    → w ≡ packed_word base (take (to - i) (drop i vs))
+-- There is room for one more, while not all of a list are taken from its end.
+pub word_fits : (base v w : ℕ) (values : List ℕ) (taken : List (Bor ℕ)) → 0 < base
+    → base ^ length values ≤ 18446744073709551616 → length taken < length (reverse values)
+    → w ≡ packed_word base (reverse (map (λ x. x.now) taken))
     → (base * w < 18446744073709551616) × (v % base + base * w < 18446744073709551616)
-word_fits base from to i v w vs h k l fits e =
-    let short : length (take (to - i) (drop i vs)) ≤ to - i = let n = length-take (to - i) (drop i vs) in
-    omega (arith, n) in
-    let room : base ^ suc (to - i) ≤ base ^ (to - from) = pow-le-pow_right h (omega arith) in
-    let below : packed_word base (take (to - i) (drop i vs)) < base ^ (to - i) =
-    let a = word_below base h (take (to - i) (drop i vs)) in
-    let b : base ^ length (take (to - i) (drop i vs)) ≤ base ^ (to - i) = pow-le-pow_right h short in
-    omega (arith, a, b)
-    in
-    let more = one_more base (to - i) w v h (rw e below) in
+word_fits base v w values taken h fits l e =
+    let vs = reverse (map (λ x. x.now) taken) in
+    let fewer : length vs < length values = simp (length-reverse, length-map) (simp length-reverse at l) in
+    let room : base ^ suc (length vs) ≤ base ^ length values = pow-le-pow_right h (omega arith) in
+    let more = one_more base (length vs) w v h (rw e (word_below base h vs)) in
     (omega (arith, more, room), omega (arith, more, room))
 
--- One number more, below the others.
-pub word_next : (base : ℕ) (vs : List ℕ) (i to : ℕ) → 0 < i → i ≤ to → i ≤ length vs
-    → packed_word base (take (to - (i - 1)) (drop (i - 1) vs))
-    ≡ at vs (i - 1) % base + base * packed_word base (take (to - i) (drop i vs))
+-- One number more, below the others, of a list that is read from its end.
+pub word_next : (base v w : ℕ) (taken : List (Bor ℕ)) → w ≡ packed_word base (reverse (map (λ x. x.now) taken))
+    → (x : Bor ℕ) → x.now ≡ v → v % base + base * w ≡ packed_word base (reverse (map (λ x. x.now) (taken ++ x ∷ [])))
 unfolding packed_word
-word_next base vs i to z h l =
-    let e : to - (i - 1) ≡ suc (to - i) = omega arith in
-    let b : suc (i - 1) ≡ i = omega arith in
-    rw (e, drop-cons vs (i - 1) 0 (omega arith), b)
-
-pub word_none : (base : ℕ) (vs : List ℕ) (to : ℕ) → 0 ≡ packed_word base (take (to - to) (drop to vs))
-unfolding packed_word
-word_none base vs to = let e : to - to ≡ 0 = omega arith in rw e
+word_next base v w taken h x e = rw (map-append, reverse-append, e, h)
 
 -- ---- Numbers at places
 

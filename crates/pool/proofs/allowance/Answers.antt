@@ -1,15 +1,10 @@
 -- What is held is taken off 1,024 at once, or in two steps: the same, as differences stop at 0.
-use native.Mathlib.Omega.{arith}
-use Rattle.pool.specs.Pool.{unpromised, allowance}
-use Rattle.std.proofs.Common.{rules}
+use Rattle.std.proofs.Common.{arith}
+use Rattle.pool.specs.Pool.{share_at, unpromised, allowance}
 use Rattle.pool.proofs.allowance.Goals as goal
 
-pub returns-then-held-gt-FRONTIERS : goal.returns-then-held-gt-FRONTIERS
-unfolding allowance unpromised
-returns-then-held-gt-FRONTIERS c =
-    (omega (arith, c.held-held.ensures, c.share_at-share.ensures.0, c.if-held-gt-FRONTIERS.true), search rules)
-
 pub returns : goal.returns
-unfolding allowance unpromised
+unfolding allowance unpromised share_at
 returns c =
-    (omega (arith, c.held-held.ensures, c.share_at-share.ensures.0, c.if-held-gt-FRONTIERS.false), search rules)
+    let share = c.number_at.ensures in
+    (omega (arith, c.held.ensures, share.0, c.saturating_sub.ensures), omega (arith, share.1, c.saturating_sub.ensures))

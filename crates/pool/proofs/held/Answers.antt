@@ -9,15 +9,14 @@ use Rattle.pool.proofs.held.Goals as goal
 
 pub loop-j-init : goal.loop-j-init
 unfolding sum_below
-loop-j-init c = (search rules, refl, search rules)
+loop-j-init c = (refl, search rules)
 
 pub loop-j-preserved : goal.loop-j-preserved
 loop-j-preserved c =
     let l = c.loop-j in
     let a = c.args in
     let h = c.held_by-sum in (
-      search rules,
-      sum_next (λ k. share_at a.pool.now k + used_by a.pool.now a.i k) l.j l.sum h.result l.invariant.1
+      sum_next (λ k. share_at a.pool.now k + used_by a.pool.now a.i k) l.j l.sum h.result l.invariant.0
           h.ensures.0,
       search rules,
     )
@@ -28,4 +27,4 @@ returns c =
     let l = c.loop-j in
     let a = c.args in
     let all : l.j ≡ 8 = omega arith in
-    (rw all at l.invariant.1) ∙ sum_plus 8 (share_at a.pool.now) (used_by a.pool.now a.i)
+    (rw all at l.invariant.0) ∙ sum_plus 8 (share_at a.pool.now) (used_by a.pool.now a.i)

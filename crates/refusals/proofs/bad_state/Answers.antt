@@ -24,8 +24,8 @@ good_table-requires c =
     let few = numbers_within (process_count s) (pending_count s) (line_total s) (kept_count s) c.args.room (numbers (goal.at.good_table-requires c).After-bad_numbers ∙ c.if-bad_numbers.false) in
     (omega (arith, few.2), simp (length-take, length-drop) (omega (arith, few.2)))
 
-pub returns : goal.returns
-returns c =
+pub returns-else-bad_numbers : goal.returns-else-bad_numbers
+returns-else-bad_numbers c =
     let a = c.args in
-    rw (state_parts a.w a.room a.«record».now, numbers (goal.at.returns c).After-bad_numbers, c.if-bad_numbers.false)
+    rw (state_parts a.w a.room a.«record».now, numbers (goal.at.returns-else-bad_numbers c).After-bad_numbers, c.if-bad_numbers.false)
     (cc (lent_table a.w a.«record».now))

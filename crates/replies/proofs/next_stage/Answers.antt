@@ -1,16 +1,7 @@
--- The tests are those of the definition.
-use borrow.Author.Tests.{le-leb, lt-leb}
+-- A refusal before the watch is open, here of the watch line; the other ways are found.
 use Rattle.replies.specs.Following.{next_stage}
 use Rattle.replies.proofs.next_stage.Goals as goal
 
-pub returns-then-stage-ge3 : goal.returns-then-stage-ge3
+pub returns-in_default-true : goal.returns-in_default-true
 unfolding next_stage
-returns-then-stage-ge3 c = rw (le-leb 3 c.args.stage c.if-stage-ge3.true)
-
-pub returns-then-refused : goal.returns-then-refused
-unfolding next_stage
-returns-then-refused c = rw (lt-leb 3 c.args.stage c.if-stage-ge3.false, c.if-refused.true)
-
-pub returns : goal.returns
-unfolding next_stage
-returns c = rw (lt-leb 3 c.args.stage c.if-stage-ge3.false, c.if-refused.false)
+returns-in_default-true c = rw (c.in_default-true.is-0, c.in_default-true.is-1)

@@ -1,11 +1,7 @@
--- The number goes behind the bytes.
-use native.Mathlib.Omega.{arith}
+-- The number goes after the bytes.
 use Rattle.reply_text.proofs.TextSteps.{behind}
 use Rattle.codec.specs.Decimal.{numeral}
 use Rattle.reply_text.proofs.piece.Goals as goal
-
-pub returns-clause-upper_bound : goal.returns-clause-upper_bound
-returns-clause-upper_bound c = omega arith
 
 pub returns-clause-out_after : goal.returns-clause-out_after
 returns-clause-out_after c =

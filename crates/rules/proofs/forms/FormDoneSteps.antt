@@ -4,17 +4,14 @@ use Prim.Native.Nat.{ℕ, ◌+◌, ◌-◌, ◌≤◌, ◌<◌}
 use native.Mathlib.Omega.{arith}
 use mathlib.Core.Path.{◌≡◌, subst}
 use mathlib.Core.List.{List}
-use lib.ListN.{length}
 use native.Mathlib.Nat.{pos_of_ne-zero}
 use Rattle.pactl.specs.declared.Line.{Line}
 use Rattle.rules.specs.declared.Unary.{Unary}
 use Rattle.rules.specs.declared.Binary.{Binary}
-use Rattle.rules.specs.declared.WordRead.{WordRead}
-use Rattle.rules.specs.declared.WordRead.TheVariants.{AtWord, ConstantWord, UnaryWord, BinaryWord, NoWord}
+use Rattle.rules.specs.WordRead.{WordRead, AtWord, ConstantWord, UnaryWord, BinaryWord, NoWord}
 use Rattle.rules.specs.reading.WordLaws.{WordSpan, word_at_span}
 use Rattle.rules.specs.reading.PlaceLaws.{constant_short, unary_short, binary_short}
-use Rattle.rules.specs.declared.Read.{Read}
-use Rattle.rules.specs.declared.Read.TheVariants.{Refused}
+use Rattle.rules.specs.ReaderCode.{Read, Refused}
 use Rattle.rules.specs.Line.{lines_before, lines_after, lines_between, lines_after_both, line_count}
 use Rattle.rules.proofs.LayingSteps.{done_refused, done_close}
 use Rattle.rules.specs.Laying.{Laid, close_read, Done, Room}
@@ -26,8 +23,8 @@ use Rattle.rules.specs.Reader.{inner_with, unary_with, binary_with, body_with, f
 -- Where there is room for a form, there is room for what stands behind its word, and for the lines that the word has
 -- before and between forms.
 abbrev pub WordRoom : ℕ → ℕ → ℕ → List ℕ → WordRead → Type 0
-WordRoom a laid closed table (AtWord j) = (length table ≡ 600) × (j ≤ 900) × (laid < 200) × (closed ≤ 64)
-WordRoom a laid closed table (ConstantWord w j) = (length table ≡ 600) × (j ≤ 900) × (laid + 5 ≤ 200) × (closed ≤ 64)
+WordRoom a laid closed table (AtWord j) = (j ≤ 900) × (laid < 200) × (closed ≤ 64)
+WordRoom a laid closed table (ConstantWord w j) = (j ≤ 900) × (laid + 5 ≤ 200) × (closed ≤ 64)
 WordRoom a laid closed table (UnaryWord w j) = Room (a - 1) (laid + 4) closed (j + 1) table
 WordRoom a laid closed table (BinaryWord w j) = Room (a - 1) (laid + 4) closed (j + 1) table
 WordRoom a laid closed table (NoWord j) = Unit {0}
@@ -53,14 +50,12 @@ word_room {a} {s} {laid} {closed} {i} {table} {word} o m =
     go : (word : WordRead) → WordSpan s (i + 1) word → WordRoom a laid closed table word
     go (AtWord j) p =
         unfold WordSpan in (
-          m.size,
           omega (arith, p.ends, m.near),
           omega (arith, m.lines, m.short, left),
           m.short,
         )
     go (ConstantWord w j) p =
         unfold WordSpan in (
-          m.size,
           omega (arith, p.ends, (constant_short w).0, m.near),
           omega (arith, m.lines, m.short, left),
           m.short,
@@ -115,11 +110,11 @@ ended_second m x p y =
 
 -- One form inside
 
-module _ (a : ℕ) (s : List ℕ) (k i : ℕ) (w : Unary) {laid closed start n j : ℕ} {old t new : List ℕ} {r : Read} where
-  pub unary_fault_done : Done start closed t new (inner_with (form_at a s k) s closed i) r → r ≡ Refused n j
+module _ (a : ℕ) (s : List ℕ) (k i : ℕ) (w : Unary) {laid closed start n j : ℕ} {old t new : List ℕ} where
+  pub unary_fault_done : Done start closed t new (inner_with (form_at a s k) s closed i) (Refused n j)
       → Done laid closed old new (unary_with (form_at a s k) s w closed i) (Refused n j)
-  unary_fault_done d e =
-      let fault = fault_done start closed t new (inner_with (form_at a s k) s closed i) r n j d e in
+  unary_fault_done d =
+      let fault = fault_done start closed t new (inner_with (form_at a s k) s closed i) n j d in
       rw (unary_fault (form_at a s k) s w closed i n j fault) (done_refused laid closed old new n j)
 
 module _ {a : ℕ} {s : List ℕ} {k laid closed i start j end count total : ℕ} {old t₁ t₂ t₃ : List ℕ} {r : Read}
@@ -141,21 +136,21 @@ module _ {a : ℕ} {s : List ℕ} {k laid closed i start j end count total : ℕ
 
 -- Two forms inside
 
-module _ (a : ℕ) (s : List ℕ) (k i : ℕ) (w : Binary) {laid closed n j : ℕ} {old new : List ℕ} {r : Read} where
-  pub binary_fault_done : Done laid closed old new (inner_with (form_at a s k) s closed i) r → r ≡ Refused n j
+module _ (a : ℕ) (s : List ℕ) (k i : ℕ) (w : Binary) {laid closed n j : ℕ} {old new : List ℕ} where
+  pub binary_fault_done : Done laid closed old new (inner_with (form_at a s k) s closed i) (Refused n j)
       → Done laid closed old new (binary_with (form_at a s k) s w closed i) (Refused n j)
-  binary_fault_done d e =
-      let fault = fault_done laid closed old new (inner_with (form_at a s k) s closed i) r n j d e in
+  binary_fault_done d =
+      let fault = fault_done laid closed old new (inner_with (form_at a s k) s closed i) n j d in
       rw (binary_fault (form_at a s k) s w closed i n j fault) (done_refused laid closed old new n j)
 
-module _ {a : ℕ} {s : List ℕ} {k laid closed i j half some start n l : ℕ} {old t₁ t₂ new : List ℕ} {r : Read}
+module _ {a : ℕ} {s : List ℕ} {k laid closed i j half some start n l : ℕ} {old t₁ t₂ new : List ℕ}
     (w : Binary) where
   pub binary-second_fault_done : InnerDone a s k laid closed i old t₁ j half some
-      → Done start some t₂ new (inner_with (form_at a s k) s some j) r → r ≡ Refused n l
+      → Done start some t₂ new (inner_with (form_at a s k) s some j) (Refused n l)
       → Done laid closed old new (binary_with (form_at a s k) s w closed i) (Refused n l)
-  binary-second_fault_done x g e =
+  binary-second_fault_done x g =
       let d = x.done in
-      let fault = fault_done start some t₂ new (inner_with (form_at a s k) s some j) r n l g e in
+      let fault = fault_done start some t₂ new (inner_with (form_at a s k) s some j) n l g in
       rw (binary-second_fault (form_at a s k) s w closed i j d.form n l some d.read d.closed_now fault)
       (done_refused laid closed old new n l)
 

@@ -7,7 +7,7 @@ use mathlib.Core.Bool.{Bool, true, false, cond, ◌&&◌}
 use mathlib.Core.List.{List}
 use lib.Dec.{leb, ltb}
 use borrow.Author.Tests.{leb-true, eq-eqb, ne_eqb}
-use Rattle.rules.specs.declared.DigitRead.TheVariants.{Digit, NoDigit}
+use Rattle.rules.specs.ReaderCode.{Digit, NoDigit}
 use Rattle.rules.specs.Text.{byte_at}
 use Rattle.rules.specs.Laying.{digit_at}
 use Rattle.rules.specs.Reader.{Reading, expect, expect_digit, faulty}

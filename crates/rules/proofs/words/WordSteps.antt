@@ -2,14 +2,17 @@
 use Prim.Native.Nat.{ℕ, ◌+◌, ◌≤◌, ◌<◌}
 use native.Mathlib.Omega.{arith}
 use native.Mathlib.Numerals.{add-one}
-use mathlib.Core.Path.{◌≡◌}
-use mathlib.Core.Bool.{cond}
+use mathlib.Core.Path.{◌≡◌, refl}
+use mathlib.Core.Bool.{Bool, true, false, cond, not}
 use mathlib.Core.List.{List}
 use lib.Dec.{eqb}
+use borrow.Author.Tests.{ne_eqb}
+use Rattle.std.specs.Prelude.{Option, None, Some, nat_eq}
+use Rattle.std.specs.Option.{option_eq}
+use Rattle.rules.specs.ReaderCode.{byte_of}
 use lib.ListN.{length, drop, get_or, drop_of_length-le}
 use lib.Seq.{drop-cons}
-use Rattle.rules.specs.declared.WordRead.{WordRead}
-use Rattle.rules.specs.declared.WordRead.TheVariants.{NoWord}
+use Rattle.rules.specs.WordRead.{WordRead, NoWord}
 use Rattle.rules.specs.Text.{byte_at}
 use Rattle.rules.specs.Reader.{rest_at}
 
@@ -25,3 +28,22 @@ rest_at_next s i j letters word h =
 pub rest_at-end : (s : List ℕ) (i j : ℕ) (letters : List ℕ) (word : WordRead) → length letters ≤ j → rest_at s (i + j) (drop j letters) word ≡ word
 unfolding rest_at
 rest_at-end s i j letters word h = rw (drop_of_length-le letters h)
+
+-- The byte that is there, compared with a letter.
+
+not_false : (x : Bool) → false ≡ not x → x ≡ true
+not_false true h = refl
+not_false false h = h
+
+not_true : (x : Bool) → true ≡ not x → x ≡ false
+not_true true h = h
+not_true false h = refl
+
+pub byte_met : (byte : Option ℕ) (n letter : ℕ) → byte_of byte ≡ n → false ≡ not (option_eq nat_eq byte (Some letter)) → eqb n letter ≡ true
+byte_met None n letter e h = let z : ◌≡◌ {A = ℕ} 0 1 = cc in absurd (omega arith)
+byte_met (Some byte) n letter e h = rw (← e) (not_false _ h)
+
+pub byte_other : (byte : Option ℕ) (n letter : ℕ) → byte_of byte ≡ n → letter < 256 → true ≡ not (option_eq nat_eq byte (Some letter))
+    → eqb n letter ≡ false
+byte_other None n letter e small h = rw (← e) (ne_eqb 256 letter (omega arith))
+byte_other (Some byte) n letter e small h = rw (← e) (not_true _ h)

@@ -18,8 +18,7 @@ use Rattle.rules.specs.Reader.{atom_at, faulty, word_at, Reading, inner_with, un
 use Rattle.rules.specs.declared.Constant.TheVariants.{True}
 use Rattle.rules.specs.declared.Unary.{Unary}
 use Rattle.rules.specs.declared.Binary.{Binary}
-use Rattle.rules.specs.declared.WordRead.{WordRead}
-use Rattle.rules.specs.declared.WordRead.TheVariants.{AtWord, ConstantWord, UnaryWord, BinaryWord, NoWord}
+use Rattle.rules.specs.WordRead.{WordRead, AtWord, ConstantWord, UnaryWord, BinaryWord, NoWord}
 use Rattle.rules.specs.Line.{line_count}
 use Rattle.rules.specs.reading.ReaderLaws.{Sound, inner_formed, form_at-formed}
 use Rattle.rules.specs.grammar.PartialWords.{WordBegun, IfNoWord, word_at-begun}

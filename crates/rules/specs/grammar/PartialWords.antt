@@ -3,8 +3,7 @@ use Rattle.std.specs.Prelude.{ℕ, ◌+◌, ◌≡◌, T}
 use Rattle.std.proofs.Math.Path.{refl}
 use Rattle.std.proofs.Common.{ap, sym, subst, ◌∙◌}
 use mathlib.Core.List.{List, [], ◌∷◌, ◌++◌, append_assoc}
-use Rattle.rules.specs.declared.WordRead.{WordRead}
-use Rattle.rules.specs.declared.WordRead.TheVariants.{AtWord, ConstantWord, UnaryWord, BinaryWord, NoWord}
+use Rattle.rules.specs.WordRead.{WordRead, AtWord, ConstantWord, UnaryWord, BinaryWord, NoWord}
 use Rattle.rules.specs.grammar.OpenForms.{Viable, viable_part, viable_at, viable_constant, viable_unary, viable_binary}
 use Rattle.rules.specs.reading.WordLaws.{span_byte, span_append, if_byte, span_nil}
 use Rattle.codec.specs.Ascii.{ascii}

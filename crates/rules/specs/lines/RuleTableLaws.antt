@@ -6,7 +6,7 @@ use Rattle.std.proofs.lemmas.List.{length-replicate}
 use Rattle.std.proofs.lemmas.List.Edits.{sets, sets-eq}
 use Rattle.std.proofs.Math.Seq.{take-append-add}
 use borrow.Author.Tests.{eq-eqb, ne_eqb, lt-ltb, le-ltb}
-use Rattle.rules.specs.declared.RuleRead.TheVariants.{Accepted, Refused}
+use Rattle.rules.specs.RuleRead.{Accepted, Refused}
 use Rattle.rules.specs.Formula.{Formula, AtomsBelow}
 use Rattle.rules.specs.Line.{line_count, lines_at}
 use Rattle.rules.specs.lines.LineLaws.{length-lines_at, good_lines_at}

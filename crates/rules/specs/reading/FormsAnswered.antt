@@ -9,8 +9,7 @@ use mathlib.Core.List.{List, [], ◌∷◌, ◌++◌}
 use Rattle.std.proofs.Math.Logic.{inl, inr}
 use Rattle.std.proofs.Math.Dec.{leb}
 use Rattle.std.proofs.Math.ListN.{length, length-append}
-use Rattle.rules.specs.declared.WordRead.{WordRead}
-use Rattle.rules.specs.declared.WordRead.TheVariants.{AtWord, ConstantWord, UnaryWord, BinaryWord}
+use Rattle.rules.specs.WordRead.{WordRead, AtWord, ConstantWord, UnaryWord, BinaryWord}
 use Rattle.rules.specs.reading.ForwardLaws.{place, body_from, form_at_from, close_at_from, second_from}
 use Rattle.rules.specs.reading.WordsAnswered.{StandsTo, known, WordMet, at_met, stands_to_left, stands_to_right, constant_met, unary_met, binary_met}
 use Rattle.rules.specs.Line.{line_count}

@@ -11,8 +11,7 @@ use Rattle.rules.specs.reading.WordLaws.{if_byte, rest_case}
 use Rattle.rules.specs.Text.{byte_at}
 use Rattle.rules.specs.Formula.{Formula, constant, unary, binary}
 use Rattle.rules.specs.Reader.{rest_at, a_word_at, e_word_at, word_at, Reading, and_then, expect, expect_digit, close_at, atom_at, inner_with, unary_with, binary_with, body_with, form_at, formed, faulty}
-use Rattle.rules.specs.declared.WordRead.{WordRead}
-use Rattle.rules.specs.declared.WordRead.TheVariants.{AtWord, ConstantWord, UnaryWord, BinaryWord, NoWord}
+use Rattle.rules.specs.WordRead.{WordRead, AtWord, ConstantWord, UnaryWord, BinaryWord, NoWord}
 
 -- The place of an answer: that of the byte behind a form, or of a fault.
 unfoldable pub place : Reading → ℕ

@@ -6,15 +6,13 @@ use Rattle.std.specs.Prelude.{◌≡◌, refl, Bool, true, false, cond, ◌&&◌
 use Rattle.rules.specs.declared.Constant.{Constant}
 use Rattle.rules.specs.declared.Unary.{Unary}
 use Rattle.rules.specs.declared.Binary.{Binary}
-use Rattle.rules.specs.declared.WordRead.{WordRead}
-use Rattle.rules.specs.declared.WordRead.TheVariants.{AtWord, ConstantWord, UnaryWord, BinaryWord, NoWord}
-use Rattle.rules.specs.declared.Read.TheVariants.{Form, Refused}
+use Rattle.rules.specs.WordRead.{WordRead, AtWord, ConstantWord, UnaryWord, BinaryWord, NoWord}
+use Rattle.rules.specs.ReaderCode.{Form, Refused, read_of}
 use Rattle.rules.specs.Formula.{Formula, atom, constant, unary, binary, Atoms, AtomsBelow}
 use Rattle.rules.specs.Line.{line_count}
 use Rattle.codec.specs.Ascii.{ascii}
 use Rattle.rules.specs.Text.{byte_at, constant_letters, unary_letters, binary_letters, text_of, Grammatical, depth}
 use Rattle.rules.specs.Reader.{word_at, Reading, formed, faulty, and_then, expect, expect_digit, close_at, atom_at, inner_with, unary_with, binary_with, body_with, form_at}
-use Rattle.rules.specs.ReaderCode.{read_of}
 use Rattle.rules.specs.reading.WordLaws.{span_next, span_byte, span_append, WordSpan, word_at_span, if_byte}
 use Rattle.rules.specs.Fault.{Span}
 

@@ -3,8 +3,7 @@ use Rattle.std.specs.Prelude.{ℕ, suc, ◌+◌, ◌<◌, ◌≤◌, ◌≡◌, 
 use Rattle.std.proofs.Common.{add-zero, arith, subst, length-append, eqb-true}
 use Rattle.std.proofs.lemmas.Bool.{eqb-false}
 use Rattle.rules.specs.declared.Binary.TheVariants.{And}
-use Rattle.rules.specs.declared.WordRead.{WordRead}
-use Rattle.rules.specs.declared.WordRead.TheVariants.{AtWord, ConstantWord, UnaryWord, BinaryWord, NoWord}
+use Rattle.rules.specs.WordRead.{WordRead, AtWord, ConstantWord, UnaryWord, BinaryWord, NoWord}
 use Rattle.codec.specs.Ascii.{ascii}
 use Rattle.rules.specs.Text.{byte_at, constant_letters, unary_letters, binary_letters}
 use Rattle.rules.specs.Reader.{rest_at, a_word_at, e_word_at, word_at}

@@ -1,8 +1,7 @@
 -- Where a word's letters stand up to some place, the reader answers that word, or answers at or behind that place.
 use Rattle.std.specs.Prelude.{ℕ, suc, ◌+◌, ◌≤◌, ◌<◌, ◌≡◌, refl, Bool, true, false, List, [], ◌∷◌, ◌++◌, ◌⊎◌, ltb, length}
 use Rattle.std.proofs.Common.{arith, add-zero, subst, ap, inl, inr, ltb-true, ltb-false}
-use Rattle.rules.specs.declared.WordRead.{WordRead}
-use Rattle.rules.specs.declared.WordRead.TheVariants.{NoWord, AtWord, ConstantWord, UnaryWord, BinaryWord}
+use Rattle.rules.specs.WordRead.{WordRead, NoWord, AtWord, ConstantWord, UnaryWord, BinaryWord}
 use Rattle.rules.specs.reading.ForwardLaws.{word_place, word_from, a_word_from, e_word_from}
 use Rattle.rules.specs.reading.WordLaws.{if_byte}
 use Rattle.codec.specs.Ascii.{ascii}

@@ -13,17 +13,16 @@ use Rattle.clocks.specs.stored.SearchLaws.{passes_from, search_here, search_next
 use Rattle.window.specs.Step.{fits, kept_after}
 use Rattle.frontiers.specs.declared.Frontier.{Frontier}
 use Rattle.frontiers.specs.Bytes.{frontier_at, frontiers}
-use Rattle.frontiers.specs.WindowLaws.{place-within}
 use Rattle.lookup.specs.Order.{same}
 use Rattle.trial.specs.declared.Choice.TheVariants.{Chosen}
-use Rattle.records.specs.Record.{pending_at, ready_in}
-use Rattle.trial.specs.Trial.{setting_in, valid_among}
+use Rattle.records.specs.Record.{pending_at, pending_events, taken_counts, ready_in}
+use Rattle.trial.specs.Trial.{setting_in, valid_among, in_turn}
 use Rattle.trial.proofs.TrialSteps.{tried_from, tried-end, tried_pass, tried-false, tried-fits, tried_full}
 use Rattle.trial.specs.TrialCode.{choice_for}
-use Rattle.std.proofs.Common.{◌&&◌, ltb, leb, rules}
+use Rattle.std.proofs.Common.{◌&&◌, ltb, leb, get_or, rules}
 use Rattle.trial.proofs.decide.Invariants.{stands}
 use Rattle.trial.proofs.decide.Goals as goal
-use Rattle.trial.proofs.decide.Goals.{After-ready, then-ready+else-j-n+then-counts_same+else-fitting, else-ready}
+use Rattle.trial.proofs.decide.Goals.{After-ready}
 
 -- ---- The tests' answers are those of the pending event
 
@@ -34,20 +33,20 @@ event c = let a = c.args in pending_at a.w a.«record».now c.place_in_turn-i.re
 abbrev kept : After-ready → List Frontier
 kept c = let a = c.args in frontiers a.w a.window.now a.n
 
+event-is : (c : After-ready) → c.pending_event-e.result ≡ event c
+event-is c = rw (c.pending_event-e.ensures, c.of-width.ensures)
+
+turn-is : (c : After-ready) → let a = c.args in
+    c.place_in_turn-i.result ≡ get_or (in_turn (pending_events a.w a.«record».now)) c.events.turn 0
+turn-is c = rw (c.place_in_turn-i.ensures.0, c.of-width.ensures)
+
 tested_ready : (c : After-ready)
     → ready_in c.args.w c.args.«record».now (event c) ≡ c.ready.result
 unfolding ready_in
 tested_ready c =
-    rw (← c.pending_event-e.ensures, ← c.taken_counts-taken.ensures)
-    (sym c.ready.ensures)
-
-read_ready : (c : After-ready) → c.ready.result ≡ true
-    → let a = c.args in
-    T (ready_in a.w a.«record».now c.pending_event-e.result)
-read_ready c r =
     let a = c.args in
-    subst⁻¹ (λ (e : Event). T (ready_in a.w a.«record».now e)) c.pending_event-e.ensures
-    (true-T (tested_ready c ∙ r))
+    let taken : c.taken_counts-taken.result ≡ taken_counts a.w a.«record».now = rw (c.taken_counts-taken.ensures, c.of-width.ensures) in
+    rw (← event-is c, ← taken) (sym c.ready.ensures)
 
 -- A frontier is compared with the counts that are looked for.
 tested_here : (w : ℕ) (window known : List ℕ) (j : ℕ) (counts : List ℕ) (found : Bool)
@@ -59,7 +58,7 @@ tested_here w window known j counts found read compared = rw (← read) (sym com
 module _ (c : After-ready) (known : List ℕ) (lower : known ≡ list_of 8 (lowered c.pending_event-e.result)) where
   tested_valid : valid_among (kept c) (event c) ≡ any_of (stands known) (kept c)
   unfolding valid_among
-  tested_valid = rw (← c.pending_event-e.ensures, ← lower) refl
+  tested_valid = rw (← event-is c, ← lower) refl
 
   module _ (j : ℕ) (before : any_of (stands known) (kept c)
       ≡ passes_from c.args.n (frontier_at c.args.w c.args.window.now) (stands known) j) where
@@ -81,128 +80,86 @@ tested_fits : (c : After-ready) (many : ℕ) (fitting : Bool)
     → fitting ≡ (ltb 0 many && leb many a.allowed)
     → fits (setting_in a.w a.«record».now (event c)) a.allowed (kept c) ≡ fitting
 unfolding fits
-tested_fits c many fitting counted tested = rw (← c.pending_event-e.ensures, ← counted) (sym tested)
+tested_fits c many fitting counted tested = rw (← event-is c, ← counted) (sym tested)
 
 -- ---- The goals
 
 pub events-init : goal.events-init
 unfolding tried_from
-events-init c = (search rules, (false, refl, refl, refl))
+events-init c = (false, refl, refl)
 
 pub loop-j-init : goal.loop-j-init
 unfolding frontiers
-loop-j-init c = (search rules, search rules, refl)
+loop-j-init c = refl
 
-pub counts_at-requires-clause-w_in_bounds : goal.counts_at-requires-clause-w_in_bounds
-counts_at-requires-clause-w_in_bounds c =
-    let l = c.loop-j in
-    let inside = place-within l.j c.args.n c.args.w (search rules) in
-    omega (arith, inside, c.requires.room_for.1)
+pub kept_with-kept-requires-clause-t : goal.kept_with-kept-requires-clause-t
+kept_with-kept-requires-clause-t c =
+    let a = c.args in
+    let here = (goal.at.kept_with-kept-requires-clause-t c).After-ready in
+    subst⁻¹ (λ (e : Event). T (ready_in a.w a.«record».now e)) (event-is here)
+    (true-T (tested_ready here ∙ c.if-ready.true))
 
 pub loop-j-preserved : goal.loop-j-preserved
 loop-j-preserved c =
     let a = c.args in
-    let l = c.loop-j in (
-      search rules,
-      search rules,
-      l.invariant.2
-          ∙ search_next a.n (frontier_at a.w a.window.now) (stands c.lowered-known.result)
-          l.j (search rules)
-          (tested_here _ _ _ _ _ _ c.counts_at.ensures c.counts_same.ensures ∙ c.if-counts_same.false),
+    let l = c.loop-j in
+    l.invariant
+    ∙ search_next a.n (frontier_at a.w a.window.now) (stands c.lowered-known.result)
+    l.j (search rules)
+    (tested_here _ _ _ _ _ _ (rw c.of-width.ensures at c.counts_at.ensures) c.counts_same.ensures ∙ c.if-counts_same.false)
+
+pub events-preserved-then-counts_same : goal.events-preserved-then-counts_same
+events-preserved-then-counts_same c =
+    let here = (goal.at.events-preserved-then-counts_same c).After-ready in
+    let known = is_known here _ c.lowered-known.ensures c.loop-j.j c.loop-j.invariant (omega arith)
+    (tested_here _ _ _ _ _ _ (rw c.of-width.ensures at c.counts_at.ensures) c.counts_same.ensures ∙ c.if-counts_same.true) in (
+      true,
+      refl,
+      c.events.invariant.2 ∙ tried_full _ _ _ _ _ _ _ _ (omega arith) (turn-is here)
+          (tested_ready here ∙ c.if-ready.true) known
+          (tested_fits here _ _ c.kept_with-kept.ensures.value c.fitting.ensures ∙ c.if-fitting.false),
     )
-
-pub kept_with-kept-requires-clause-record_len : goal.kept_with-kept-requires-clause-record_len
-kept_with-kept-requires-clause-record_len c = c.requires.record_len
-
-pub kept_with-kept-requires-clause-record_bound : goal.kept_with-kept-requires-clause-record_bound
-kept_with-kept-requires-clause-record_bound c = c.requires.record_bound
-
-pub kept_with-kept-requires-clause-room_for : goal.kept_with-kept-requires-clause-room_for
-kept_with-kept-requires-clause-room_for c = c.requires.room_for
-
-pub kept_with-kept-requires-clause-t : goal.kept_with-kept-requires-clause-t
-kept_with-kept-requires-clause-t c = read_ready (goal.at.kept_with-kept-requires-clause-t c).After-ready c.if-ready.true
-
-pub kept_with-kept-requires-clause-n_in_bounds : goal.kept_with-kept-requires-clause-n_in_bounds
-kept_with-kept-requires-clause-n_in_bounds c =
-    let long = c.events.invariant.1.3 in
-    omega (arith, long, c.requires.n_in_bounds)
 
 pub events-preserved : goal.events-preserved
 events-preserved c =
     let l = c.events in
     let here = (goal.at.events-preserved c).After-ready in (
-      search rules,
-      elim c.if-ready.branch [
-        | then-ready+else-j-n+then-counts_same+else-fitting w ↦
-            let known = is_known here _ w.lowered-known.ensures w.loop-j.j w.loop-j.invariant.2 (omega arith)
-            (tested_here _ _ _ _ _ _ w.counts_at.ensures w.counts_same.ensures ∙ w.if-counts_same.true) in (
-              true,
-              w.choice-is,
-              l.invariant.1.2 ∙ tried_full _ _ _ _ _ _ _ _ (omega arith) c.place_in_turn-i.ensures.0
-                  (tested_ready here ∙ w.if-ready.true) known
-                  (tested_fits here _ _ w.kept_with-kept.ensures.value w.fitting.ensures ∙ w.if-fitting.false),
-              c.if-ready.auto.marks ∙ l.invariant.1.3,
-            )
-        | else-ready w ↦ (
-          l.invariant.1.0,
-          w.choice-is ∙ l.invariant.1.1,
-          l.invariant.1.2 ∙ tried_pass _ _ _ _ _ _ _ _ (omega arith) c.place_in_turn-i.ensures.0
-              (tested_ready here ∙ w.if-ready.false),
-          c.if-ready.auto.marks ∙ l.invariant.1.3,
-        )
-      ],
+      l.invariant.0,
+      l.invariant.1,
+      l.invariant.2 ∙ tried_pass _ _ _ _ _ _ _ _ (omega arith) (turn-is here)
+          (tested_ready here ∙ c.if-ready.false),
     )
 
 pub returns-after-events-clause-value : goal.returns-after-events-clause-value
 unfolding choice_for
 returns-after-events-clause-value c =
     let l = c.events in
-    l.invariant.1.1 ∙ sym (ap (choice_for _ _ _) (l.invariant.1.2 ∙ tried-end _ _ _ _ _ _ _ (omega arith)))
+    l.invariant.1 ∙ sym (ap (choice_for _ _ _) (l.invariant.2 ∙ tried-end _ _ _ _ _ _ _ (omega arith)))
 
-pub returns-after-events-clause-marked_for : goal.returns-after-events-clause-marked_for
+pub returns-after-loop-j-clause-value : goal.returns-after-loop-j-clause-value
 unfolding choice_for
-returns-after-events-clause-marked_for c = λ i kept e. let z : ◌≡◌ {A = ℕ} 0 1 = cc in absurd (omega arith)
-
-pub returns-then-j-n-clause-value : goal.returns-then-j-n-clause-value
-unfolding choice_for
-returns-then-j-n-clause-value c =
-    let l = c.events in
-    let here = (goal.at.returns-then-j-n-clause-value c).After-ready in
+returns-after-loop-j-clause-value c =
+    let here = (goal.at.returns-after-loop-j-clause-value c).After-ready in
     sym (ap (choice_for _ _ _)
-    (l.invariant.1.2
-    ∙ tried-false _ _ _ _ _ _ _ _ (omega arith) c.place_in_turn-i.ensures.0
+    (c.events.invariant.2
+    ∙ tried-false _ _ _ _ _ _ _ _ (omega arith) (turn-is here)
     (tested_ready here ∙ c.if-ready.true)
-    (not_known here _ c.lowered-known.ensures c.loop-j.j c.loop-j.invariant.2 (omega arith))))
-
-pub returns-then-j-n-clause-marked_for : goal.returns-then-j-n-clause-marked_for
-unfolding choice_for
-returns-then-j-n-clause-marked_for c = λ i kept e. let z : ◌≡◌ {A = ℕ} 0 1 = cc in absurd (omega arith)
+    (not_known here _ c.lowered-known.ensures c.loop-j.j c.loop-j.invariant (omega arith))))
 
 pub returns-then-fitting-clause-value : goal.returns-then-fitting-clause-value
 unfolding choice_for
 returns-then-fitting-clause-value c =
     let a = c.args in
-    let l = c.events in
     let place = c.place_in_turn-i in
     let counted = c.kept_with-kept in
-    let read = c.pending_event-e.ensures in
     let here = (goal.at.returns-then-fitting-clause-value c).After-ready in
-    let known = is_known here _ c.lowered-known.ensures c.loop-j.j c.loop-j.invariant.2 (omega arith)
-    (tested_here _ _ _ _ _ _ c.counts_at.ensures c.counts_same.ensures ∙ c.if-counts_same.true) in
+    let known = is_known here _ c.lowered-known.ensures c.loop-j.j c.loop-j.invariant (omega arith)
+    (tested_here _ _ _ _ _ _ (rw c.of-width.ensures at c.counts_at.ensures) c.counts_same.ensures ∙ c.if-counts_same.true) in
     ap (Chosen place.result)
     (counted.ensures.value
     ∙ ap (λ (e : Event). kept_after (setting_in a.w a.«record».now e)
-    (frontiers a.w a.window.now a.n)) read)
+    (frontiers a.w a.window.now a.n)) (event-is here))
     ∙ sym (ap (choice_for a.w a.«record».now (frontiers a.w a.window.now a.n))
-    (l.invariant.1.2 ∙ tried-fits _ _ _ _ _ _ _ _ (omega arith) place.ensures.0
+    (c.events.invariant.2 ∙ tried-fits _ _ _ _ _ _ _ _ (omega arith) (turn-is here)
     (tested_ready here ∙ c.if-ready.true) known
     (tested_fits here _ _ counted.ensures.value c.fitting.ensures ∙ c.if-fitting.true)))
-
-pub returns-then-fitting-clause-marked_for : goal.returns-then-fitting-clause-marked_for
-unfolding choice_for
-returns-then-fitting-clause-marked_for c =
-    let place = c.place_in_turn-i in
-    let counted = c.kept_with-kept in
-    let read = c.pending_event-e.ensures in
-    λ i kept e. let same : i ≡ place.result = cc in rw (same, ← read) counted.ensures.marked

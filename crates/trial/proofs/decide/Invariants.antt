@@ -1,11 +1,7 @@
 -- No event tried before decided, and `seen` says whether one of them was ready: the laws `tried_pass`, `_full`,
 -- `-false`, `-fits` and `-end`. No frontier before j is what the event knows of: the laws `search_next`, `_here` and
 -- `-none`.
-use Prim.Native.Nat.{ℕ, ◌-◌, ◌≤◌}
-use mathlib.Core.Path.{◌≡◌}
-use mathlib.Core.Bool.{Bool}
-use mathlib.Core.List.{List}
-use lib.ListN.{length}
+use Rattle.std.proofs.Common.{◌≡◌, ℕ, Bool, List}
 use Rattle.clocks.specs.Bounded.{any_of}
 use Rattle.clocks.specs.stored.SearchLaws.{passes_from}
 use Rattle.frontiers.specs.declared.Frontier.{Frontier}
@@ -26,17 +22,9 @@ from w s allowed window n turn seen =
     tried_from w s (valid_among (frontiers w window n)) allowed (frontiers w window n) turn seen
 
 abbrev pub invariant-loop-j : goal.invariant-loop-j
-invariant-loop-j l = (l.n ≤ 1024) × (l.j ≤ l.n) × (any_of (stands l.known) (frontiers l.w l.window l.n)
-    ≡ passes_from l.n (frontier_at l.w l.window) (stands l.known) l.j)
-
-abbrev pub decreases-loop-j : goal.decreases-loop-j
-decreases-loop-j l = l.n - l.j
+invariant-loop-j l = any_of (stands l.known) (frontiers l.w l.window l.n)
+    ≡ passes_from l.n (frontier_at l.w l.window) (stands l.known) l.j
 
 abbrev pub invariant-events : goal.invariant-events
-invariant-events l = (l.turn ≤ l.pending)
-    × ((seen : Bool) × (l.choice ≡ Undecided seen)
+invariant-events l = (seen : Bool) × (l.choice ≡ Undecided seen)
     × (trial l.w l.«record» l.allowed (frontiers l.w l.window l.n) ≡ from l.w l.«record» l.allowed l.window l.n l.turn seen)
-    × (length l.marks ≡ length l.initial.marks))
-
-abbrev pub decreases-events : goal.decreases-events
-decreases-events l = l.pending - l.turn

@@ -13,7 +13,6 @@ use Rattle.clocks.specs.stored.BoundedLaws.{all_e}
 use Rattle.clocks.specs.Counts.{at, list_of}
 use Rattle.records.specs.Record.{line_total, table_place, taken_counts, ready_in}
 use Rattle.trial.specs.SettingLaws.{setting_lent}
-use Rattle.std.proofs.Common.{rules}
 use Rattle.trial.proofs.kept_with.Goals as goal
 use Rattle.trial.proofs.kept_with.Goals.{Start}
 
@@ -31,23 +30,7 @@ ready-counted n e S t p l =
 
 pub apply-reached-requires : goal.apply-reached-requires
 unfolding ready_in
-apply-reached-requires c = rw c.taken_counts.ensures c.requires.t
-
-pub count_after-requires-clause-width : goal.count_after-requires-clause-width
-unfolding ready_in
-count_after-requires-clause-width c = search rules
-
-pub count_after-requires-clause-room_for : goal.count_after-requires-clause-room_for
-unfolding ready_in
-count_after-requires-clause-room_for c = search rules
-
-pub count_after-requires-clause-k_bound : goal.count_after-requires-clause-k_bound
-unfolding ready_in
-count_after-requires-clause-k_bound c = search rules
-
-pub count_after-requires-clause-n_in_bounds : goal.count_after-requires-clause-n_in_bounds
-unfolding ready_in
-count_after-requires-clause-n_in_bounds c = search rules
+apply-reached-requires c = rw (c.taken_counts.ensures, c.of.ensures) c.requires.t
 
 pub count_after-requires-clause-counted : goal.count_after-requires-clause-counted
 unfolding ready_in
@@ -60,24 +43,22 @@ small c = omega arith
 -- The step's parameters make the record's setting, whatever the table.
 pub returns-clause-value : goal.returns-clause-value
 returns-clause-value c =
-    let closed = c.closed_mask-closed in
     let a = c.args in
     let s = a.«record».now in
     let counts : c.apply-reached.result ≡ list_of 8 (apply a.e (at (taken_counts a.w s))) =
-    c.apply-reached.ensures ∙ ap (λ (l : List ℕ). list_of 8 (apply a.e (at l))) c.taken_counts.ensures in
+    c.apply-reached.ensures ∙ ap (λ (l : List ℕ). list_of 8 (apply a.e (at l))) (rw (c.taken_counts.ensures, c.of.ensures)) in
     let setting = setting_lent a.w s a.e _ _ (table_place a.w) (line_total s) _ (small (goal.at.returns-clause-value c).Start)
-    c.process_count-k.ensures.0 closed.ensures.0 refl refl counts in
+    c.process_count-k.ensures.0 (c.from-closed.ensures ∙ c.closed_mask.ensures.0) refl refl counts in
     let kept = c.count_after.ensures in
     rw setting (kept.by_index _ _)
 
 pub returns-clause-marked : goal.returns-clause-marked
 returns-clause-marked c =
-    let closed = c.closed_mask-closed in
     let a = c.args in
     let s = a.«record».now in
     let counts : c.apply-reached.result ≡ list_of 8 (apply a.e (at (taken_counts a.w s))) =
-    c.apply-reached.ensures ∙ ap (λ (l : List ℕ). list_of 8 (apply a.e (at l))) c.taken_counts.ensures in
+    c.apply-reached.ensures ∙ ap (λ (l : List ℕ). list_of 8 (apply a.e (at l))) (rw (c.taken_counts.ensures, c.of.ensures)) in
     let setting = setting_lent a.w s a.e _ _ (table_place a.w) (line_total s) _ (small (goal.at.returns-clause-marked c).Start)
-    c.process_count-k.ensures.0 closed.ensures.0 refl refl counts in
+    c.process_count-k.ensures.0 (c.from-closed.ensures ∙ c.closed_mask.ensures.0) refl refl counts in
     let kept = c.count_after.ensures in
     rw setting (kept.by_index_2 _ _)

@@ -8,10 +8,8 @@ unfolding at_first
 loop-init c =
     let first = (c.begin-session.ensures.by_index [] [] []).stage in
     record {
-      inside = omega arith;
       not_over = omega (arith, first);
       within = c.begin-session.ensures.by_index_2 4112;
-      chunk = refl;
       line = refl;
       rule = refl;
       bytes = refl;

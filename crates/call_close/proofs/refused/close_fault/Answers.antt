@@ -3,6 +3,9 @@ use Prim.Native.Nat.{ℕ, ◌<◌}
 use native.Mathlib.Omega.{arith}
 use mathlib.Core.Path.{◌≡◌, sym, ap, ◌∙◌}
 use mathlib.Core.Bool.{false, cond}
+use Rattle.std.proofs.Common.{rules}
+use Rattle.numbers.specs.RefusalNumber.{number_of, refused}
+use Rattle.numbers.specs.RefusalLaws.{some_number}
 use Rattle.records.specs.Record.{process_count, closed_mask, pending_events}
 use Rattle.refusals.specs.Refusals.{not_open, named_by}
 use Rattle.refusals.specs.RefusalCode.{watch_fault}
@@ -10,14 +13,14 @@ use Rattle.refusals.specs.FaultLaws.{Good, good_watch, fault_first, fault_passed
 use Rattle.call_close.specs.CloseCode.{close_fault}
 use Rattle.call_close.proofs.CloseSteps.{open_below}
 use Rattle.call_close.proofs.refused.close_fault.Goals as goal
-use Rattle.call_close.proofs.refused.close_fault.Goals.{After-not_open, Else-fault-ne0, Else-not_open}
+use Rattle.call_close.proofs.refused.close_fault.Goals.{After-not_open, In_ok-watch_fault, Else-not_open}
 
 -- ---- The tests that let it pass
 
-none : (c : Else-fault-ne0) → let a = c.args in watch_fault a.w a.«record».now a.n ≡ 0
-none c = sym c.watch_fault-fault.ensures ∙ c.if-fault-ne0.false
+none : (c : In_ok-watch_fault) → let a = c.args in watch_fault a.w a.«record».now a.n ≡ 0
+none c = rw (← c.bytes.ensures.value, ← c.in_ok-watch_fault.ensures)
 
-good : (c : Else-fault-ne0) → let a = c.args in Good a.w a.«record».now a.n
+good : (c : In_ok-watch_fault) → let a = c.args in Good a.w a.«record».now a.n
 good c = let a = c.args in good_watch a.w a.«record».now a.n (none c)
 
 open_read : (c : After-not_open) → let a = c.args in
@@ -40,10 +43,10 @@ one_of_eight c =
     let a = c.args in
     let s = a.«record».now in
     let below = open_below (process_count s) (closed_mask s) a.process (open_passed c) in
-    omega (arith, below, (good (goal.at.Else-not_open c).Else-fault-ne0).processes)
+    omega (arith, below, (good (goal.at.Else-not_open c).In_ok-watch_fault).processes)
 
 -- What is asked for behind 6 and 34.
-behind : (c : Else-fault-ne0) → let a = c.args in
+behind : (c : In_ok-watch_fault) → let a = c.args in
     close_fault a.w a.process a.«record».now a.n
     ≡ cond (not_open (process_count a.«record».now) (closed_mask a.«record».now) a.process) 41
     (cond (named_by a.process (pending_events a.w a.«record».now)) 42 0)
@@ -52,25 +55,29 @@ behind c = let a = c.args in fault_passed a.w a.«record».now a.n _ (none c)
 
 -- ---- The goals
 
-pub returns-then-fault-ne0 : goal.returns-then-fault-ne0
+pub returns-in_err-watch_fault : goal.returns-in_err-watch_fault
 unfolding close_fault
-returns-then-fault-ne0 c =
+returns-in_err-watch_fault c =
     let a = c.args in
-    c.watch_fault-fault.ensures
-    ∙ fault_first a.w a.«record».now a.n _ (λ z. c.if-fault-ne0.true (c.watch_fault-fault.ensures ∙ z))
+    let known = c.in_err-watch_fault in
+    let refusal = known.field-0.0 in
+    let same : refused c.from_residual.result ≡ number_of refusal = search rules in
+    let turned : number_of refusal ≡ watch_fault a.w a.«record».now a.n = rw (← c.bytes.ensures.value, ← known.ensures) in
+    let some : watch_fault a.w a.«record».now a.n ≡ 0 → ⊥ = λ z. omega (arith, some_number refusal, turned, z) in
+    same ∙ turned ∙ fault_first a.w a.«record».now a.n _ some
 
 pub process_count-requires : goal.process_count-requires
-process_count-requires c = omega (arith, (good (goal.at.process_count-requires c).Else-fault-ne0).record_long)
+process_count-requires c = omega (arith, (good (goal.at.process_count-requires c).In_ok-watch_fault).record_long)
 
 pub closed_mask-requires : goal.closed_mask-requires
-closed_mask-requires c = omega (arith, (good (goal.at.closed_mask-requires c).Else-fault-ne0).record_long)
+closed_mask-requires c = omega (arith, (good (goal.at.closed_mask-requires c).In_ok-watch_fault).record_long)
 
 pub not_open-requires : goal.not_open-requires
-not_open-requires c = omega (arith, (good (goal.at.not_open-requires c).Else-fault-ne0).processes)
+not_open-requires c = omega (arith, (good (goal.at.not_open-requires c).In_ok-watch_fault).processes)
 
 pub returns-then-not_open : goal.returns-then-not_open
 returns-then-not_open c =
-    sym (behind (goal.at.returns-then-not_open c).Else-fault-ne0 ∙ rw (open_read (goal.at.returns-then-not_open c).After-not_open ∙ c.if-not_open.true))
+    sym (behind (goal.at.returns-then-not_open c).In_ok-watch_fault ∙ rw (open_read (goal.at.returns-then-not_open c).After-not_open ∙ c.if-not_open.true))
 
 pub overflow_cast-process : goal.overflow_cast-process
 overflow_cast-process c =
@@ -78,12 +85,12 @@ overflow_cast-process c =
 
 pub named_by-requires-clause-record_len : goal.named_by-requires-clause-record_len
 named_by-requires-clause-record_len c =
-    let fine = good (goal.at.named_by-requires-clause-record_len c).Else-fault-ne0 in
+    let fine = good (goal.at.named_by-requires-clause-record_len c).In_ok-watch_fault in
     fine.record_long
 
 pub named_by-requires-clause-record_bound : goal.named_by-requires-clause-record_bound
 named_by-requires-clause-record_bound c =
-    let fine = good (goal.at.named_by-requires-clause-record_bound c).Else-fault-ne0 in
+    let fine = good (goal.at.named_by-requires-clause-record_bound c).In_ok-watch_fault in
     fine.pending
 
 pub named_by-requires-clause-p_bound : goal.named_by-requires-clause-p_bound
@@ -91,8 +98,8 @@ named_by-requires-clause-p_bound c = one_of_eight (goal.at.named_by-requires-cla
 
 pub returns-then-named_by : goal.returns-then-named_by
 returns-then-named_by c =
-    sym (behind (goal.at.returns-then-named_by c).Else-fault-ne0 ∙ rw (open_passed (goal.at.returns-then-named_by c).Else-not_open, sym c.named_by.ensures ∙ c.if-named_by.true))
+    sym (behind (goal.at.returns-then-named_by c).In_ok-watch_fault ∙ rw (open_passed (goal.at.returns-then-named_by c).Else-not_open, sym c.named_by.ensures ∙ c.if-named_by.true))
 
 pub returns : goal.returns
 returns c =
-    sym (behind (goal.at.returns c).Else-fault-ne0 ∙ rw (open_passed (goal.at.returns c).Else-not_open, sym c.named_by.ensures ∙ c.if-named_by.false))
+    sym (behind (goal.at.returns c).In_ok-watch_fault ∙ rw (open_passed (goal.at.returns c).Else-not_open, sym c.named_by.ensures ∙ c.if-named_by.false))

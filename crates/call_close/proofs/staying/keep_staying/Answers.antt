@@ -36,7 +36,7 @@ loop-i-preserved c =
     let t : Frontier → Bool = λ f. stays_with a.k a.closed a.reached f.counts in
     let room = place-within l.i a.n a.w (search rules) in
     let fits : l.i * frontier_length a.w + frontier_length a.w ≤ length s = omega (arith, room) in
-    let bytes : (i : ℕ) → get_or s i 0 < 256 = λ i. (c.slice_known-1.given i).fits in
+    let bytes : (i : ℕ) → get_or s i 0 < 256 = λ i. search rules in
     let same = read_here t a.w s l.i bytes fits l.m l.window l.invariant.1 in
     let here : t (frontier_at a.w s l.i) ≡ c.stays.result =
     sym (c.stays.ensures a.k a.closed (search rules) c.open_ones-opens.ensures

@@ -1,19 +1,18 @@
-use native.Mathlib.Omega.{arith}
-use mathlib.Core.Path.{◌≡◌, sym}
+use Rattle.std.proofs.Common.{◌≡◌, sym, arith}
+use Rattle.std.proofs.Math.Bool.{or_comm}
 use Rattle.clocks.specs.stored.BoundedTurns.{any_none, any_more}
-use Rattle.std.proofs.Common.{rules}
 use Rattle.call_move.proofs.counts.one_too_large.Invariants.{test}
 use Rattle.call_move.proofs.counts.one_too_large.Goals as goal
 
-pub loop-i-init : goal.loop-i-init
-loop-i-init c = (search rules, sym (any_none _))
+pub loop-count-init : goal.loop-count-init
+loop-count-init c = sym (any_none _)
 
-pub loop-i-preserved : goal.loop-i-preserved
-loop-i-preserved c =
+pub loop-count-preserved : goal.loop-count-preserved
+loop-count-preserved c =
     let a = c.args in
-    let l = c.loop-i in
-    let more = any_more l.i (test a.w a.counts) in
-    (search rules, cc)
+    let l = c.loop-count in
+    let more = any_more l.count-index (test a.w a.counts) in
+    cc (or_comm l.some c.too_large-some.result)
 
 pub returns : goal.returns
-returns c = let every : c.loop-i.i ≡ 8 = omega arith in cc
+returns c = let every : c.loop-count.count-index ≡ 8 = omega arith in cc

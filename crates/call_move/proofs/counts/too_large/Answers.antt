@@ -3,8 +3,8 @@ use native.Mathlib.Omega.{arith}
 use Rattle.call_move.proofs.CountSteps.{two_hold, four_hold}
 use Rattle.call_move.proofs.counts.too_large.Goals as goal
 
-pub returns-then-w-eq2 : goal.returns-then-w-eq2
-returns-then-w-eq2 c = let a = c.args in two_hold a.w a.c (omega arith)
+pub returns-then-bytes-eq2 : goal.returns-then-bytes-eq2
+returns-then-bytes-eq2 c = let a = c.args in two_hold a.w a.c (omega arith)
 
-pub returns-else-w-eq2 : goal.returns-else-w-eq2
-returns-else-w-eq2 c = let a = c.args in four_hold a.w a.c (omega arith) (omega arith)
+pub returns-else-bytes-eq2 : goal.returns-else-bytes-eq2
+returns-else-bytes-eq2 c = let a = c.args in rw c.bytes.ensures.value (four_hold a.w a.c (omega arith) (omega arith))

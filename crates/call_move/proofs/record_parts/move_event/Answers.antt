@@ -11,5 +11,6 @@ move_counts-requires-clause-s_value c =
 pub returns : goal.returns
 returns c =
     let a = c.args in
+    let labels = rw (c.bytes.ensures.value, c.bytes-2.ensures.value) at c.copy_eights-2.ensures in
     event-written a.v a.w a.«record».now a.from a.target.now _ _ _ a.to c.requires.v_in_bounds
-    c.copy_eights.ensures c.move_counts.ensures c.copy_eights-2.ensures
+    c.copy_eights.ensures c.move_counts.ensures labels

@@ -12,7 +12,6 @@ use Rattle.call_move.specs.MoveCode.{parts_to}
 use Rattle.call_move.specs.PartLaws.{length-record_parts}
 use Rattle.call_move.proofs.PartSteps.{all-written}
 use Rattle.call_move.proofs.RecordSteps.{parts_all, front_fits, event-fits, front_begins, events_written}
-use Rattle.std.proofs.Common.{rules}
 use Rattle.call_move.proofs.record_parts.move_record.Goals as goal
 use Rattle.call_move.proofs.record_parts.move_record.Goals.{At-loop-next}
 
@@ -29,7 +28,7 @@ pub loop-next-init : goal.loop-next-init
 loop-next-init c =
     let a = c.args in
     let holds = front_begins a.v a.w a.«record».now a.target.now _ c.move_front.ensures in
-    (search rules, search rules, search rules, holds)
+    holds
 
 pub move_event-requires-clause-v_in_bounds : goal.move_event-requires-clause-v_in_bounds
 move_event-requires-clause-v_in_bounds c =
@@ -66,12 +65,8 @@ loop-next-preserved c =
     let event = moved a.v a.w event_parts (drop from.result s) in
     let more =
     events_written a.v a.w l.next s from.result (begun (goal.at.loop-next-preserved c).At-loop-next) to.result from.ensures.0
-    to.ensures.0 within in (
-      search rules,
-      search rules,
-      search rules,
-      c.move_event.ensures ∙ ap (λ (t : List ℕ). sets t to.result event) l.invariant.3 ∙ more,
-    )
+    to.ensures.0 within in
+    c.move_event.ensures ∙ ap (λ (t : List ℕ). sets t to.result event) l.invariant ∙ more
 
 pub returns : goal.returns
 returns c =
@@ -80,6 +75,6 @@ returns c =
     let t = begun (goal.at.returns c).At-loop-next in
     let all : c.loop-next.next ≡ 32 = omega arith in
     let long : length_of a.v record_parts ≡ length s = omega (arith, length-record_parts a.v) in
-    c.loop-next.invariant.3 ∙ ap (λ (n : ℕ). sets t 0 (moved a.v a.w (parts_to n) s)) all
+    c.loop-next.invariant ∙ ap (λ (n : ℕ). sets t 0 (moved a.v a.w (parts_to n) s)) all
     ∙ ap (λ (ps : List Part). sets t 0 (moved a.v a.w ps s)) parts_all
     ∙ all-written a.v a.w record_parts s t (omega arith) (omega (arith, length-record_parts a.w))

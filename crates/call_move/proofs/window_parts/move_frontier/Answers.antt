@@ -6,14 +6,6 @@ use Rattle.call_move.proofs.WindowSteps.{frontier_counts, frontier_written}
 use Rattle.std.proofs.Common.{rules}
 use Rattle.call_move.proofs.window_parts.move_frontier.Goals as goal
 
-pub move_counts-requires-clause-width : goal.move_counts-requires-clause-width
-unfolding frontier_length
-move_counts-requires-clause-width c = search rules
-
-pub move_counts-requires-clause-width_2 : goal.move_counts-requires-clause-width_2
-unfolding frontier_length
-move_counts-requires-clause-width_2 c = search rules
-
 pub move_counts-requires-clause-v_in_bounds : goal.move_counts-requires-clause-v_in_bounds
 unfolding frontier_length
 move_counts-requires-clause-v_in_bounds c = search rules
@@ -36,5 +28,6 @@ copy_eights-requires c = search rules
 pub returns : goal.returns
 returns c =
     let a = c.args in
+    let rest = rw (c.bytes.ensures.value, c.bytes-2.ensures.value) at c.copy_eights.ensures in
     frontier_written a.v a.w a.window.now a.from a.target.now _ _ a.to
-    c.move_counts.ensures c.copy_eights.ensures
+    c.move_counts.ensures rest

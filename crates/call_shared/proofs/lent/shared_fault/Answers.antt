@@ -1,38 +1,43 @@
--- Each return is a number's turn.
-use native.Mathlib.Omega.{arith}
-use mathlib.Core.Path.{◌≡◌, sym, ◌∙◌}
+-- Each return is a refusal's turn.
+use mathlib.Core.Path.{◌≡◌, sym}
 use mathlib.Core.Bool.{false}
-use lib.ListN.{length}
-use borrow.Author.Tests.{eq-eqb, ne_eqb}
-use Rattle.pool.specs.Pool.{bad_pool_length}
+use lib.Dec.{eqb}
+use borrow.Author.Tests.{tests, ne_eqb}
+use Rattle.std.proofs.Common.{rules, Err, true≢false}
+use Rattle.numbers.specs.RefusalNumber.{refused}
+use Rattle.numbers.specs.declared.refusal.Refusal.TheVariants.{Length}
 use Rattle.pool.specs.PoolLaws.{length_right}
 use Rattle.call_shared.specs.SharedCode.{shared_fault}
+use Rattle.call_shared.proofs.FaultSteps.{only_length}
 use Rattle.call_shared.proofs.lent.shared_fault.Goals as goal
-use Rattle.call_shared.proofs.lent.shared_fault.Goals.{Else-bad_pool_length}
+use Rattle.call_shared.proofs.lent.shared_fault.Goals.{Else-eq}
 
-pub returns-then-plain-eq-LENGTH : goal.returns-then-plain-eq-LENGTH
+-- The plain refusal is not 6.
+other : (c : Else-eq) → eqb (refused c.args.plain) 6 ≡ false
+other c =
+    ne_eqb _ _ (λ six.
+    let plain = only_length c.args.plain six in
+    true≢false (sym (rw plain at c.if-eq.ensures)))
+
+pub returns-then-eq : goal.returns-then-eq
 unfolding shared_fault
-returns-then-plain-eq-LENGTH c =
-    let six : c.args.plain ≡ 6 = omega (arith, c.if-plain-eq-LENGTH.true) in rw (eq-eqb _ _ six) six
+returns-then-eq c = let plain : c.args.plain ≡ Err Length = search (rules, tests) in rw plain
 
--- The tests that let the call pass.
-long_passed : (c : Else-bad_pool_length) → bad_pool_length (length c.args.pool.now) ≡ false
-long_passed c = sym c.bad_pool_length.ensures ∙ c.if-bad_pool_length.false
-
+-- The rest is left to the search, so that another result than the one wanted is refused for what it is.
 pub returns-then-bad_pool_length : goal.returns-then-bad_pool_length
 unfolding shared_fault
 returns-then-bad_pool_length c =
-    rw (ne_eqb _ _ c.if-plain-eq-LENGTH.false, sym c.bad_pool_length.ensures ∙ c.if-bad_pool_length.true)
+    rw (other (goal.at.returns-then-bad_pool_length c).Else-eq, sym c.if-bad_pool_length.ensures) (search rules)
 
 pub no_share-requires : goal.no_share-requires
-no_share-requires c = length_right _ (long_passed (goal.at.no_share-requires c).Else-bad_pool_length)
+no_share-requires c = length_right _ (sym c.if-bad_pool_length.ensures)
 
 pub returns-then-no_share : goal.returns-then-no_share
 unfolding shared_fault
 returns-then-no_share c =
-    rw (ne_eqb _ _ c.if-plain-eq-LENGTH.false, long_passed (goal.at.returns-then-no_share c).Else-bad_pool_length, sym c.no_share.ensures ∙ c.if-no_share.true)
+    rw (other (goal.at.returns-then-no_share c).Else-eq, sym c.if-bad_pool_length.ensures, sym c.if-no_share.ensures)
+    (search rules)
 
 pub returns : goal.returns
 unfolding shared_fault
-returns c =
-    rw (ne_eqb _ _ c.if-plain-eq-LENGTH.false, long_passed (goal.at.returns c).Else-bad_pool_length, sym c.no_share.ensures ∙ c.if-no_share.false)
+returns c = rw (other (goal.at.returns c).Else-eq, sym c.if-bad_pool_length.ensures, sym c.if-no_share.ensures)

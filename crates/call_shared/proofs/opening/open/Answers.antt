@@ -5,29 +5,22 @@ use mathlib.Core.Path.{◌≡◌, sym, ◌∙◌}
 use lib.ListN.{length}
 use Rattle.answers.specs.Answer.{reply_word}
 use Rattle.call_open.specs.Open.{open_call}
-use Rattle.call_open.specs.OpenCode.{open_fault}
-use Rattle.call_shared.specs.SharedCode.{shared_fault}
+use Rattle.numbers.specs.RefusalNumber.{number_of}
+use Rattle.numbers.specs.RefusalLaws.{some_number}
 use Rattle.call_shared.specs.SettledLaws.{Made, made_pool, made_few, open_settled}
 use Rattle.call_shared.proofs.CallSteps.{OpenPassed, open_turned, open_passed}
 use Rattle.std.proofs.Common.{rules}
 use Rattle.call_shared.proofs.opening.open.Goals as goal
-use Rattle.call_shared.proofs.opening.open.Goals.{After-open-reply, After-shared_fault-fault, Else-fault-ne0}
+use Rattle.call_shared.proofs.opening.open.Goals.{After-open-reply, In_default}
 
 -- ---- What is known there
 
-number_is : (c : After-shared_fault-fault) → let a = c.args in
-    c.shared_fault-fault.result
-    ≡ shared_fault (open_fault a.w a.k a.labels (length a.«record».now) (length a.window.now))
-    a.pool.now a.number
-number_is c = rw (← c.open_fault-plain.ensures) c.shared_fault-fault.ensures
-
-known : (c : Else-fault-ne0) → let a = c.args in
-    OpenPassed a.w a.rule.now a.k a.labels a.«record».now a.window.now a.pool.now
-    a.number
+known : (c : In_default) → let a = c.args in
+    OpenPassed a.w a.rule.now a.k a.labels a.«record».now a.window.now a.pool.now a.number
 known c =
     let a = c.args in
-    open_passed a.w a.rule.now a.k a.labels a.«record».now a.window.now a.pool.now
-    a.number (sym (number_is (goal.at.Else-fault-ne0 c).After-shared_fault-fault) ∙ c.if-fault-ne0.false)
+    open_passed a.w a.rule.now a.k a.labels a.«record».now a.window.now a.pool.now a.number
+    (sym (rw (← (rw c.of.ensures at c.open_fault-plain.ensures)) c.in_default.ensures))
 
 made : (c : After-open-reply) → let a = c.args in
     let call = open_call a.w a.rule.now a.k a.labels a.«record».now a.window.now in
@@ -47,82 +40,44 @@ record_stays c = search rules
 
 -- ---- The goals
 
-pub returns-then-fault-ne0-clause-reply : goal.returns-then-fault-ne0-clause-reply
+pub returns-in-Err : goal.returns-in-Err
 unfolding reply_word
-returns-then-fault-ne0-clause-reply c =
+returns-in-Err c =
     let a = c.args in
+    let refusal = c.in-Err.refusal in
     let whole =
-    open_turned a.w a.rule.now a.k a.labels a.«record».now a.window.now a.pool.now
-    a.number c.shared_fault-fault.result (number_is (goal.at.returns-then-fault-ne0-clause-reply c).After-shared_fault-fault) c.if-fault-ne0.true in
-    rw whole (omega arith)
-
-pub returns-then-fault-ne0-clause-bytes : goal.returns-then-fault-ne0-clause-bytes
-unfolding reply_word
-returns-then-fault-ne0-clause-bytes c =
-    let a = c.args in
-    let whole =
-    open_turned a.w a.rule.now a.k a.labels a.«record».now a.window.now a.pool.now
-    a.number c.shared_fault-fault.result (number_is (goal.at.returns-then-fault-ne0-clause-bytes c).After-shared_fault-fault) c.if-fault-ne0.true in
-    rw whole
-
-pub returns-then-fault-ne0-clause-window : goal.returns-then-fault-ne0-clause-window
-unfolding reply_word
-returns-then-fault-ne0-clause-window c =
-    let a = c.args in
-    let whole =
-    open_turned a.w a.rule.now a.k a.labels a.«record».now a.window.now a.pool.now
-    a.number c.shared_fault-fault.result (number_is (goal.at.returns-then-fault-ne0-clause-window c).After-shared_fault-fault) c.if-fault-ne0.true in
-    rw whole
-
-pub returns-then-fault-ne0-clause-pool : goal.returns-then-fault-ne0-clause-pool
-unfolding reply_word
-returns-then-fault-ne0-clause-pool c =
-    let a = c.args in
-    let whole =
-    open_turned a.w a.rule.now a.k a.labels a.«record».now a.window.now a.pool.now
-    a.number c.shared_fault-fault.result (number_is (goal.at.returns-then-fault-ne0-clause-pool c).After-shared_fault-fault) c.if-fault-ne0.true in
-    rw whole
+    open_turned a.w a.rule.now a.k a.labels a.«record».now a.window.now a.pool.now a.number (number_of refusal)
+    (rw (← (rw c.of.ensures at c.open_fault-plain.ensures)) c.in-Err.ensures) (some_number refusal) in
+    record { reply = rw whole (omega (arith, c.into.ensures)); bytes = rw whole; window = rw whole; pool = rw whole }
 
 pub settle_pool-requires-clause-pool_len : goal.settle_pool-requires-clause-pool_len
 settle_pool-requires-clause-pool_len c =
-    let k = known (goal.at.settle_pool-requires-clause-pool_len c).Else-fault-ne0 in
+    let k = known (goal.at.settle_pool-requires-clause-pool_len c).In_default in
     k.pool_long
 
 pub settle_pool-requires-clause-i_lt_most_members : goal.settle_pool-requires-clause-i_lt_most_members
 settle_pool-requires-clause-i_lt_most_members c =
-    let k = known (goal.at.settle_pool-requires-clause-i_lt_most_members c).Else-fault-ne0 in
+    let k = known (goal.at.settle_pool-requires-clause-i_lt_most_members c).In_default in
     omega (arith, k.member)
 
 pub settle_pool-requires-clause-in_bounds : goal.settle_pool-requires-clause-in_bounds
 settle_pool-requires-clause-in_bounds c =
-    let k = known (goal.at.settle_pool-requires-clause-in_bounds c).Else-fault-ne0 in
+    let k = known (goal.at.settle_pool-requires-clause-in_bounds c).In_default in
     let long : 8 ≤ length c.open-reply.new.«record» = omega (arith, record_stays (goal.at.settle_pool-requires-clause-in_bounds c).After-open-reply, k.long) in
     long
 
 pub settle_pool-requires-clause-record_bound : goal.settle_pool-requires-clause-record_bound
 settle_pool-requires-clause-record_bound c = made_few _ _ _ _ (made (goal.at.settle_pool-requires-clause-record_bound c).After-open-reply)
 
-pub returns-clause-reply : goal.returns-clause-reply
-returns-clause-reply c =
-    let whole = (known (goal.at.returns-clause-reply c).Else-fault-ne0).whole in
-    let e = c.open-reply.ensures in
-    rw whole e.reply
-
-pub returns-clause-bytes : goal.returns-clause-bytes
-returns-clause-bytes c =
-    let whole = (known (goal.at.returns-clause-bytes c).Else-fault-ne0).whole in
-    let e = c.open-reply.ensures in
-    rw whole e.bytes
-
-pub returns-clause-window : goal.returns-clause-window
-returns-clause-window c =
-    let whole = (known (goal.at.returns-clause-window c).Else-fault-ne0).whole in
-    let e = c.open-reply.ensures in
-    rw whole e.window
-
-pub returns-clause-pool : goal.returns-clause-pool
-returns-clause-pool c =
+pub returns : goal.returns
+returns c =
     let a = c.args in
-    let whole = (known (goal.at.returns-clause-pool c).Else-fault-ne0).whole in
-    let pool = made_pool _ _ _ _ (made (goal.at.returns-clause-pool c).After-open-reply) a.pool.now a.number in
-    rw whole (c.settle_pool.ensures ∙ pool)
+    let whole = (known (goal.at.returns c).In_default).whole in
+    let e = c.open-reply.ensures in
+    let pool = made_pool _ _ _ _ (made (goal.at.returns c).After-open-reply) a.pool.now a.number in
+    record {
+      reply = rw whole e.reply;
+      bytes = rw whole e.bytes;
+      window = rw whole e.window;
+      pool = rw whole (c.settle_pool.ensures ∙ pool);
+    }

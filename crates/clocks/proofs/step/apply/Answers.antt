@@ -1,27 +1,16 @@
-use mathlib.Core.Path.{◌≡◌, ap, ◌∙◌}
-use mathlib.Core.Bool.{Bool, cond}
+-- A ready event's own count is one more than the cut's.
+use Rattle.std.proofs.Common.{cond, ◌∙◌, rules}
 use Rattle.clocks.specs.Counts.{at}
-use Rattle.clocks.specs.Event.{apply, involved, count}
-use Rattle.clocks.specs.stored.CountsLaws.{filled, fill_next}
+use Rattle.clocks.specs.Event.{involved, count}
+use Rattle.clocks.specs.stored.CallLaws.{made_called}
+use Rattle.clocks.specs.stored.CountsLaws.{list_of-same}
 use Rattle.clocks.specs.stored.StepCountLaws.{apply-ready}
-use Rattle.std.proofs.Common.{rules}
 use Rattle.clocks.proofs.step.apply.Goals as goal
-use Rattle.clocks.proofs.step.apply.Goals.{After-chosen}
-
--- What is stored is the count after the event.
-stored : (c : After-chosen) → c.chosen.result ≡ apply c.args.e (at c.args.counts) c.loop-p.p
-unfolding involved count
-stored c =
-    let a = c.args in
-    let p = c.loop-p.p in
-    c.chosen.ensures
-    ∙ ap (λ (b : Bool). cond b (at a.e.clock p) (at a.counts p)) c.has_bit.ensures
-    ∙ apply-ready 8 a.e (at a.counts) c.requires p (search rules)
-
-pub loop-p-preserved : goal.loop-p-preserved
-loop-p-preserved c =
-    let l = c.loop-p in
-    (search rules, search rules, fill_next _ 0 l.out l.p c.chosen.result (search rules) (stored (goal.at.loop-p-preserved c).After-chosen) l.invariant.2)
 
 pub returns : goal.returns
-returns c = filled 8 _ 0 c.loop-p.out (search rules) (λ q l. c.loop-p.invariant.2 q (search rules))
+unfolding involved count
+returns c =
+    let e = c.args.e in
+    let S = at c.args.counts in
+    made_called (λ p. cond (involved e p) (count e p) (S p)) _ 8 0 c.from_fn.result c.from_fn.ensures.items (λ p y q l k. search rules)
+    ∙ list_of-same 8 _ _ (apply-ready 8 e S c.requires)

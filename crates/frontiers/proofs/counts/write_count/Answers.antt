@@ -10,8 +10,8 @@ overflow_cast-c c =
     let fits : c.args.c < 256 ^ 2 = rw two at c.requires.c_bound in
     record { fits = fits }
 
-pub returns-then-w-eq2 : goal.returns-then-w-eq2
-returns-then-w-eq2 c = cc
+pub returns-then-bytes-eq2 : goal.returns-then-bytes-eq2
+returns-then-bytes-eq2 c = cc
 
-pub returns-else-w-eq2 : goal.returns-else-w-eq2
-returns-else-w-eq2 c = let four : c.args.w ≡ 4 = omega arith in cc
+pub returns-else-bytes-eq2 : goal.returns-else-bytes-eq2
+returns-else-bytes-eq2 c = let four : c.args.w ≡ 4 = omega arith in cc

@@ -1,16 +1,11 @@
-use Prim.Native.Nat.{◌<◌}
-use native.Mathlib.Omega.{arith}
-use mathlib.Core.Path.{◌≡◌}
-use lib.ListN.{length}
-use Rattle.frontiers.specs.StoreLaws.{sets_more}
-use Rattle.std.proofs.Common.{rules}
+-- The copied part stands in the place of as many bytes: the law `sets_part`.
+use Rattle.std.proofs.Common.{◌≡◌, ◌+◌, ◌-◌, arith, take, length-take-le}
+use Rattle.codec.specs.SetsLaws.{sets_part}
 use Rattle.frontiers.proofs.moving.copy_in.Goals as goal
 
-pub loop-i-preserved : goal.loop-i-preserved
-loop-i-preserved c =
-    let a = c.args in
-    let l : c.loop-i.i < length a.from.now = omega arith in
-    (search rules, search rules, cc (sets_more a.s.now a.place a.from.now c.loop-i.i l))
-
 pub returns : goal.returns
-returns c = let all : c.loop-i.i ≡ c.args.n = omega arith in cc
+returns c =
+    let a = c.args in
+    let n : a.place + a.n - a.place ≡ a.n = omega arith in
+    rw (n, c.copy_from_slice.ensures.after)
+    (sets_part a.s.now a.place a.n (take a.n a.from.now) (length-take-le a.n a.from.now c.requires.n_in_bounds_2) c.requires.n_in_bounds)

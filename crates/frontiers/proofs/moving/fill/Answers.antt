@@ -1,13 +1,12 @@
-use native.Mathlib.Omega.{arith}
-use mathlib.Core.Path.{◌≡◌}
-use Rattle.frontiers.proofs.moving.MovingSteps.{fill_next}
-use Rattle.std.proofs.Common.{rules}
+-- So many bytes stand in the place of as many: the law `sets_part`.
+use Rattle.std.proofs.Common.{◌≡◌, ◌+◌, ◌-◌, arith, rules, replicate}
+use Rattle.std.proofs.lemmas.List.{length-replicate}
+use Rattle.codec.specs.SetsLaws.{sets_part}
 use Rattle.frontiers.proofs.moving.fill.Goals as goal
 
-pub loop-i-preserved : goal.loop-i-preserved
-loop-i-preserved c =
-    let a = c.args in
-    (search rules, search rules, cc (fill_next a.s.now a.from c.loop-i.i a.byte))
-
 pub returns : goal.returns
-returns c = let all : c.loop-i.i ≡ c.args.n = omega arith in cc
+returns c =
+    let a = c.args in
+    let n : a.from + a.n - a.from ≡ a.n = omega arith in
+    let filled : c.fill.new.self ≡ replicate a.n a.byte = search rules in
+    rw (n, filled) (sets_part a.s.now a.from a.n (replicate a.n a.byte) (length-replicate a.n a.byte) c.requires)

@@ -4,14 +4,14 @@ use mathlib.Core.Path.{◌≡◌}
 use Rattle.frontiers.specs.Bytes.{frontier_length}
 use Rattle.frontiers.proofs.place.frontier_place.Goals as goal
 
-pub returns-then-w-eq2 : goal.returns-then-w-eq2
+pub returns-then-bytes-eq2 : goal.returns-then-bytes-eq2
 unfolding frontier_length
-returns-then-w-eq2 c =
+returns-then-bytes-eq2 c =
     let two : c.args.w ≡ 2 = omega arith in
     (rw two, omega arith)
 
-pub returns-else-w-eq2 : goal.returns-else-w-eq2
+pub returns-else-bytes-eq2 : goal.returns-else-bytes-eq2
 unfolding frontier_length
-returns-else-w-eq2 c =
+returns-else-bytes-eq2 c =
     let four : c.args.w ≡ 4 = omega arith in
     (rw four, omega arith)

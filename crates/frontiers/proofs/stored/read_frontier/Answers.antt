@@ -3,17 +3,17 @@ use Rattle.frontiers.specs.Bytes.{frontier_length, frontier_from}
 use Rattle.std.proofs.Common.{rules}
 use Rattle.frontiers.proofs.stored.read_frontier.Goals as goal
 
-pub read_counts-counts-requires : goal.read_counts-counts-requires
+pub read_counts-requires : goal.read_counts-requires
 unfolding frontier_length
-read_counts-counts-requires c = search rules
+read_counts-requires c = search rules
 
-pub read_eight-labels-requires : goal.read_eight-labels-requires
+pub read_eight-requires : goal.read_eight-requires
 unfolding frontier_length
-read_eight-labels-requires c = search rules
+read_eight-requires c = search rules
 
-pub read_eight-masks-requires : goal.read_eight-masks-requires
+pub read_eight-requires-2 : goal.read_eight-requires-2
 unfolding frontier_length
-read_eight-masks-requires c = search rules
+read_eight-requires-2 c = search rules
 
 pub returns : goal.returns
 unfolding frontier_from

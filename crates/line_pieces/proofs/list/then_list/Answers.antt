@@ -1,28 +1,12 @@
 -- The byte decides, as the definition says.
-use borrow.Author.Tests.{eq-eqb, ne_eqb}
+use Rattle.std.proofs.Common.{sym, ◌∙◌}
 use Rattle.line_pieces.specs.NumberList.{then_list}
 use Rattle.line_pieces.proofs.list.then_list.Goals as goal
 
-pub returns-then-byte_at-eq41 : goal.returns-then-byte_at-eq41
+pub returns-then-has_byte : goal.returns-then-has_byte
 unfolding then_list
-returns-then-byte_at-eq41 c =
-    rw (
-      c.in-At.is,
-      ← c.byte_at.ensures,
-      eq-eqb _ _
-          c.if-byte_at-eq41.true,
-    ) c.no_numbers.ensures
+returns-then-has_byte c = rw (sym c.has_byte.ensures.value ∙ c.if-has_byte.true) c.no_numbers.ensures
 
-pub returns-else-byte_at-eq41 : goal.returns-else-byte_at-eq41
+pub returns : goal.returns
 unfolding then_list
-returns-else-byte_at-eq41 c =
-    rw (
-      c.in-At.is,
-      ← c.byte_at.ensures,
-      ne_eqb _ _
-          c.if-byte_at-eq41.false,
-    ) c.read_numbers.ensures
-
-pub returns-in-Refused : goal.returns-in-Refused
-unfolding then_list
-returns-in-Refused c = rw c.in-Refused.is c.no_numbers-in-Refused.ensures
+returns c = rw (sym c.has_byte.ensures.value ∙ c.if-has_byte.false) c.read_numbers.ensures

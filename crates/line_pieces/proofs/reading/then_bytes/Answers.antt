@@ -1,22 +1,25 @@
-use mathlib.Core.Path.{refl, sym, ◌∙◌}
-use Rattle.line_pieces.proofs.reading.ReadingSteps.{then_bytes_next, then_bytes-end}
-use Rattle.std.proofs.Common.{rules}
+use Rattle.std.proofs.Common.{sym, ◌∙◌}
+use Rattle.std.proofs.lemmas.Result.{err_from_is_err_and}
+use Rattle.line_pieces.proofs.reading.ReadingSteps.{then_bytes_next, then_bytes-end, then_bytes-refused}
 use Rattle.line_pieces.proofs.reading.then_bytes.Goals as goal
 
-pub loop-i-init : goal.loop-i-init
-loop-i-init c = (search rules, refl)
-
-pub loop-i-preserved : goal.loop-i-preserved
-loop-i-preserved c =
+pub returns-in_err-read : goal.returns-in_err-read
+returns-in_err-read c =
     let a = c.args in
-    let l = c.loop-i in (
-      search rules,
-      rw c.then_byte-read.ensures
-          (l.invariant.1 ∙ then_bytes_next a.line.now a.bytes.now l.i l.read c.loop-i-test.true),
-    )
+    let l = c.loop-b in
+    let p = err_from_is_err_and c.from_residual.result c.from_residual.ensures.1 in
+    rw (p.1, p.2)
+    (sym (l.invariant ∙ then_bytes_next a.line.now a.bytes.now l.b-index _ c.loop-b-test.true
+    ∙ rw (← c.in_err-read.ensures) (then_bytes-refused a.line.now _ _ _)))
+
+pub loop-b-preserved : goal.loop-b-preserved
+loop-b-preserved c =
+    let a = c.args in
+    let l = c.loop-b in
+    l.invariant ∙ then_bytes_next a.line.now a.bytes.now l.b-index _ c.loop-b-test.true ∙ rw c.in_ok-read.ensures
 
 pub returns : goal.returns
 returns c =
     let a = c.args in
-    let l = c.loop-i in
-    sym (l.invariant.1 ∙ then_bytes-end a.line.now a.bytes.now l.i l.read c.loop-i-test.false)
+    let l = c.loop-b in
+    sym (l.invariant ∙ then_bytes-end a.line.now a.bytes.now l.b-index _ c.loop-b-test.false)

@@ -1,44 +1,38 @@
--- The answer on the text decides; an accepted text is not empty, so the line has a last byte behind it.
-use native.Mathlib.Omega.{arith}
-use mathlib.Core.Path.{sym, ◌∙◌}
-use borrow.Author.Tests.{eq-eqb, ne_eqb}
-use Rattle.lines.proofs.rule.RuleSteps.{closed_refused, closed_accepted, closed_short}
+-- The answer on the rule's bytes decides; those that are accepted are some, so the line has a last byte after them.
+use Rattle.std.proofs.Common.{sym, refl, ◌∙◌, arith}
+use Rattle.lines.specs.LinesCode.{rule_line_of}
+use Rattle.lines.proofs.LineSteps.{fault_kept}
+use Rattle.lines.proofs.rule.RuleSteps.{text_answer, closed_refused, closed_accepted, accepted_long}
 use Rattle.lines.proofs.rule.closed.Goals as goal
 
-pub returns-then-line-lt7-clause-value : goal.returns-then-line-lt7-clause-value
-returns-then-line-lt7-clause-value c =
-    sym (closed_short c.args.line.now
-    c.args.k c.if-line-lt7.true)
+pub returns-in_err-read_rule-clause-value : goal.returns-in_err-read_rule-clause-value
+returns-in_err-read_rule-clause-value c =
+    let s = c.args.line.now in
+    fault_kept rule_line_of _ _ c.from_residual.ensures.1
+    (closed_refused s c.args.k _ _ (c.in_err-read_rule.ensures.value ∙ text_answer s _ _ _ c.text.ensures refl))
 
-pub returns-then-line-lt7-clause-rule_within : goal.returns-then-line-lt7-clause-rule_within
-returns-then-line-lt7-clause-rule_within c = tt
+pub overflow_sub-end : goal.overflow_sub-end
+overflow_sub-end c =
+    let s = c.args.line.now in
+    let answer = text_answer s _ c.args.k _ c.text.ensures refl in
+    let long = accepted_long s c.args.k _ (c.in_ok-read_rule.ensures.value ∙ answer) in
+    omega (arith, long)
 
-pub returns-then-byte_at-ne41-clause-value : goal.returns-then-byte_at-ne41-clause-value
-returns-then-byte_at-ne41-clause-value c =
-    let a = c.args in
-    sym (closed_accepted a.line.now a.k _
-    (sym c.read_text-read.ensures
-    ∙ c.in-Accepted.is)
-    ∙ rw (← c.byte_at.ensures, ne_eqb _ _ c.if-byte_at-ne41.true))
+pub returns-then-not-has_byte-clause-value : goal.returns-then-not-has_byte-clause-value
+returns-then-not-has_byte-clause-value c =
+    let s = c.args.line.now in
+    sym (closed_accepted s c.args.k _ (c.in_ok-read_rule.ensures.value ∙ text_answer s _ _ _ c.text.ensures refl)
+    ∙ rw (sym c.has_byte.ensures.value ∙ c.if-not-has_byte.true))
 
-pub returns-then-byte_at-ne41-clause-rule_within : goal.returns-then-byte_at-ne41-clause-rule_within
-returns-then-byte_at-ne41-clause-rule_within c = tt
+pub returns-clause-value : goal.returns-clause-value
+returns-clause-value c =
+    let s = c.args.line.now in
+    sym (closed_accepted s c.args.k _ (c.in_ok-read_rule.ensures.value ∙ text_answer s _ _ _ c.text.ensures refl)
+    ∙ rw (sym c.has_byte.ensures.value ∙ c.if-not-has_byte.false))
 
-pub returns-in-Refused-clause-value : goal.returns-in-Refused-clause-value
-returns-in-Refused-clause-value c =
-    let a = c.args in
-    sym (closed_refused a.line.now a.k _ _
-    (sym c.read_text-read.ensures ∙ c.in-Refused.is))
-
-pub returns-in-Refused-clause-rule_within : goal.returns-in-Refused-clause-rule_within
-returns-in-Refused-clause-rule_within c = tt
-
-pub returns-else-byte_at-ne41-clause-value : goal.returns-else-byte_at-ne41-clause-value
-returns-else-byte_at-ne41-clause-value c =
-    let a = c.args in
-    sym (closed_accepted a.line.now a.k _
-    (sym c.read_text-read.ensures
-    ∙ c.in-Accepted.is) ∙ rw (← c.byte_at.ensures, eq-eqb _ _ c.if-byte_at-ne41.false))
-
-pub returns-else-byte_at-ne41-clause-rule_within : goal.returns-else-byte_at-ne41-clause-rule_within
-returns-else-byte_at-ne41-clause-rule_within c = (omega (arith, c.if-line-lt7.false), omega arith)
+pub returns-clause-rule_within : goal.returns-clause-rule_within
+returns-clause-rule_within c =
+    let s = c.args.line.now in
+    let answer = text_answer s _ c.args.k _ c.text.ensures refl in
+    let long = accepted_long s c.args.k _ (c.in_ok-read_rule.ensures.value ∙ answer) in
+    (omega (arith, long), omega arith)

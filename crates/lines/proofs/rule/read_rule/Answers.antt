@@ -1,29 +1,17 @@
 -- The head decides first, then the rule and the last byte.
 use Rattle.lines.specs.Lines.{rule_of, rule_line}
+use Rattle.lines.specs.LinesCode.{rule_line_of}
+use Rattle.lines.proofs.LineSteps.{fault_kept}
+use Rattle.lines.proofs.rule.RuleSteps.{head_limited}
 use Rattle.lines.proofs.rule.read_rule.Goals as goal
 
-pub returns-in-At-clause-value : goal.returns-in-At-clause-value
+pub returns-in_err-limited-clause-value : goal.returns-in_err-limited-clause-value
 unfolding rule_of rule_line
-returns-in-At-clause-value c =
-    rw (
-      ← c.head.ensures,
-      ← c.limited-first.ensures,
-      c.in-At.is,
-    ) c.closed.ensures.value
+returns-in_err-limited-clause-value c =
+    fault_kept rule_line_of _ _ c.from_residual.ensures.1
+    (rw (← head_limited c.args.line.now _ _ c.head.ensures c.in_err-limited.ensures))
 
-pub returns-in-At-clause-rule_within : goal.returns-in-At-clause-rule_within
+pub returns-clause-value : goal.returns-clause-value
 unfolding rule_of rule_line
-returns-in-At-clause-rule_within c = c.closed.ensures.rule_within
-
-pub returns-in-Refused-clause-value : goal.returns-in-Refused-clause-value
-unfolding rule_of rule_line
-returns-in-Refused-clause-value c =
-    rw (
-      ← c.head.ensures,
-      ← c.limited-first.ensures,
-      c.in-Refused.is,
-    )
-
-pub returns-in-Refused-clause-rule_within : goal.returns-in-Refused-clause-rule_within
-unfolding rule_of rule_line
-returns-in-Refused-clause-rule_within c = tt
+returns-clause-value c =
+    rw (← head_limited c.args.line.now _ _ c.head.ensures c.in_ok-limited.ensures) c.closed.ensures.value

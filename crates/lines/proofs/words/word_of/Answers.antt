@@ -1,48 +1,40 @@
-use native.Mathlib.Omega.{arith}
-use mathlib.Core.Path.{◌≡◌, sym}
-use Prim.Native.Nat.{◌-◌}
-use lib.ListN.{length, get_or}
-use Rattle.lines.proofs.words.WordSteps.{word_fits, word_next, word_none}
-use Rattle.std.proofs.Common.{rules}
+use Rattle.std.proofs.Common.{refl, arith}
+use Rattle.std.proofs.lemmas.List.{reverse-reverse}
+use Rattle.std.proofs.lemmas.Iterator.Adapters.{YieldsList-from_rev_slice}
+use Rattle.std.proofs.lemmas.Iterator.Consumers.{YieldsList-turn, YieldsList-end}
+use Rattle.lines.specs.Words.{packed_word}
+use Rattle.lines.proofs.words.WordSteps.{word_fits, word_next}
 use Rattle.lines.proofs.words.word_of.Goals as goal
 
-pub loop-i-init : goal.loop-i-init
-loop-i-init c = (c.requires.1.0, (search rules, word_none c.args.base c.args.values c.args.to))
-
-pub overflow_mul-w : goal.overflow_mul-w
-overflow_mul-w c =
+pub overflow_mul-word : goal.overflow_mul-word
+overflow_mul-word c =
     let a = c.args in
-    let p = c.requires in
-    let l = c.loop-i in
-    omega (
-      arith,
-      (word_fits a.base a.from a.to l.i (get_or a.values (l.i - 1) 0) l.w a.values p.0
-          c.loop-i-test.true l.invariant.1.0 p.1.1.1 l.invariant.1.1).0,
-    )
+    let l = c.loop-v in
+    let t = YieldsList-turn (YieldsList-from_rev_slice a.values.now cc) l.yielded _ l.yielded_by _ _ c.in-Some.field-0
+    c.in-Some.is c.next.ensures.steps in
+    let fits = word_fits a.base 0 l.word a.values.now l.yielded c.requires.some c.requires.room t.0 l.invariant in
+    omega (arith, fits.0)
 
-pub overflow_add-w : goal.overflow_add-w
-overflow_add-w c =
+pub overflow_add-word : goal.overflow_add-word
+overflow_add-word c =
     let a = c.args in
-    let p = c.requires in
-    let l = c.loop-i in
-    omega (
-      arith,
-      (word_fits a.base a.from a.to l.i (get_or a.values (l.i - 1) 0) l.w a.values p.0
-          c.loop-i-test.true l.invariant.1.0 p.1.1.1 l.invariant.1.1).1,
-    )
+    let l = c.loop-v in
+    let v = c.in-Some.field-0 in
+    let t = YieldsList-turn (YieldsList-from_rev_slice a.values.now cc) l.yielded _ l.yielded_by _ _ v c.in-Some.is
+    c.next.ensures.steps in
+    let fits = word_fits a.base v.now l.word a.values.now l.yielded c.requires.some c.requires.room t.0 l.invariant in
+    omega (arith, fits.1)
 
-pub loop-i-preserved : goal.loop-i-preserved
-loop-i-preserved c =
-    let a = c.args in
-    let p = c.requires in
-    let l = c.loop-i in
-    let long : length a.values ≡ 8 = search rules in
-    let next = word_next a.base a.values l.i a.to (omega (arith, c.loop-i-test.true)) l.invariant.1.0
-    (omega (arith, l.invariant.1.0, p.1.1.0, long)) in
-    (omega (arith, c.loop-i-test.true), (omega (arith, l.invariant.1.0), rw l.invariant.1.1 (sym next)))
+pub loop-v-init : goal.loop-v-init
+unfolding packed_word
+loop-v-init c = refl
+
+pub loop-v-preserved : goal.loop-v-preserved
+loop-v-preserved c = word_next c.args.base _ c.loop-v.word c.loop-v.yielded c.loop-v.invariant c.in-Some.field-0 refl
 
 pub returns : goal.returns
 returns c =
-    let l = c.loop-i in
-    let e : l.i ≡ c.args.from = omega (arith, l.invariant.0, c.loop-i-test.false) in
-    rw (← e) l.invariant.1.1
+    let l = c.loop-v in
+    let t = YieldsList-end (YieldsList-from_rev_slice c.args.values.now cc) l.yielded _ l.yielded_by _ _ c.in-None.is
+    c.next.ensures.steps in
+    rw (l.invariant, t.0, reverse-reverse)

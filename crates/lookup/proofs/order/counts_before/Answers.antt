@@ -1,17 +1,21 @@
--- At the first difference the counts there decide; without one nothing stands before.
-use mathlib.Core.Path.{sym, ◌∙◌}
-use Rattle.lookup.specs.OrderLaws.{before-drop_other, before-drop-end}
-use Rattle.std.proofs.Common.{rules}
+use Rattle.std.proofs.Common.{sym, ◌∙◌, rules}
+use Rattle.lookup.specs.OrderLaws.{before-drop-equal, before-drop_other, before-drop-end}
 use Rattle.lookup.proofs.order.counts_before.Goals as goal
 
-pub returns-then-p-lt8 : goal.returns-then-p-lt8
-returns-then-p-lt8 c =
+pub returns-then-a-p : goal.returns-then-a-p
+returns-then-a-p c =
     let a = c.args in
-    let d = c.first_difference-p in
-    sym (d.ensures.before_there ∙ before-drop_other a.a a.b d.result (search rules) (search rules) (d.ensures.differs c.if-p-lt8.true))
+    let l = c.loop-p in
+    sym (l.invariant ∙ before-drop_other a.a a.b l.p (search rules) (search rules) c.if-a-p.true)
+
+pub loop-p-preserved : goal.loop-p-preserved
+loop-p-preserved c =
+    let a = c.args in
+    let l = c.loop-p in
+    l.invariant ∙ before-drop-equal a.a a.b l.p (search rules) (search rules) c.if-a-p.false
 
 pub returns : goal.returns
 returns c =
     let a = c.args in
-    let d = c.first_difference-p in
-    sym (d.ensures.before_there ∙ before-drop-end a.a a.b d.result (search rules))
+    let l = c.loop-p in
+    sym (l.invariant ∙ before-drop-end a.a a.b l.p (search rules))

@@ -5,8 +5,8 @@ use Rattle.lookup.proofs.seek.SeekSteps.{bisect-end_keys, bisect_step_keys}
 use Rattle.frontiers.specs.WindowLaws.{place-within}
 use Rattle.lookup.specs.Seek.{bisect, keys_of}
 use Rattle.frontiers.specs.Bytes.{frontiers}
-use Rattle.lookup.specs.declared.Standing.{Standing}
-use Rattle.lookup.specs.declared.Standing.TheVariants.{Before, Same, Behind}
+use Rattle.std.specs.declared.cmp.Ordering.{Ordering}
+use Rattle.std.specs.declared.cmp.Ordering.TheVariants.{Less, Equal, Greater}
 use Rattle.std.proofs.Common.{rules}
 use Rattle.lookup.proofs.seek.bisect.Goals as goal
 use Rattle.lookup.proofs.seek.bisect.Goals.{After-standing_at}
@@ -22,31 +22,31 @@ standing_at-requires-clause-w_in_bounds c =
     omega (arith, place-within (lo + (hi - lo) / 2) a.n a.w (omega arith))
 
 -- What a turn does, by how the middle stands to the key.
-turn : (c : After-standing_at) (b : Standing) → c.standing_at.result ≡ b → let a = c.args in
+turn : (c : After-standing_at) (b : Ordering) → c.standing_at.result ≡ b → let a = c.args in
     let lo = c.loop-lo.lo in
     let hi = c.loop-lo.hi in
     bisect (keys_of (frontiers a.w a.s.now a.n)) a.key a.n a.low a.high ≡ elim b [
-      | Before ↦ bisect (keys_of (frontiers a.w a.s.now a.n)) a.key a.n (lo + (hi - lo) / 2 + 1) hi
-      | Same ↦ lo + (hi - lo) / 2
-      | Behind ↦ bisect (keys_of (frontiers a.w a.s.now a.n)) a.key a.n lo (lo + (hi - lo) / 2)
+      | Less ↦ bisect (keys_of (frontiers a.w a.s.now a.n)) a.key a.n (lo + (hi - lo) / 2 + 1) hi
+      | Equal ↦ lo + (hi - lo) / 2
+      | Greater ↦ bisect (keys_of (frontiers a.w a.s.now a.n)) a.key a.n lo (lo + (hi - lo) / 2)
     ]
 turn c b q =
     let a = c.args in
     let l = c.loop-lo in
     l.invariant.1 ∙ bisect_step_keys a.w a.s.now a.n a.key l.lo l.hi (search rules) l.invariant.0 b (sym c.standing_at.ensures ∙ q)
 
-pub returns-in-Same : goal.returns-in-Same
-returns-in-Same c = sym (turn (goal.at.returns-in-Same c).After-standing_at Same c.in-Same.is)
+pub returns-in-Equal-clause-place : goal.returns-in-Equal-clause-place
+returns-in-Equal-clause-place c = sym (turn (goal.at.returns-in-Equal-clause-place c).After-standing_at Equal c.in-Equal.is)
 
-pub loop-lo-preserved-in-Before : goal.loop-lo-preserved-in-Before
-loop-lo-preserved-in-Before c =
-    (search rules, turn (goal.at.loop-lo-preserved-in-Before c).After-standing_at Before c.in-Before.is)
+pub loop-lo-preserved-in-Less : goal.loop-lo-preserved-in-Less
+loop-lo-preserved-in-Less c =
+    (search rules, turn (goal.at.loop-lo-preserved-in-Less c).After-standing_at Less c.in-Less.is)
 
 pub loop-lo-preserved : goal.loop-lo-preserved
-loop-lo-preserved c = (search rules, turn (goal.at.loop-lo-preserved c).After-standing_at Behind c.in-Behind.is)
+loop-lo-preserved c = (search rules, turn (goal.at.loop-lo-preserved c).After-standing_at Greater c.in-Greater.is)
 
-pub returns : goal.returns
-returns c =
+pub returns-clause-place : goal.returns-clause-place
+returns-clause-place c =
     let a = c.args in
     let l = c.loop-lo in
     sym (l.invariant.1 ∙ bisect-end_keys a.w a.s.now a.n a.key l.lo l.hi (search rules))

@@ -9,39 +9,35 @@ use Rattle.frontiers.specs.Bytes.{frontier_length}
 use Rattle.std.proofs.Common.{rules}
 use Rattle.lookup.proofs.seek.standing_at.Goals as goal
 
-pub read_count-count-requires-clause-width : goal.read_count-count-requires-clause-width
+pub read_count-count-requires : goal.read_count-count-requires
 unfolding frontier_length
-read_count-count-requires-clause-width c = search rules
-
-pub read_count-count-requires-clause-w_in_bounds : goal.read_count-count-requires-clause-w_in_bounds
-unfolding frontier_length
-read_count-count-requires-clause-w_in_bounds c =
+read_count-count-requires c =
     let a = c.args in
-    omega (arith, count-within c.loop-p.p 8 a.w (search rules))
+    omega (arith, count-within c.loop-wanted.wanted-index 8 a.w (search rules))
 
 pub returns-then-count-wanted : goal.returns-then-count-wanted
 returns-then-count-wanted c =
     let a = c.args in
-    let p = c.loop-p.p in
+    let p = c.loop-wanted.wanted-index in
     let read : c.read_count-count.result ≡ number a.s.now (a.i * frontier_length a.w + p * a.w) a.w = cc in
     let other = standing_other a.w a.s.now a.i a.key p (search rules) (search rules) (λ q. c.if-count-wanted.true (read ∙ q)) in
-    c.standing_of.ensures ∙ rw (read) (sym (c.loop-p.invariant.3 ∙ other))
+    c.cmp.ensures ∙ rw read (sym (c.loop-wanted.invariant.1 ∙ other))
 
-pub overflow_add-next : goal.overflow_add-next
+pub overflow_add-place : goal.overflow_add-place
 unfolding frontier_length
-overflow_add-next c =
+overflow_add-place c =
     let a = c.args in
-    record { fits = omega (arith, count-within c.loop-p.p 8 a.w (search rules)) }
+    record { fits = omega (arith, count-within c.loop-wanted.wanted-index 8 a.w (search rules)) }
 
-pub loop-p-preserved : goal.loop-p-preserved
-loop-p-preserved c =
+pub loop-wanted-preserved : goal.loop-wanted-preserved
+loop-wanted-preserved c =
     let a = c.args in
-    let p = c.loop-p.p in
+    let p = c.loop-wanted.wanted-index in
     let read : c.read_count-count.result ≡ number a.s.now (a.i * frontier_length a.w + p * a.w) a.w = cc in
-    (search rules, omega (arith, count_next p a.w), search rules, cc (standing-equal a.w a.s.now a.i a.key p (search rules) (search rules) (sym read ∙ c.if-count-wanted.false)))
+    (omega (arith, count_next p a.w), cc (standing-equal a.w a.s.now a.i a.key p (search rules) (search rules) (sym read ∙ c.if-count-wanted.false)))
 
 pub returns : goal.returns
 returns c =
     let a = c.args in
-    let all : c.loop-p.p ≡ 8 = omega arith in
-    cc (standing-end a.w a.s.now a.i a.key (search rules))
+    let all : c.loop-wanted.wanted-index ≡ 8 = omega arith in
+    sym (rw all at c.loop-wanted.invariant.1 ∙ standing-end a.w a.s.now a.i a.key (search rules))

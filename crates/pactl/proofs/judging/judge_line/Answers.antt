@@ -1,32 +1,35 @@
--- Each return is the definition under the tests of the kind.
-use borrow.Author.Tests.{eq-eqb, ne_eqb}
+-- Each arm is the definition under the tests of the kind.
+use Rattle.std.proofs.Common.{◌≢◌, arith, ne_eqb}
 use Rattle.pactl.specs.Judge.{judge_line}
 use Rattle.pactl.proofs.judging.judge_line.Goals as goal
 
-pub returns-then-kind-eq0 : goal.returns-then-kind-eq0
+pub returns-in-0 : goal.returns-in-0
 unfolding judge_line
-returns-then-kind-eq0 c = rw (eq-eqb _ _ c.if-kind-eq0.true) c.judge_proposition.ensures
+returns-in-0 c = rw c.in-0.is c.judge_proposition.ensures
 
-pub returns-then-kind-eq1 : goal.returns-then-kind-eq1
+pub returns-in-1 : goal.returns-in-1
 unfolding judge_line
-returns-then-kind-eq1 c = rw (ne_eqb _ _ c.if-kind-eq0.false, eq-eqb _ _ c.if-kind-eq1.true) c.judge_not.ensures
+returns-in-1 c = rw c.in-1.is c.judge_not.ensures
 
-pub returns-then-kind-eq2 : goal.returns-then-kind-eq2
+pub returns-in-2 : goal.returns-in-2
 unfolding judge_line
-returns-then-kind-eq2 c =
-    rw (ne_eqb _ _ c.if-kind-eq0.false, ne_eqb _ _ c.if-kind-eq1.false, eq-eqb _ _ c.if-kind-eq2.true) c.judge_and.ensures
+returns-in-2 c = rw c.in-2.is c.judge_and.ensures
 
-pub returns-then-kind-eq3 : goal.returns-then-kind-eq3
+pub returns-in-3 : goal.returns-in-3
 unfolding judge_line
-returns-then-kind-eq3 c =
-    rw (ne_eqb _ _ c.if-kind-eq0.false, ne_eqb _ _ c.if-kind-eq1.false, ne_eqb _ _ c.if-kind-eq2.false, eq-eqb _ _ c.if-kind-eq3.true) c.judge_ey.ensures
+returns-in-3 c = rw c.in-3.is c.judge_ey.ensures
 
-pub returns-then-kind-eq4 : goal.returns-then-kind-eq4
+pub returns-in-4 : goal.returns-in-4
 unfolding judge_line
-returns-then-kind-eq4 c =
-    rw (ne_eqb _ _ c.if-kind-eq0.false, ne_eqb _ _ c.if-kind-eq1.false, ne_eqb _ _ c.if-kind-eq2.false, ne_eqb _ _ c.if-kind-eq3.false, eq-eqb _ _ c.if-kind-eq4.true) c.judge_es.ensures
+returns-in-4 c = rw c.in-4.is c.judge_es.ensures
 
-pub returns : goal.returns
+pub returns-in_default : goal.returns-in_default
 unfolding judge_line
-returns c =
-    rw (ne_eqb _ _ c.if-kind-eq0.false, ne_eqb _ _ c.if-kind-eq1.false, ne_eqb _ _ c.if-kind-eq2.false, ne_eqb _ _ c.if-kind-eq3.false, ne_eqb _ _ c.if-kind-eq4.false) c.judge_as.ensures
+returns-in_default c =
+    let kind = c.args.line.kind in
+    let not_0 : kind ≢ 0 = omega arith in
+    let not_1 : kind ≢ 1 = omega arith in
+    let not_2 : kind ≢ 2 = omega arith in
+    let not_3 : kind ≢ 3 = omega arith in
+    let not_4 : kind ≢ 4 = omega arith in
+    rw (ne_eqb kind 0 not_0, ne_eqb kind 1 not_1, ne_eqb kind 2 not_2, ne_eqb kind 3 not_3, ne_eqb kind 4 not_4) c.judge_as.ensures

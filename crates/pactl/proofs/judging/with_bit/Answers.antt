@@ -19,7 +19,7 @@ pub overflow_add-result : goal.overflow_add-result
 overflow_add-result c =
     let a = c.args in
     let p : 2 ^ (a.i + 1) ≤ 2 ^ 64 = pow_mono {j = 64} (omega arith) in
-    omega (arith, with_shifted a.v a.i a.t (search rules), with_bit-lt a.v a.i a.t (search rules))
+    record { fits = rw c.from.ensures (omega (arith, with_shifted a.v a.i a.t (search rules), with_bit-lt a.v a.i a.t (search rules))) }
 
 pub returns : goal.returns
-returns c = with_shifted c.args.v c.args.i c.args.t (search rules)
+returns c = rw c.from.ensures (with_shifted c.args.v c.args.i c.args.t (search rules))

@@ -1,63 +1,36 @@
+-- The bytes before the first line feed go after the line's, as many as there is room for (`feed_found`, `as_many`).
 use native.Mathlib.Omega.{arith}
-use mathlib.Core.Path.{refl, sym, ◌∙◌}
-use mathlib.Core.List.{append-nil}
-use lib.Seq.{take_all, length-take-le}
-use lib.ListN.{length, take, length-set}
-use Rattle.program.proofs.SplitSteps.{unended_next, feed_here, feed_none, byte_kept, byte_passed}
+use mathlib.Core.Path.{◌≡◌, ap, ◌∙◌}
+use Prim.Native.Nat.{◌+◌, ◌-◌}
+use Rattle.std.proofs.lemmas.Grind.{common_steps}
+use Rattle.std.specs.Prelude.{is_some}
+use Rattle.answers.specs.Answer.{flag}
+use lib.ListN.{length, take}
+use Rattle.program.specs.Split.{up_to_feed, has_feed}
+use Rattle.program.proofs.TurnSteps.{laid_after}
+use Rattle.program.proofs.SplitSteps.{feed_found, feed_within, byte_flag, as_many}
 use Rattle.program.proofs.split.scan.Goals as goal
-
-pub loop-i-init : goal.loop-i-init
-loop-i-init c =
-    let a = c.args in (
-      omega arith,
-      omega arith,
-      refl,
-      record { before = refl; behind = refl },
-      rw (append-nil (take a.start a.line.now)) (sym (take_all (length a.line.now) (take a.start a.line.now) (omega (arith, length-take-le a.start a.line.now c.requires)))),
-    )
-
-pub returns-then-byte-eq10 : goal.returns-then-byte-eq10
-returns-then-byte-eq10 c =
-    let a = c.args in
-    let l = c.loop-i in
-    let f = feed_here a.bytes.now l.i (omega arith) c.if-byte-eq10.true l.invariant.3 in
-    record {
-      ended = sym f.0;
-      passed = rw (f.0, f.1) (omega (arith, length-take-le l.i a.bytes.now (omega arith)));
-      inside = (omega arith, omega arith);
-      laid = rw f.1 l.invariant.4;
-    }
-
-pub loop-i-preserved-then-kept-line : goal.loop-i-preserved-then-kept-line
-loop-i-preserved-then-kept-line c =
-    let a = c.args in
-    let l = c.loop-i in (
-      omega arith,
-      simp length-set (omega arith),
-      length-set l.line _ _ ∙ l.invariant.2,
-      unended_next a.bytes.now l.i (omega arith) c.if-byte-eq10.false l.invariant.3,
-      byte_kept l.line (take a.start a.line.now) a.bytes.now (length a.line.now) l.kept l.i (sym l.invariant.2) (omega arith) l.invariant.4 c.if-kept-line.true,
-    )
-
-pub loop-i-preserved : goal.loop-i-preserved
-loop-i-preserved c =
-    let a = c.args in
-    let l = c.loop-i in (
-      omega arith,
-      omega arith,
-      l.invariant.2,
-      unended_next a.bytes.now l.i (omega arith) c.if-byte-eq10.false l.invariant.3,
-      byte_passed l.line (take a.start a.line.now) a.bytes.now (length a.line.now) l.kept l.i (sym l.invariant.2) (omega arith) l.invariant.4 c.if-kept-line.false,
-    )
+use Rattle.program.proofs.split.scan.Goals.{in-Some, in-None}
 
 pub returns : goal.returns
 returns c =
     let a = c.args in
-    let l = c.loop-i in
-    let f = feed_none a.bytes.now l.i (omega arith) l.invariant.3 in
+    let found = feed_found a.bytes.now c.feed_place-feed.result c.feed_place-feed.ensures in
+    let text : c.match-feed.text.now ≡ up_to_feed a.bytes.now =
+    elim c.match-feed.branch [ in-Some w ↦ rw w.text-is (rw w.in-Some.is at found.0) | in-None w ↦ rw w.text-is (rw w.in-None.is at found.0) ] in
+    let feed : c.match-feed.feed ≡ c.feed_place-feed.result =
+    elim c.match-feed.branch [ in-Some w ↦ cc | in-None w ↦ cc ] in
+    let told = ap is_some feed ∙ found.1 in
+    let byte : c.from.result ≡ flag (has_feed a.bytes.now) =
+    c.from.ensures ∙ byte_flag c.is_some.result ∙ ap flag (c.is_some.ensures ∙ told) in
+    let used : length c.match-feed.text.now + c.from.result ≡ length (up_to_feed a.bytes.now) + flag (has_feed a.bytes.now) = rw (text, byte) in
+    let after = c.copy_from_slice.new.self in
+    let n = c.min-n.result in
+    let whole : take n after ≡ after = grind (arith, common_steps) in
+    let kept = laid_after a.line.now after a.start n (a.start + n - a.start) c.requires (grind (arith, common_steps)) in
     record {
-      ended = sym f.0;
-      passed = rw (f.0, f.1) (omega (arith, length-take-le l.i a.bytes.now (omega arith)));
-      inside = (omega arith, omega arith);
-      laid = rw f.1 l.invariant.4;
+      ended = c.is_some-2.ensures ∙ told;
+      passed = used;
+      inside = (omega (arith, used, feed_within a.bytes.now), omega arith);
+      laid = kept ∙ rw (whole, c.copy_from_slice.ensures.after, text) (as_many a.line.now (up_to_feed a.bytes.now) a.start n c.requires (rw text at c.min-n.ensures));
     }

@@ -1,56 +1,38 @@
 -- The tests are those of the definition.
-use mathlib.Core.Path.{sym, ◌∙◌}
-use Rattle.program.specs.Stages.{line_read}
+use native.Mathlib.Omega.{arith}
+use Prim.Native.Nat.{◌≤◌}
+use mathlib.Core.Path.{sym, ap, ◌∙◌}
+use mathlib.Core.Logic.{inl, inr}
 use borrow.Author.Tests.{eq-eqb, ne_eqb}
+use Rattle.program.specs.Stages.{line_read}
+use Rattle.replies.specs.Following.{stage_number}
 use Rattle.program.proofs.stages.answer.Goals as goal
 
-pub returns-then-stage-eq0-clause-stands : goal.returns-then-stage-eq0-clause-stands
+pub returns-in-Watch-clause-stands : goal.returns-in-Watch-clause-stands
 unfolding line_read
-returns-then-stage-eq0-clause-stands c =
-    let r = c.watch_line in
+returns-in-Watch-clause-stands c =
     let a = c.args in
-    λ t h. rw (eq-eqb t.stage 0 (sym h.stage ∙ c.if-stage-eq0.true)) (r.ensures.stands t a.rule.now a.«record».now a.window.now h)
+    λ t h. let e = sym h.stage ∙ ap stage_number c.in-Watch.is in
+    rw (eq-eqb t.stage 0 e) (c.watch_line.ensures.stands t a.rule.now a.«record».now a.window.now h)
 
-pub returns-then-stage-eq0-clause-within_2 : goal.returns-then-stage-eq0-clause-within_2
+pub returns-in-Rule-clause-stands : goal.returns-in-Rule-clause-stands
 unfolding line_read
-returns-then-stage-eq0-clause-within_2 c =
-    let r = c.watch_line in
-    r.ensures.by_index _ c.requires.within
-
-pub returns-then-stage-eq1-clause-stands : goal.returns-then-stage-eq1-clause-stands
-unfolding line_read
-returns-then-stage-eq1-clause-stands c =
-    let r = c.rule_line in
+returns-in-Rule-clause-stands c =
     let a = c.args in
-    λ t h. rw (ne_eqb t.stage 0 (λ e. c.if-stage-eq0.false (h.stage ∙ e)), eq-eqb t.stage 1 (sym h.stage ∙ c.if-stage-eq1.true)) (r.ensures.stands t a.«record».now a.window.now h)
+    λ t h. let e = sym h.stage ∙ ap stage_number c.in-Rule.is in
+    rw (ne_eqb t.stage 0 (omega arith), eq-eqb t.stage 1 e) (c.rule_line.ensures.stands t a.«record».now a.window.now h)
 
-pub returns-then-stage-eq1-clause-within_2 : goal.returns-then-stage-eq1-clause-within_2
+pub returns-in-Start-clause-stands : goal.returns-in-Start-clause-stands
 unfolding line_read
-returns-then-stage-eq1-clause-within_2 c =
-    let r = c.rule_line in
-    r.ensures.within_2
+returns-in-Start-clause-stands c =
+    λ t h. let e = sym h.stage ∙ ap stage_number c.in-Start.is in
+    rw (ne_eqb t.stage 0 (omega arith), ne_eqb t.stage 1 (omega arith), eq-eqb t.stage 2 e) (c.start_line.ensures.stands t h)
 
-pub returns-then-stage-eq2-clause-stands : goal.returns-then-stage-eq2-clause-stands
+pub returns-in-Event-clause-stands : goal.returns-in-Event-clause-stands
 unfolding line_read
-returns-then-stage-eq2-clause-stands c =
-    let r = c.start_line in
-    λ t h. rw (ne_eqb t.stage 0 (λ e. c.if-stage-eq0.false (h.stage ∙ e)), ne_eqb t.stage 1 (λ e. c.if-stage-eq1.false (h.stage ∙ e)), eq-eqb t.stage 2 (sym h.stage ∙ c.if-stage-eq2.true)) (r.ensures.stands t h)
-
-pub returns-then-stage-eq2-clause-within_2 : goal.returns-then-stage-eq2-clause-within_2
-unfolding line_read
-returns-then-stage-eq2-clause-within_2 c =
-    let r = c.start_line in
-    r.ensures.within
-
-pub returns-clause-stands : goal.returns-clause-stands
-unfolding line_read
-returns-clause-stands c =
-    let r = c.did_line in
+returns-in-Event-clause-stands c =
     let a = c.args in
-    λ t h. rw (ne_eqb t.stage 0 (λ e. c.if-stage-eq0.false (h.stage ∙ e)), ne_eqb t.stage 1 (λ e. c.if-stage-eq1.false (h.stage ∙ e)), ne_eqb t.stage 2 (λ e. c.if-stage-eq2.false (h.stage ∙ e))) (r.ensures.stands t a.rule.now a.window.now h)
-
-pub returns-clause-within_2 : goal.returns-clause-within_2
-unfolding line_read
-returns-clause-within_2 c =
-    let r = c.did_line in
-    r.ensures.by_index _ c.requires.within
+    let past : 3 ≤ stage_number a.session.stage = elim c.in-Event.is [ inl e ↦ rw e (omega arith) | inr e ↦ rw e (omega arith) ] in
+    λ t h. let e : 3 ≤ t.stage = rw h.stage at past in
+    rw (ne_eqb t.stage 0 (omega arith), ne_eqb t.stage 1 (omega arith), ne_eqb t.stage 2 (omega arith))
+    (c.did_line.ensures.stands t a.rule.now a.window.now h)

@@ -1,6 +1,6 @@
 -- A refusal is known by its number, which is not 0.
 use mathlib.Core.Path.{refl, ◌∙◌}
-use Rattle.replies.specs.ReplyLaws.{refused_by}
+use Rattle.program.proofs.StageSteps.{refused_told}
 use Rattle.program.proofs.stages.replied.Goals as goal
 
 pub returns : goal.returns
@@ -10,5 +10,5 @@ returns c =
       processes = refl;
       frontiers = refl;
       text = refl;
-      reply = λ a f e. (d.ensures a f e, c.next_stage.ensures ∙ rw (refused_by a d.result f (d.ensures a f e)));
+      reply = λ a f e. (d.ensures a f e, c.next_stage-session.ensures ∙ rw (c.is_err.ensures.value, refused_told a d.result f (d.ensures a f e)));
     }

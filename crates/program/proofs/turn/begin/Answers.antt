@@ -1,5 +1,4 @@
 -- Nothing is known yet.
-use native.Mathlib.Omega.{arith}
 use mathlib.Core.Path.{refl}
 use Rattle.replies.specs.Replies.{parts_of}
 use Rattle.program.specs.Turn.{at_first}
@@ -17,7 +16,3 @@ returns-clause-by_index c =
       bytes = refl;
       kept = refl;
     }
-
-pub returns-clause-by_index_2 : goal.returns-clause-by_index_2
-unfolding at_first parts_of
-returns-clause-by_index_2 c = λ n. record { processes = omega arith; frontiers = omega arith; text = omega arith }

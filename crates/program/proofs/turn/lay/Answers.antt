@@ -1,18 +1,11 @@
 -- The text stands at the front of the part that is lent, and so after what is laid: the law `laid_after`.
-use native.Mathlib.Omega.{arith}
 use mathlib.Core.Path.{ap, ◌∙◌}
-use Prim.Native.Nat.{ℕ, ◌≤◌, ◌-◌, ◌+◌}
+use Prim.Native.Nat.{ℕ, ◌-◌, ◌+◌}
 use mathlib.Core.List.{List, ◌++◌}
 use lib.ListN.{take}
 use Rattle.program.proofs.TurnSteps.{laid_after}
 use Rattle.std.proofs.Common.{rules}
 use Rattle.program.proofs.turn.lay.Goals as goal
-
-pub returns-clause-upper_bound : goal.returns-clause-upper_bound
-returns-clause-upper_bound c =
-    let z = c.answer_text-length in
-    let short : z.result ≤ 256 = search rules in
-    omega (arith, short)
 
 pub returns-clause-out_after : goal.returns-clause-out_after
 returns-clause-out_after c =

@@ -4,6 +4,7 @@ use Prim.Native.Nat.{ℕ}
 use mathlib.Core.Path.{sym, subst}
 use mathlib.Core.Bool.{false}
 use mathlib.Core.List.{List}
+use Rattle.std.proofs.Common.{rules}
 use Rattle.codec.specs.Little.{Bytes}
 use Rattle.records.specs.Record.{taken_counts}
 use Rattle.reply_text.specs.Form.{program_width}
@@ -16,7 +17,7 @@ pub returns : goal.returns
 returns c =
     let a = c.args in
     let o = take_call program_width a.«record».now a.window.now a.scratch.now in
-    let bytes : Bytes a.«record».now = λ i. (c.slice_known-1.given i).fits in
+    let bytes : Bytes a.«record».now = search rules in
     let told = take_told program_width a.«record».now a.window.now a.scratch.now bytes in
     let left = c.watch32_take.ensures in
     let parts = c.decode-reply.ensures o.answer told.0 left.reply in

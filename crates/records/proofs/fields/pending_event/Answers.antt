@@ -16,13 +16,13 @@ within c = let a = c.args in omega (arith, event-within a.w a.i (search rules))
 pub bounds-record-place : goal.bounds-record-place
 bounds-record-place c = omega (arith, within (goal.at.bounds-record-place c).After-pending_place-place)
 
-pub read_counts-clock-requires-clause-w_in_bounds : goal.read_counts-clock-requires-clause-w_in_bounds
-read_counts-clock-requires-clause-w_in_bounds c = omega (arith, within (goal.at.read_counts-clock-requires-clause-w_in_bounds c).After-pending_place-place)
+pub read_counts-requires : goal.read_counts-requires
+read_counts-requires c = omega (arith, within (goal.at.read_counts-requires c).After-pending_place-place)
 
-pub read_eight-labels-requires : goal.read_eight-labels-requires
-read_eight-labels-requires c = omega (arith, within (goal.at.read_eight-labels-requires c).After-pending_place-place)
+pub read_eight-requires : goal.read_eight-requires
+read_eight-requires c = omega (arith, within (goal.at.read_eight-requires c).After-pending_place-place)
 
 pub returns : goal.returns
 returns c =
     let a = c.args in
-    event_parts_lem a.w a.i a.«record».now c.pending_place-place.result _ _ _ c.pending_place-place.ensures.0 refl c.read_counts-clock.ensures c.read_eight-labels.ensures
+    event_parts_lem a.w a.i a.«record».now c.pending_place-place.result _ _ _ c.pending_place-place.ensures.0 refl c.read_counts.ensures (rw c.bytes.ensures.value at c.read_eight.ensures)

@@ -1,16 +1,19 @@
 -- Each return is the definition under the tests of the bracket and of the count.
 use borrow.Author.Tests.{eq-eqb, ne_eqb, le-leb, lt-leb}
+use Rattle.std.proofs.lemmas.Result.{err_from_is_err_and}
 use Rattle.rules.specs.Laying.{close_read}
 use Rattle.rules.proofs.forms.close.Goals as goal
 
-pub returns-then-byte_at : goal.returns-then-byte_at
+pub returns-in_err-expect : goal.returns-in_err-expect
 unfolding close_read
-returns-then-byte_at c = rw (← c.byte_at.ensures, ne_eqb _ _ c.if-byte_at.true)
+returns-in_err-expect c =
+    let p = err_from_is_err_and c.from_residual.result c.from_residual.ensures.1 in
+    rw (p.1, p.2, c.in_err-expect.ensures.1, ne_eqb _ _ c.in_err-expect.ensures.0)
 
-pub returns-then-count-le64 : goal.returns-then-count-le64
+pub returns-then-closed-le64 : goal.returns-then-closed-le64
 unfolding close_read
-returns-then-count-le64 c = rw (← c.byte_at.ensures, eq-eqb _ _ c.if-byte_at.false, le-leb _ _ c.if-count-le64.true)
+returns-then-closed-le64 c = rw (eq-eqb _ _ c.in_ok-expect.ensures, le-leb _ _ c.if-closed-le64.true)
 
-pub returns-else-count-le64 : goal.returns-else-count-le64
+pub returns-else-closed-le64 : goal.returns-else-closed-le64
 unfolding close_read
-returns-else-count-le64 c = rw (← c.byte_at.ensures, eq-eqb _ _ c.if-byte_at.false, lt-leb _ _ c.if-count-le64.false)
+returns-else-closed-le64 c = rw (eq-eqb _ _ c.in_ok-expect.ensures, lt-leb _ _ c.if-closed-le64.false)

@@ -1,95 +1,94 @@
 -- Each return is the definition `atom_at` under the bytes and digits met; the last one closes a form of one line.
 use Prim.Native.Nat.{◌+◌}
 use native.Mathlib.Omega.{arith}
-use mathlib.Core.Path.{◌≡◌, sym, ◌∙◌}
+use Rattle.std.proofs.lemmas.Result.{err_from_is_err_and}
 use Rattle.rules.specs.Line.{line_count, lines_at}
 use Rattle.rules.specs.Formula.{atom}
-use Rattle.rules.specs.Text.{byte_at}
 use Rattle.rules.proofs.LayingSteps.{done_refused, done_close}
-use Rattle.rules.proofs.forms.ReaderSteps.{DigitMet, expect_met, expect_other, digit_met, digit_other}
+use Rattle.rules.proofs.forms.ReaderSteps.{expect_met, expect_other, digit_met, digit_other}
 use Rattle.rules.specs.Reader.{atom_at}
 use Rattle.std.proofs.Common.{rules}
 use Rattle.rules.proofs.forms.read_atom.Goals as goal
-use Rattle.rules.proofs.forms.read_atom.Goals.{Else-byte_at, Else-byte_at-2, In-Digit, In-Digit-second}
 
-space_met : (c : Else-byte_at) → let a = c.args in byte_at a.text.now a.place ≡ 32
-space_met c = sym c.byte_at.ensures ∙ c.if-byte_at.false
-
-first_met : (c : In-Digit) → let a = c.args in
-    DigitMet a.text.now (a.place + 1) a.k c.in-Digit.p
-first_met c = digit_met _ _ _ _ (sym c.read_digit-first.ensures ∙ c.in-Digit.is)
-
-second_space_met : (c : Else-byte_at-2) → let a = c.args in
-    byte_at a.text.now (a.place + 2) ≡ 32
-second_space_met c = sym c.byte_at-in-Digit.ensures ∙ c.if-byte_at-2.false
-
-second_met : (c : In-Digit-second) → let a = c.args in
-    DigitMet a.text.now (a.place + 3) 8 c.in-Digit-second.b
-second_met c = digit_met _ _ _ _ (sym c.read_digit-second.ensures ∙ c.in-Digit-second.is)
-
-pub returns-then-byte_at : goal.returns-then-byte_at
+pub returns-in_err-expect : goal.returns-in_err-expect
 unfolding atom_at
-returns-then-byte_at c =
+returns-in_err-expect c =
     let a = c.args in
-    rw (expect_other a.text.now a.place 32 (λ e. c.if-byte_at.true (c.byte_at.ensures ∙ e)))
+    let p = err_from_is_err_and c.from_residual.result c.from_residual.ensures.1 in
+    let miss = c.in_err-expect.ensures in
+    rw (p.1, p.2, miss.1, expect_other a.rule.text.now a.from.place 32 miss.0) (done_refused _ _ _ _ _ _)
+
+pub returns-in_err-p : goal.returns-in_err-p
+unfolding atom_at
+returns-in_err-p c =
+    let a = c.args in
+    let s = a.rule.text.now in
+    let p = err_from_is_err_and c.from_residual-in_err-p.result c.from_residual-in_err-p.ensures.1 in
+    let miss = c.in_err-p.ensures in
+    rw (
+      p.1,
+      p.2,
+      miss.1,
+      expect_met s a.from.place 32 c.in_ok-expect.ensures,
+      digit_other s (a.from.place + 1) a.rule.k _ miss.0,
+    )
     (done_refused _ _ _ _ _ _)
 
-pub returns-then-byte_at-2 : goal.returns-then-byte_at-2
+pub returns-in_err-expect-2 : goal.returns-in_err-expect-2
 unfolding atom_at
-returns-then-byte_at-2 c =
+returns-in_err-expect-2 c =
     let a = c.args in
-    let s = a.text.now in
+    let s = a.rule.text.now in
+    let p = err_from_is_err_and c.from_residual-in_err-expect-2.result c.from_residual-in_err-expect-2.ensures.1 in
+    let miss = c.in_err-expect-2.ensures in
     rw (
-      expect_met s a.place 32 (space_met (goal.at.returns-then-byte_at-2 c).Else-byte_at),
-      (first_met (goal.at.returns-then-byte_at-2 c).In-Digit).step,
-      expect_other s (a.place + 2) 32 (λ e. c.if-byte_at-2.true (c.byte_at-in-Digit.ensures ∙ e)),
+      p.1,
+      p.2,
+      miss.1,
+      expect_met s a.from.place 32 c.in_ok-expect.ensures,
+      (digit_met s (a.from.place + 1) a.rule.k _ c.in_ok-p.ensures).step,
+      expect_other s (a.from.place + 2) 32 miss.0,
+    )
+    (done_refused _ _ _ _ _ _)
+
+pub returns-in_err-b : goal.returns-in_err-b
+unfolding atom_at
+returns-in_err-b c =
+    let a = c.args in
+    let s = a.rule.text.now in
+    let p = err_from_is_err_and c.from_residual-in_err-b.result c.from_residual-in_err-b.ensures.1 in
+    let miss = c.in_err-b.ensures in
+    rw (
+      p.1,
+      p.2,
+      miss.1,
+      expect_met s a.from.place 32 c.in_ok-expect.ensures,
+      (digit_met s (a.from.place + 1) a.rule.k _ c.in_ok-p.ensures).step,
+      expect_met s (a.from.place + 2) 32 c.in_ok-expect-2.ensures,
+      digit_other s (a.from.place + 3) 8 _ miss.0,
     )
     (done_refused _ _ _ _ _ _)
 
 pub put_line-end-requires : goal.put_line-end-requires
 put_line-end-requires c =
-    let d₁ = first_met (goal.at.put_line-end-requires c).In-Digit in
-    let d₂ = second_met (goal.at.put_line-end-requires c).In-Digit-second in
-    (search rules, search rules, omega (arith, d₁.ten), omega (arith, d₂.ten))
+    let d₁ = digit_met _ _ _ _ c.in_ok-p.ensures in
+    let d₂ = digit_met _ _ _ _ c.in_ok-b.ensures in
+    (search rules, omega (arith, d₁.ten), omega (arith, d₂.ten))
 
-pub returns-in-NoDigit : goal.returns-in-NoDigit
-unfolding atom_at
-returns-in-NoDigit c =
-    let a = c.args in
-    let s = a.text.now in
-    rw (
-      expect_met s a.place 32 (space_met (goal.at.returns-in-NoDigit c).Else-byte_at),
-      digit_other s (a.place + 1) a.k _ (sym c.read_digit-first.ensures ∙ c.in-NoDigit.is),
-    )
-    (done_refused _ _ _ _ _ _)
-
-pub returns-in-NoDigit-second : goal.returns-in-NoDigit-second
-unfolding atom_at
-returns-in-NoDigit-second c =
-    let a = c.args in
-    let s = a.text.now in
-    rw (
-      expect_met s a.place 32 (space_met (goal.at.returns-in-NoDigit-second c).Else-byte_at),
-      (first_met (goal.at.returns-in-NoDigit-second c).In-Digit).step,
-      expect_met s (a.place + 2) 32 (second_space_met (goal.at.returns-in-NoDigit-second c).Else-byte_at-2),
-      digit_other s (a.place + 3) 8 _ (sym c.read_digit-second.ensures ∙ c.in-NoDigit-second.is),
-    )
-    (done_refused _ _ _ _ _ _)
-
-pub returns-in-Digit-second : goal.returns-in-Digit-second
+pub returns : goal.returns
 unfolding atom_at line_count lines_at
-returns-in-Digit-second c =
+returns c =
     let a = c.args in
-    let s = a.text.now in
-    let d₁ = first_met (goal.at.returns-in-Digit-second c).In-Digit in
-    let d₂ = second_met (goal.at.returns-in-Digit-second c).In-Digit-second in
+    let s = a.rule.text.now in
+    let d₁ = digit_met s (a.from.place + 1) a.rule.k _ c.in_ok-p.ensures in
+    let d₂ = digit_met s (a.from.place + 3) 8 _ c.in_ok-b.ensures in
     rw (
-      expect_met s a.place 32 (space_met (goal.at.returns-in-Digit-second c).Else-byte_at),
+      expect_met s a.from.place 32 c.in_ok-expect.ensures,
       d₁.step,
-      expect_met s (a.place + 2) 32 (second_space_met (goal.at.returns-in-Digit-second c).Else-byte_at-2),
+      expect_met s (a.from.place + 2) 32 c.in_ok-expect-2.ensures,
       d₂.step,
       d₁.same,
       d₂.same,
     )
-    (done_close a.laid a.closed a.table.now _ s (a.place + 4) _ (atom _ _) _ c.close.ensures
+    (done_close a.from.laid a.from.closed a.table.now _ s (a.from.place + 4) _ (atom _ _) _ c.close.ensures
     c.put_line-end.ensures.count c.put_line-end.ensures.table)

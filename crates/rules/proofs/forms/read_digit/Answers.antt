@@ -1,22 +1,51 @@
 -- Each return is the definition under the tests of the byte.
+use Prim.Native.Nat.{◌-◌}
+use native.Mathlib.Omega.{arith}
+use mathlib.Core.Path.{refl, sym, ap, ◌∙◌}
 use borrow.Author.Tests.{le-leb, lt-leb, lt-ltb, le-ltb}
 use Rattle.rules.specs.Laying.{digit_at}
+use Rattle.rules.specs.ReaderCode.{byte_of}
+use Rattle.rules.specs.Text.{byte_at}
 use Rattle.rules.proofs.forms.read_digit.Goals as goal
 
-pub returns-then-c-lt48 : goal.returns-then-c-lt48
+pub returns-in_default : goal.returns-in_default
 unfolding digit_at
-returns-then-c-lt48 c = rw (← c.byte_at-c.ensures, lt-leb _ _ c.if-c-lt48.true)
+returns-in_default c =
+    let x = byte_at c.args.text.now c.args.place in
+    (rw (lt-leb 48 x (omega (arith, c.in_default.ensures))), refl)
 
-pub returns-then-c-gt57 : goal.returns-then-c-gt57
+pub returns-in_default-2 : goal.returns-in_default-2
 unfolding digit_at
-returns-then-c-gt57 c = rw (← c.byte_at-c.ensures, le-leb _ _ c.if-c-lt48.false, lt-leb _ _ c.if-c-gt57.true)
+returns-in_default-2 c =
+    let x = byte_at c.args.text.now c.args.place in
+    let same = c.in_default.ensures in
+    (rw (le-leb 48 x (omega (arith, same)), lt-leb x 57 (omega (arith, same))), refl)
 
-pub returns-then-value-bound : goal.returns-then-value-bound
+pub returns-in_default-3 : goal.returns-in_default-3
 unfolding digit_at
-returns-then-value-bound c =
-    rw (← c.byte_at-c.ensures, le-leb _ _ c.if-c-lt48.false, le-leb _ _ c.if-c-gt57.false, lt-ltb _ _ c.if-value-bound.true)
+returns-in_default-3 c = (rw (sym c.byte_at.ensures ∙ ap byte_of c.in_default.is), refl)
 
-pub returns-else-value-bound : goal.returns-else-value-bound
+pub returns-then-from-bound : goal.returns-then-from-bound
 unfolding digit_at
-returns-else-value-bound c =
-    rw (← c.byte_at-c.ensures, le-leb _ _ c.if-c-lt48.false, le-leb _ _ c.if-c-gt57.false, le-ltb _ _ c.if-value-bound.false)
+returns-then-from-bound c =
+    let x = c.in-Some-48-to-57.byte in
+    rw (
+      ← c.in-Some-48-to-57.ensures,
+      le-leb 48 x (omega arith),
+      le-leb x 57 (omega arith),
+      lt-ltb (x - 48) c.args.bound (omega arith),
+      c.from-then-from-bound.ensures,
+    )
+
+pub returns-else-from-bound : goal.returns-else-from-bound
+unfolding digit_at
+returns-else-from-bound c =
+    let x = c.in-Some-48-to-57.byte in (
+      rw (
+        ← c.in-Some-48-to-57.ensures,
+        le-leb 48 x (omega arith),
+        le-leb x 57 (omega arith),
+        le-ltb (x - 48) c.args.bound (omega arith),
+      ),
+      refl,
+    )

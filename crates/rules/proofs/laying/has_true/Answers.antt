@@ -1,31 +1,33 @@
 -- Word by word.
+use mathlib.Core.Logic.{◌⊎◌, inl, inr}
+use mathlib.Core.Bool.{true, false}
+use mathlib.Core.Path.{◌≡◌, refl}
+use Rattle.rules.specs.declared.Unary.{Unary}
+use Rattle.rules.specs.declared.Unary.TheVariants.{Not, Ey, Ep, Ap, Ay, Eh, Ah}
 use Rattle.rules.specs.Laying.{has_true}
 use Rattle.rules.proofs.laying.has_true.Goals as goal
 
-pub returns-in-Not : goal.returns-in-Not
+these : (w : Unary) → (w ≡ Eh) ⊎ ((w ≡ Ah) ⊎ ((w ≡ Ep) ⊎ (w ≡ Ap))) → true ≡ has_true w
 unfolding has_true
-returns-in-Not c = rw c.in-Not.is
+these w (inl e) = rw e
+these w (inr (inl e)) = rw e
+these w (inr (inr (inl e))) = rw e
+these w (inr (inr (inr e))) = rw e
 
-pub returns-in-Ey : goal.returns-in-Ey
+others : (w : Unary) → (w ≡ Ep → ⊥) → (w ≡ Ap → ⊥) → (w ≡ Eh → ⊥) → (w ≡ Ah → ⊥) → false ≡ has_true w
 unfolding has_true
-returns-in-Ey c = rw c.in-Ey.is
-
-pub returns-in-Ep : goal.returns-in-Ep
-unfolding has_true
-returns-in-Ep c = rw c.in-Ep.is
-
-pub returns-in-Ap : goal.returns-in-Ap
-unfolding has_true
-returns-in-Ap c = rw c.in-Ap.is
-
-pub returns-in-Ay : goal.returns-in-Ay
-unfolding has_true
-returns-in-Ay c = rw c.in-Ay.is
+others Not a b c d = refl
+others Ey a b c d = refl
+others Ep a b c d = absurd (a refl)
+others Ap a b c d = absurd (b refl)
+others Ay a b c d = refl
+others Eh a b c d = absurd (c refl)
+others Ah a b c d = absurd (d refl)
 
 pub returns-in-Eh : goal.returns-in-Eh
-unfolding has_true
-returns-in-Eh c = rw c.in-Eh.is
+returns-in-Eh c = these c.args.word c.in-Eh.is
 
-pub returns-in-Ah : goal.returns-in-Ah
-unfolding has_true
-returns-in-Ah c = rw c.in-Ah.is
+pub returns-in_default : goal.returns-in_default
+returns-in_default c =
+    let x = c.in_default in
+    others c.args.word x.not-Ep x.not-Ap x.not-Eh x.not-Ah

@@ -1,34 +1,38 @@
--- Each return is the definition at the letter of its arm; the last one, at none of them.
-use native.Mathlib.Omega.{arith}
-use mathlib.Core.Path.{sym, ◌∙◌}
+-- Each return is the definition at the letter of its arm; the last two, at none of them and after the end.
+use mathlib.Core.Path.{sym, ap, ◌∙◌}
 use borrow.Author.Tests.{ne_eqb}
 use Rattle.rules.specs.Reader.{e_word_at}
+use Rattle.rules.specs.ReaderCode.{byte_of}
 use Rattle.rules.proofs.words.e_word.Goals as goal
 
-pub returns-in-121 : goal.returns-in-121
+pub returns-in-Some-eq121 : goal.returns-in-Some-eq121
 unfolding e_word_at
-returns-in-121 c = rw (sym c.byte_at-c.ensures ∙ c.in-121.is)
+returns-in-Some-eq121 c = rw (sym c.in-Some-eq121.ensures ∙ c.in-Some-eq121.field-0-test)
 
-pub returns-in-115 : goal.returns-in-115
+pub returns-in-Some-eq115 : goal.returns-in-Some-eq115
 unfolding e_word_at
-returns-in-115 c = rw (sym c.byte_at-c.ensures ∙ c.in-115.is)
+returns-in-Some-eq115 c = rw (sym c.in-Some-eq115.ensures ∙ c.in-Some-eq115.field-0-test)
 
-pub returns-in-112 : goal.returns-in-112
+pub returns-in-Some-eq112 : goal.returns-in-Some-eq112
 unfolding e_word_at
-returns-in-112 c = rw (sym c.byte_at-c.ensures ∙ c.in-112.is)
+returns-in-Some-eq112 c = rw (sym c.in-Some-eq112.ensures ∙ c.in-Some-eq112.field-0-test)
 
-pub returns-in-104 : goal.returns-in-104
+pub returns-in-Some-eq104 : goal.returns-in-Some-eq104
 unfolding e_word_at
-returns-in-104 c = rw (sym c.byte_at-c.ensures ∙ c.in-104.is)
+returns-in-Some-eq104 c = rw (sym c.in-Some-eq104.ensures ∙ c.in-Some-eq104.field-0-test)
 
 pub returns-in_default : goal.returns-in_default
 unfolding e_word_at
 returns-in_default c =
-    let x = c.byte_at-c.result in
+    let none = c.in_default.field-0-test in
     rw (
-      ← c.byte_at-c.ensures,
-      ne_eqb x 121 (omega arith),
-      ne_eqb x 115 (omega arith),
-      ne_eqb x 112 (omega arith),
-      ne_eqb x 104 (omega arith),
+      ← c.in_default.ensures,
+      ne_eqb _ 121 none.0.0.0.1,
+      ne_eqb _ 115 none.0.0.1,
+      ne_eqb _ 112 none.0.1,
+      ne_eqb _ 104 none.1,
     )
+
+pub returns-in_default-2 : goal.returns-in_default-2
+unfolding e_word_at
+returns-in_default-2 c = rw (sym c.byte_at.ensures ∙ ap byte_of c.in_default.is)

@@ -1,9 +1,5 @@
 -- The mask is the first byte of the event, which lies within the record.
 use native.Mathlib.Omega.{arith}
-use mathlib.Core.Path.{ap, ◌∙◌}
-use Prim.Native.Nat.{ℕ}
-use lib.Count.{count_trailing_zeros}
-use lib.ListN.{get_or}
 use Rattle.clocks.specs.Key.{lowest}
 use Rattle.records.specs.Record.{pending_at}
 use Rattle.records.specs.RecordLaws.{event-within}
@@ -17,9 +13,4 @@ bounds-record-pending_place c =
 
 pub returns : goal.returns
 unfolding lowest pending_at
-returns c =
-    let s = c.args.«record».now in (
-      c.lowest_bit.ensures.0
-          ∙ ap (λ (place : ℕ). count_trailing_zeros 8 (get_or s place 0)) c.pending_place.ensures.0,
-      c.lowest_bit.ensures.1,
-    )
+returns c = search rules

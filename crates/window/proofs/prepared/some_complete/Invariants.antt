@@ -1,11 +1,8 @@
--- The test of the processes passed, one more each turn: the laws `any_more` and `complete_open`.
-use Rattle.std.proofs.Common.{◌≡◌, ◌-◌, ◌≤◌}
+-- The test of the processes passed, one more each turn.
+use Rattle.std.proofs.Common.{◌≡◌}
 use Rattle.clocks.specs.Bounded.{any_below}
 use Rattle.window.proofs.PreparedSteps.{complete_in}
 use Rattle.window.proofs.prepared.some_complete.Given as goal
 
 abbrev pub invariant-loop-p : goal.invariant-loop-p
-invariant-loop-p l = (l.p ≤ 8) × (l.some ≡ any_below l.p (complete_in l.opens l.reached l.counts))
-
-abbrev pub decreases-loop-p : goal.decreases-loop-p
-decreases-loop-p l = 8 - l.p
+invariant-loop-p l = l.some ≡ any_below l.p (complete_in l.opens l.reached l.counts)

@@ -1,5 +1,5 @@
--- The test of the processes passed, one more each turn: the law `all_more`.
-use Rattle.std.proofs.Common.{◌≡◌, ℕ, ◌-◌, ◌≤◌, Bool, true, false, List}
+-- The test of the processes passed, one more each turn.
+use Rattle.std.proofs.Common.{◌≡◌, ℕ, Bool, true, false, List}
 use Rattle.clocks.specs.declared.Event.{Event}
 use Rattle.clocks.specs.Event.{involved, count}
 use Rattle.clocks.specs.Counts.{at}
@@ -13,8 +13,4 @@ abbrev pub test : Event → List ℕ → ℕ → Bool
 test e counts p = ready_at (involved e p) (count e p) (at counts p)
 
 abbrev pub invariant-loop-p : goal.invariant-loop-p
-invariant-loop-p l = (l.p ≤ 8)
-    × ((e : Event) → Counted e → l.low ≡ bound_counts false e → l.span ≡ bound_counts true e → l.all ≡ all_below l.p (test e l.counts))
-
-abbrev pub decreases-loop-p : goal.decreases-loop-p
-decreases-loop-p l = 8 - l.p
+invariant-loop-p l = (e : Event) → Counted e → l.low ≡ bound_counts false e → l.span ≡ bound_counts true e → l.all ≡ all_below l.p (test e l.counts)

@@ -6,5 +6,5 @@ pub returns : goal.returns
 returns c =
     λ s h v. let a = c.args in
     let full = c.requires.full_value in
-    advanced_parts s a.e a.f c.apply-counts.result c.renewed-labels.result c.renewed-masks.result h v
-    c.apply-counts.ensures (c.renewed-labels.ensures a.e.mask full) (c.renewed-masks.ensures a.e.mask full)
+    advanced_parts s a.e a.f c.apply.result c.renewed.result c.renewed-2.result h v
+    c.apply.ensures (c.renewed.ensures a.e.mask full) (c.renewed-2.ensures a.e.mask full)

@@ -1,13 +1,9 @@
-use mathlib.Core.Path.{ap, ◌∙◌}
-use Rattle.clocks.specs.stored.CountsLaws.{filled, fill_next}
+-- What is made for process p is what the definition has there.
+use Rattle.codec.specs.Bit.{bit}
+use Rattle.clocks.specs.stored.CallLaws.{made_called}
 use Rattle.window_step.specs.FullBytes.{full_byte}
 use Rattle.std.proofs.Common.{rules}
 use Rattle.window_step.proofs.advance.full_bytes.Goals as goal
 
-pub loop-p-preserved : goal.loop-p-preserved
-loop-p-preserved c =
-    let l = c.loop-p in
-    (search rules, search rules, fill_next _ 0 l.out l.p c.full_byte.result (search rules) (c.full_byte.ensures ∙ ap full_byte c.has_bit.ensures) l.invariant.2)
-
 pub returns : goal.returns
-returns c = filled 8 _ 0 c.loop-p.out (search rules) (λ q l. c.loop-p.invariant.2 q (search rules))
+returns c = made_called (λ p. full_byte (bit c.args.mask p)) _ 8 0 c.from_fn.result c.from_fn.ensures.items (λ p y q l k. search rules)

@@ -1,15 +1,12 @@
+-- What is made for process p is what was chosen there.
+use Rattle.std.proofs.Common.{cond, get_or, rules}
 use Rattle.codec.specs.Bit.{bit}
-use Rattle.clocks.specs.stored.CountsLaws.{filled, fill_next}
+use Rattle.clocks.specs.stored.CallLaws.{made_called}
 use Rattle.window.specs.Lists.{made_at}
-use Rattle.std.proofs.Common.{rules}
 use Rattle.window_step.proofs.advance.renewed.Goals as goal
-
-pub loop-p-preserved : goal.loop-p-preserved
-loop-p-preserved c =
-    let a = c.args in
-    let l = c.loop-p in
-    (search rules, search rules, λ mask e. fill_next _ 0 l.out l.p c.chosen.result (search rules) (c.chosen.ensures (bit mask l.p) (made_at a.full _ 0 l.p e (search rules))) (l.invariant.2 mask e))
 
 pub returns : goal.returns
 returns c =
-    λ mask e. filled 8 _ 0 c.loop-p.out (search rules) (λ q l. c.loop-p.invariant.2 mask e q (search rules))
+    λ mask e. let a = c.args in
+    made_called (λ p. cond (bit mask p) (get_or a.news p 0) (get_or a.olds p 0)) _ 8 0 c.from_fn.result c.from_fn.ensures.items
+    (λ p y q l k. let full = made_at a.full _ 0 p e l in search (rules, full))

@@ -1,28 +1,19 @@
 -- The new frontier is that of the definition, and stands behind those laid down.
 use mathlib.Core.Path.{◌≡◌, refl, sym, ap, ◌∙◌, subst}
-use Prim.Native.Nat.{ℕ, ◌<◌, ◌+◌, ◌^◌}
-use mathlib.Core.List.{List, [], ◌∷◌, ◌++◌}
+use Prim.Native.Nat.{◌<◌, ◌^◌}
+use mathlib.Core.List.{[], ◌∷◌, ◌++◌}
 use Rattle.codec.specs.Little.{Bytes}
 use Rattle.frontiers.specs.Bytes.{frontier_at, frontiers}
 use Rattle.frontiers.specs.WindowLaws.{frontiers_stored}
 use Rattle.frontiers.specs.Shaped.{Shaped}
 use Rattle.window_step.proofs.lay.ShapeSteps.{shaped_at, shaped_advanced}
-use lib.Dec.{T}
-use Rattle.clocks.specs.Counts.{at}
-use Rattle.clocks.specs.Tested.{ready}
 use Rattle.frontiers.specs.declared.Frontier.{Frontier}
 use Rattle.window.specs.Step.{Setting, advanced}
 use Rattle.window_step.specs.Fixed.{setting_of}
-use Rattle.window_step.proofs.GatherSteps.{hints_are, fresh_is}
+use Rattle.window_step.proofs.GatherSteps.{fresh_is}
 use Rattle.std.proofs.Common.{rules}
 use Rattle.window_step.proofs.lay.lay_fresh.Goals as goal
 use Rattle.window_step.proofs.lay.lay_fresh.Goals.{After-advanced-g, After-judge-values}
-
-pub advanced-g-requires-clause-t : goal.advanced-g-requires-clause-t
-advanced-g-requires-clause-t c =
-    let e = c.args.fixed.event in
-    let p = c.requires in
-    subst (λ (f : Frontier). T (ready 8 e (at f.counts))) (sym c.frontier_at-f.ensures) p.t
 
 -- The new frontier, not judged yet, is that of the definition.
 leads : (c : After-advanced-g) → let a = c.args in
@@ -44,20 +35,7 @@ proper c bytes =
 
 pub lay_frontier-requires-clause-by_index : goal.lay_frontier-requires-clause-by_index
 lay_frontier-requires-clause-by_index c =
-    (proper (goal.at.lay_frontier-requires-clause-by_index c).After-judge-values (λ i. (c.type_inv.window i).fits)).counts_fit
-
-pub returns-clause-value : goal.returns-clause-value
-returns-clause-value c =
-    let a = c.args in
-    let w = a.fixed.w in
-    let s = setting_of a.fixed a.table.now in
-    let laid = frontiers w a.scratch.now a.m in
-    let f = frontier_at w a.window.now a.j in
-    let g = c.advanced-g.result in
-    let r = c.gather-found.result in
-    let new = leads (goal.at.returns-clause-value c).After-advanced-g s refl refl in
-    let gathers = c.gather-found.ensures s refl refl in
-    hints_are s laid a.hints f g r new gathers
+    rw c.bytes.ensures.value (proper (goal.at.lay_frontier-requires-clause-by_index c).After-judge-values (λ i. (c.type_inv.window i).fits)).counts_fit
 
 pub returns-clause-m_after : goal.returns-clause-m_after
 returns-clause-m_after c =
@@ -70,6 +48,6 @@ returns-clause-m_after c =
     let r = c.gather-found.result in
     let new = leads (goal.at.returns-clause-m_after c).After-advanced-g s refl refl in
     let gathers = c.gather-found.ensures s refl refl in
-    ap (λ (bs : List ℕ). frontiers w bs (a.m + 1)) c.lay_frontier.ensures
-    ∙ frontiers_stored w a.scratch.now a.m _ (proper (goal.at.returns-clause-m_after c).After-judge-values (λ i. (c.type_inv.window i).fits)) c.requires.place_for_2.1
-    ∙ ap (λ (x : Frontier). laid ++ (x ∷ [])) (fresh_is s laid a.hints f g r new gathers c.judge-values.result c.judge-values.ensures)
+    rw (c.lay_frontier.ensures, c.bytes.ensures.value) (
+    frontiers_stored w a.scratch.now a.m _ (proper (goal.at.returns-clause-m_after c).After-judge-values (λ i. (c.type_inv.window i).fits)) c.requires.place_for_2.1
+    ∙ ap (λ (x : Frontier). laid ++ (x ∷ [])) (fresh_is s laid a.hints f g r new gathers c.judge-values.result c.judge-values.ensures))

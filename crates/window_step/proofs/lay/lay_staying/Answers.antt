@@ -1,7 +1,7 @@
 -- One more frontier stands behind those laid down: the law `frontiers_stored`.
 use mathlib.Core.Path.{ap, ◌∙◌}
-use Prim.Native.Nat.{ℕ, ◌≤◌, ◌+◌, ◌*◌}
-use mathlib.Core.List.{List, [], ◌∷◌, ◌++◌}
+use Prim.Native.Nat.{◌≤◌, ◌+◌, ◌*◌}
+use mathlib.Core.List.{[], ◌∷◌, ◌++◌}
 use lib.ListN.{length}
 use Rattle.codec.specs.Little.{Bytes}
 use Rattle.frontiers.specs.Bytes.{frontier_at, frontiers, frontier_length}
@@ -21,13 +21,13 @@ proper c bytes =
 
 pub lay_frontier-requires-clause-by_index : goal.lay_frontier-requires-clause-by_index
 lay_frontier-requires-clause-by_index c =
-    (proper (goal.at.lay_frontier-requires-clause-by_index c).After-frontier_at-f (λ i. (c.type_inv.window i).fits)).counts_fit
+    rw c.bytes.ensures.value (proper (goal.at.lay_frontier-requires-clause-by_index c).After-frontier_at-f (λ i. (c.type_inv.window i).fits)).counts_fit
 
 pub returns : goal.returns
 returns c =
     let a = c.args in
     let f = frontier_at a.w a.window.now a.i in
     let room : a.m * frontier_length a.w + frontier_length a.w ≤ length a.scratch.now = search rules in
-    ap (λ (bs : List ℕ). frontiers a.w bs (a.m + 1)) c.lay_frontier.ensures
-    ∙ frontiers_stored a.w a.scratch.now a.m c.frontier_at-f.result (proper (goal.at.returns c).After-frontier_at-f (λ i. (c.type_inv.window i).fits)) room
-    ∙ ap (λ (g : Frontier). frontiers a.w a.scratch.now a.m ++ (g ∷ [])) c.frontier_at-f.ensures
+    rw (c.lay_frontier.ensures, c.bytes.ensures.value) (
+    frontiers_stored a.w a.scratch.now a.m c.frontier_at-f.result (proper (goal.at.returns c).After-frontier_at-f (λ i. (c.type_inv.window i).fits)) room
+    ∙ ap (λ (g : Frontier). frontiers a.w a.scratch.now a.m ++ (g ∷ [])) c.frontier_at-f.ensures)

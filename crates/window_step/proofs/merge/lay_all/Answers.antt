@@ -13,7 +13,7 @@ use Rattle.clocks.specs.cuts.EventLaws.{true-T}
 use Rattle.clocks.specs.Counts.{list_of}
 use Rattle.std.proofs.Common.{rules}
 use Rattle.window_step.proofs.merge.lay_all.Goals as goal
-use Rattle.window_step.proofs.merge.lay_all.Goals.{Start, In-loop-m}
+use Rattle.window_step.proofs.merge.lay_all.Goals.{Start, In-loop-m, then-fresh_first, else-fresh_first}
 
 -- The step's setting, and its marks.
 abbrev setting : Start → Setting
@@ -36,8 +36,6 @@ loop-m-init c =
     let window = c.args.window.now in
     let first = c.next_marked-i in
     let leads = c.next_marked-j in (
-      search rules,
-      refl,
       first.ensures.upper_bound,
       leads.ensures.upper_bound,
       laying_start s refl w window c.args.fixed.n c.args.fixed.kept c.requires.kept_value
@@ -47,11 +45,11 @@ loop-m-init c =
 
 pub fresh_first-requires-clause-j_value : goal.fresh_first-requires-clause-j_value
 unfolding enabled_at
-fresh_first-requires-clause-j_value c = c.loop-m.invariant.4.leading_here
+fresh_first-requires-clause-j_value c = c.loop-m.invariant.2.leading_here
 
 -- Where a new one comes first, there is one that the event leads on from.
 leading : (c : In-loop-m) → let l = c.loop-m in fresh_at c.args.fixed.event c.args.fixed.w c.args.window.now c.args.fixed.n l.i l.j ≡ true → l.j < c.args.fixed.n
-leading c e = leading_left (setting (goal.at.In-loop-m c).Start) c.args.fixed.event refl refl _ _ _ _ _ _ _ _ _ c.loop-m.invariant.4 (search rules) e
+leading c e = leading_left (setting (goal.at.In-loop-m c).Start) c.args.fixed.event refl refl _ _ _ _ _ _ _ _ _ c.loop-m.invariant.2 (search rules) e
 
 pub lay_fresh-ended-requires-clause-place_for : goal.lay_fresh-ended-requires-clause-place_for
 lay_fresh-ended-requires-clause-place_for c =
@@ -59,48 +57,16 @@ lay_fresh-ended-requires-clause-place_for c =
     let here : c.loop-m.j < a.n = leading (goal.at.lay_fresh-ended-requires-clause-place_for c).In-loop-m (sym c.fresh_first.ensures ∙ c.if-fresh_first.true) in
     (omega arith, omega (arith, place-within c.loop-m.j a.n a.w here))
 
-pub lay_fresh-ended-requires-clause-place_for_2 : goal.lay_fresh-ended-requires-clause-place_for_2
-lay_fresh-ended-requires-clause-place_for_2 c =
-    let a = c.args.fixed in
-    let room = place-within c.loop-m.m a.kept a.w (search rules) in
-    (omega arith, omega (arith, room))
-
 pub lay_fresh-ended-requires-clause-t : goal.lay_fresh-ended-requires-clause-t
 unfolding enabled_at
 lay_fresh-ended-requires-clause-t c =
     let a = c.args.fixed in
     let here : c.loop-m.j < a.n = leading (goal.at.lay_fresh-ended-requires-clause-t c).In-loop-m (sym c.fresh_first.ensures ∙ c.if-fresh_first.true) in
-    true-T (c.loop-m.invariant.4.leading_here here)
-
-pub overflow_add-j : goal.overflow_add-j
-overflow_add-j c = let here = leading (goal.at.overflow_add-j c).In-loop-m (sym c.fresh_first.ensures ∙ c.if-fresh_first.true) in search rules
-
-pub next_marked-j-requires-then-fresh_first-clause-n_in_bounds : goal.next_marked-j-requires-then-fresh_first-clause-n_in_bounds
-next_marked-j-requires-then-fresh_first-clause-n_in_bounds c =
-    let here = leading (goal.at.next_marked-j-requires-then-fresh_first-clause-n_in_bounds c).In-loop-m (sym c.fresh_first.ensures ∙ c.if-fresh_first.true) in
-    (c.requires.n_in_bounds, omega arith)
-
-pub overflow_add-m : goal.overflow_add-m
-overflow_add-m c = let room = c.requires.room_for_2.0 in search rules
-
-pub loop-m-preserved-then-fresh_first : goal.loop-m-preserved-then-fresh_first
-loop-m-preserved-then-fresh_first c =
-    let s = setting (goal.at.loop-m-preserved-then-fresh_first c).Start in
-    let w = c.args.fixed.w in
-    let window = c.args.window.now in
-    let next = c.next_marked-j-then-fresh_first in (
-      search rules,
-      search rules,
-      search rules,
-      next.ensures.upper_bound,
-      laid_fresh s c.args.fixed.event refl refl w window _ _ _ _ _ _ _ c.loop-m.invariant.4 (search rules) (sym c.fresh_first.ensures ∙ c.if-fresh_first.true)
-          _ c.lay_fresh-ended.ensures.m_after _ c.lay_fresh-ended.ensures.value
-          next.result next.ensures.upper_bound (next.ensures.from_value (enabled_at s) w window (leading_told (goal.at.loop-m-preserved-then-fresh_first c).Start)) (next.ensures.result_value (enabled_at s) w window (leading_told (goal.at.loop-m-preserved-then-fresh_first c).Start)),
-    )
+    true-T (c.loop-m.invariant.2.leading_here here)
 
 -- Where none comes first, there is one that stays.
 remains : (c : In-loop-m) → let l = c.loop-m in fresh_at c.args.fixed.event c.args.fixed.w c.args.window.now c.args.fixed.n l.i l.j ≡ false → l.i < c.args.fixed.n
-remains c e = staying_left (setting (goal.at.In-loop-m c).Start) c.args.fixed.event refl refl _ _ _ _ _ _ _ _ _ c.loop-m.invariant.4 (search rules) e
+remains c e = staying_left (setting (goal.at.In-loop-m c).Start) c.args.fixed.event refl refl _ _ _ _ _ _ _ _ _ c.loop-m.invariant.2 (search rules) e
 
 pub lay_staying-requires-clause-place_for : goal.lay_staying-requires-clause-place_for
 lay_staying-requires-clause-place_for c =
@@ -108,41 +74,39 @@ lay_staying-requires-clause-place_for c =
     let here : c.loop-m.i < a.n = remains (goal.at.lay_staying-requires-clause-place_for c).In-loop-m (sym c.fresh_first.ensures ∙ c.if-fresh_first.false) in
     (omega arith, omega (arith, place-within c.loop-m.i a.n a.w here))
 
-pub lay_staying-requires-clause-place_for_2 : goal.lay_staying-requires-clause-place_for_2
-lay_staying-requires-clause-place_for_2 c =
-    let a = c.args.fixed in
-    let room = place-within c.loop-m.m a.kept a.w (search rules) in
-    (omega arith, omega (arith, room))
-
-pub overflow_add-i : goal.overflow_add-i
-overflow_add-i c = let here = remains (goal.at.overflow_add-i c).In-loop-m (sym c.fresh_first.ensures ∙ c.if-fresh_first.false) in search rules
-
 pub next_marked-i-requires-else-fresh_first-clause-n_in_bounds : goal.next_marked-i-requires-else-fresh_first-clause-n_in_bounds
 next_marked-i-requires-else-fresh_first-clause-n_in_bounds c =
     let here = remains (goal.at.next_marked-i-requires-else-fresh_first-clause-n_in_bounds c).In-loop-m (sym c.fresh_first.ensures ∙ c.if-fresh_first.false) in
     (c.requires.n_in_bounds, omega arith)
-
-pub overflow_add-m-else-fresh_first : goal.overflow_add-m-else-fresh_first
-overflow_add-m-else-fresh_first c = let room = c.requires.room_for_2.0 in search rules
 
 pub loop-m-preserved : goal.loop-m-preserved
 loop-m-preserved c =
     let s = setting (goal.at.loop-m-preserved c).Start in
     let w = c.args.fixed.w in
     let window = c.args.window.now in
-    let next = c.next_marked-i-else-fresh_first in (
-      search rules,
-      search rules,
-      next.ensures.upper_bound,
-      search rules,
-      laid_staying s c.args.fixed.event refl refl w window _ _ _ _ _ _ _ c.loop-m.invariant.4 (search rules) (sym c.fresh_first.ensures ∙ c.if-fresh_first.false)
-          _ c.lay_staying.ensures
-          next.result next.ensures.upper_bound (next.ensures.from_value (stays s) w window (staying_told (goal.at.loop-m-preserved c).Start)) (next.ensures.result_value (stays s) w window (staying_told (goal.at.loop-m-preserved c).Start)),
-    )
+    let e = c.args.fixed.event in
+    elim c.if-fresh_first.branch [
+      | then-fresh_first x ↦ let next = x.next_marked-j-then-fresh_first in
+          rw (x.scratch-is, x.hints-is, x.i-is, x.j-is) (
+            search rules,
+            next.ensures.upper_bound,
+            laid_fresh s e refl refl w window _ _ _ _ _ _ _ c.loop-m.invariant.2 (search rules) (sym c.fresh_first.ensures ∙ x.if-fresh_first.true)
+                _ x.lay_fresh-ended.ensures.m_after _ x.lay_fresh-ended.ensures.value
+                next.result next.ensures.upper_bound (next.ensures.from_value (enabled_at s) w window (leading_told (goal.at.loop-m-preserved c).Start)) (next.ensures.result_value (enabled_at s) w window (leading_told (goal.at.loop-m-preserved c).Start)),
+          )
+      | else-fresh_first x ↦ let next = x.next_marked-i-else-fresh_first in
+          rw (x.scratch-is, x.hints-is, x.i-is, x.j-is) (
+            next.ensures.upper_bound,
+            search rules,
+            laid_staying s e refl refl w window _ _ _ _ _ _ _ c.loop-m.invariant.2 (search rules) (sym c.fresh_first.ensures ∙ x.if-fresh_first.false)
+                _ x.lay_staying.ensures
+                next.result next.ensures.upper_bound (next.ensures.from_value (stays s) w window (staying_told (goal.at.loop-m-preserved c).Start)) (next.ensures.result_value (stays s) w window (staying_told (goal.at.loop-m-preserved c).Start)),
+          )
+    ]
 
 pub returns : goal.returns
 returns c =
     let l = c.loop-m in
     let a = c.args.fixed in
     let all : l.m ≡ a.kept = omega arith in
-    ap (frontiers a.w l.scratch) (sym all) ∙ laid_all (setting (goal.at.returns c).Start) a.event refl refl _ _ _ _ _ _ _ _ _ l.invariant.4 (omega arith)
+    ap (frontiers a.w l.scratch) (sym all) ∙ laid_all (setting (goal.at.returns c).Start) a.event refl refl _ _ _ _ _ _ _ _ _ l.invariant.2 (omega arith)

@@ -1,9 +1,0 @@
--- By the truth.
-use native.Mathlib.Omega.{arith}
-use Rattle.answers.proofs.state_word.Goals as goal
-
-pub returns-then-holds : goal.returns-then-holds
-returns-then-holds c = rw c.if-holds.true
-
-pub returns-else-holds : goal.returns-else-holds
-returns-else-holds c = rw c.if-holds.false (omega arith)

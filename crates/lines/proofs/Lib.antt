@@ -1,0 +1,2 @@
+-- What the crate's proofs share.
+pub mod LineSteps

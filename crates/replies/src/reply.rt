@@ -1,0 +1,35 @@
+// What a call or a line is answered with, as the code has it.
+
+ghost use Rattle.std.specs.Prelude.{◌≡◌, ◌≤◌, Err};
+
+use numbers::fault::Fault;
+
+// What is answered to what was accepted: the rule's truth; the frontiers kept or the events pending.
+#[derive(Clone, Copy, Debug, PartialEq, Eq)]
+pub struct Accepted {
+    pub holds: bool,
+    pub value: u64,
+}
+
+// What is answered to what was refused: the refusal's number, which is not 0, and its place.
+// By hand, as no plainer: any number can stand in a word, also one that no `Refusal` has.
+#[derive(Clone, Copy, Debug, PartialEq, Eq)]
+pub struct Refused {
+    pub number: u64,
+    pub place: u64,
+    ghost some: { 1 ≤ number },
+}
+
+// A text's fault as it is answered.
+impl From<Fault> for Refused {
+    ghost use Rattle.replies.specs.Replies.{reply_of, reply_of_fault};
+
+    ghost from_gives = { λ fault refused. reply_of (Err refused) ≡ reply_of_fault fault };
+
+    fn from(fault: Fault) -> Refused {
+        Refused {
+            number: u64::from(fault.refusal),
+            place: fault.place as u64,
+        }
+    }
+}
