@@ -71,6 +71,7 @@ impl EvenShares {
 }
 
 // Lays process p's event of this number down where all is 0.
+#[inline(always)]
 fn put_single(events: &mut [u8], w: CountWidth, place: usize, p: usize, mask: u8, number: u32)
     requires p_bound { p < 8 }
     requires mask_value { mask ≡ 2 ^ p }
@@ -84,6 +85,7 @@ fn put_single(events: &mut [u8], w: CountWidth, place: usize, p: usize, mask: u8
 }
 
 // Lays the first n events of process p down where all is 0.
+#[inline(always)]
 fn put_singles(events: &mut [u8], w: CountWidth, place: usize, p: usize, n: usize)
     requires p_bound { p < 8 }
     requires n_bound { n < 65536 }
@@ -102,6 +104,7 @@ fn put_singles(events: &mut [u8], w: CountWidth, place: usize, p: usize, n: usiz
 }
 
 // Writes the events that are shared, process by process.
+#[inline(always)]
 fn put_day(events: &mut [u8], w: CountWidth, shares: EvenShares)
     requires processes_bound { shares.processes ≤ 8 }
     requires total_bound { total (sharing shares.processes shares.each shares.more) ≤ 65535 }
@@ -120,6 +123,7 @@ fn put_day(events: &mut [u8], w: CountWidth, shares: EvenShares)
 }
 
 // Writes the list of a busiest day, and answers how many frontiers it keeps. Nothing is written before all is judged.
+#[inline(always)]
 fn write_day(w: CountWidth, k: u64, n: u64, events: &mut [u8]) -> Result<usize, Refusal>
     ensures answer { answer_of result ≡ (busiest_call w k n events.old).answer }
     ensures kept { IfOk result (λ kept. kept ≤ 1024) }
@@ -138,8 +142,8 @@ fn write_day(w: CountWidth, k: u64, n: u64, events: &mut [u8]) -> Result<usize, 
 }
 
 // The same, with its answer as a reply word.
+// By hand, as promised: docs/PROOF-MAP.md names this function, so it asks for a number as before.
 pub fn busiest(w: usize, k: u64, n: u64, events: &mut [u8]) -> u64
-    // By hand, as promised: docs/PROOF-MAP.md names this function, so it asks for a number as before.
     requires { Width w }
     ensures reply { result ≡ result_word (busiest_call w k n events.old).answer }
     ensures events { events.new ≡ (busiest_call w k n events.old).events }

@@ -38,6 +38,7 @@ fn set_closed(record: &mut [u8], closed: u64, kept: u32)
 }
 
 // Closes process p: the reply, and the bytes of both buffers after it.
+#[inline(always)]
 fn close_process(w: CountWidth, p: u32, record: &mut [u8], window: &mut [u8]) -> u64
     requires p_bound { p < 8 }
     requires record_len { length «record».old ≡ record_length w }
@@ -60,8 +61,8 @@ fn close_process(w: CountWidth, p: u32, record: &mut [u8], window: &mut [u8]) ->
 }
 
 // Closes a process: the reply, and the bytes of both buffers after it.
+// By hand, as promised: docs/PROOF-MAP.md names this function, so it asks for a number as before.
 pub fn close(w: usize, process: u64, record: &mut [u8], window: &mut [u8]) -> u64
-    // By hand, as promised: docs/PROOF-MAP.md names this function, so it asks for a number as before.
     requires { Width w }
     ensures reply { result ≡ reply_word (close_call w process «record».old window.old).answer }
     ensures bytes { «record».new

@@ -20,6 +20,7 @@ pub fn not_open(k: u32, closed: u32, process: u64) -> bool
 }
 
 // 42: a pending event names process p. Of each event only the mask is read.
+#[inline(always)]
 pub fn named_by(record: &[u8], w: CountWidth, p: u32) -> bool
     requires record_len { length «record».now ≡ record_length w }
     requires record_bound { pending_count «record».now ≤ 32 }
@@ -30,6 +31,7 @@ pub fn named_by(record: &[u8], w: CountWidth, p: u32) -> bool
 }
 
 // What a close is turned back for, in their order.
+#[inline(always)]
 pub fn close_fault(w: CountWidth, process: u64, record: &[u8], n: usize) -> Result<(), Refusal>
     ensures { refused result ≡ close_fault w process «record».now n }
 {

@@ -13,6 +13,7 @@ use frontiers::width::CountWidth;
 use window::prepared::{open_ones, stays};
 
 // Moves frontier number i down to place m. (It stands there already where all before it stay.)
+#[inline(always)]
 fn settle(window: &mut [u8], w: CountWidth, i: usize, m: usize)
     requires place_for { PlaceFor w i window.old }
     requires m_le_i { m ≤ i }
@@ -27,6 +28,7 @@ fn settle(window: &mut [u8], w: CountWidth, i: usize, m: usize)
 }
 
 // Moves those of n frontiers that stay to the window's start, in their order: how many they are.
+#[inline(always)]
 fn keep_staying(
     window: &mut [u8],
     w: CountWidth,
@@ -55,6 +57,7 @@ fn keep_staying(
 }
 
 // Drops those of n frontiers that do not stay, and clears what they leave behind: how many are kept.
+#[inline(always)]
 pub fn drop_others(
     window: &mut [u8],
     w: CountWidth,

@@ -12,6 +12,7 @@ use frontiers::counts::{read_counts, write_counts};
 use frontiers::width::CountWidth;
 
 // A count is too large for w bytes.
+#[inline(always)]
 fn too_large(c: u32, w: CountWidth) -> bool
     ensures { result ≡ too_large w c }
 {
@@ -19,6 +20,7 @@ fn too_large(c: u32, w: CountWidth) -> bool
 }
 
 // One of eight counts is too large for w bytes. All are looked at, without a branch.
+#[inline(always)]
 fn one_too_large(counts: [u32; 8], w: CountWidth) -> bool
     ensures { result ≡ any_below 8 (λ i. too_large w (at counts i)) }
 {
@@ -30,6 +32,7 @@ fn one_too_large(counts: [u32; 8], w: CountWidth) -> bool
 }
 
 // One of the n times eight counts of v bytes from a place on is too large for w bytes.
+#[inline(always)]
 pub fn any_too_large(s: &[u8], place: usize, v: CountWidth, n: usize, w: CountWidth) -> bool
     requires v_in_bounds { place + n * (8 * v) ≤ length s.now }
     ensures { result ≡ any_too_large v w (8 * n) (drop place s.now) }
@@ -43,6 +46,7 @@ pub fn any_too_large(s: &[u8], place: usize, v: CountWidth, n: usize, w: CountWi
 
 // Writes the eight counts of v bytes from a place on with w bytes to a place of another slice. All are read before they
 // are written: so the compiler need not ask whether the slices overlap.
+#[inline(always)]
 fn move_eight(s: &[u8], from: usize, v: CountWidth, target: &mut [u8], to: usize, w: CountWidth)
     requires v_in_bounds { from + 8 * v ≤ length s.now }
     requires w_in_bounds { to + 8 * w ≤ length target.old }
@@ -55,6 +59,7 @@ fn move_eight(s: &[u8], from: usize, v: CountWidth, target: &mut [u8], to: usize
 }
 
 // Writes the n times eight counts of v bytes from a place on with w bytes to a place of another slice.
+#[inline(always)]
 pub fn move_counts(
     s: &[u8],
     from: usize,

@@ -19,6 +19,7 @@ use frontiers::width::CountWidth;
 use refusals::room_of;
 
 // Moves a watch: the reply, and the bytes of the buffers that are written. It has seen every count before it writes.
+// By hand, as promised: docs/PROOF-MAP.md names this function, so it asks for numbers as before.
 pub fn move_watch(
     v: usize,
     w: usize,
@@ -27,7 +28,6 @@ pub fn move_watch(
     target: &mut [u8],
     target_window: &mut [u8],
 ) -> u64
-    // By hand, as promised: docs/PROOF-MAP.md names this function, so it asks for numbers as before.
     requires width { Width v }
     requires width_2 { Width w }
     ensures reply { result ≡ (move_call v w «record».now window.now

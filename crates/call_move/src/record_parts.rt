@@ -14,6 +14,7 @@ use numbers::limit::PENDING;
 use records::fields::{pending_place, table_place};
 
 // 43, of the record: the taken counts and the last clocks, and the clocks of all 32 places for pending events.
+#[inline(always)]
 pub fn record_too_large(record: &[u8], v: CountWidth, w: CountWidth) -> bool
     requires record_len { length «record».now ≡ record_length v }
     ensures { result ≡ some_too_large v w record_parts «record».now }
@@ -27,6 +28,7 @@ pub fn record_too_large(record: &[u8], v: CountWidth, w: CountWidth) -> bool
 }
 
 // Writes what stands before the pending events: the first bytes, the taken counts, the last clocks, the table.
+#[inline(always)]
 fn move_front(record: &[u8], v: CountWidth, target: &mut [u8], w: CountWidth)
     requires record_len { length «record».now ≡ record_length v }
     requires target_len { length target.old ≡ record_length w }
@@ -49,6 +51,7 @@ fn move_front(record: &[u8], v: CountWidth, target: &mut [u8], w: CountWidth)
 }
 
 // Writes the pending event from a place on to a place of the other record.
+#[inline(always)]
 fn move_event(
     record: &[u8],
     from: usize,
@@ -75,6 +78,7 @@ fn move_event(
 }
 
 // Writes a record with counts of v bytes as one with counts of w bytes.
+#[inline(always)]
 pub fn move_record(record: &[u8], v: CountWidth, target: &mut [u8], w: CountWidth)
     requires record_len { length «record».now ≡ record_length v }
     requires target_len { length target.old ≡ record_length w }

@@ -12,6 +12,7 @@ use numbers::refusal::Refusal;
 use refusals::{bad_record_length, bad_state, bad_window_length, room_of};
 
 // 6: a wrong length, or windows not of as many frontiers.
+#[inline(always)]
 fn bad_lengths(
     v: CountWidth,
     w: CountWidth,
@@ -30,6 +31,7 @@ fn bad_lengths(
 }
 
 // What a move is turned back for.
+#[inline(always)]
 pub fn move_fault(
     v: CountWidth,
     w: CountWidth,

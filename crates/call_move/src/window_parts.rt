@@ -12,6 +12,7 @@ use frontiers::place::frontier_place;
 use frontiers::width::CountWidth;
 
 // 43, of the window's first n places, used or not: the counts of each.
+#[inline(always)]
 pub fn window_too_large(window: &[u8], n: usize, v: CountWidth, w: CountWidth) -> bool
     requires n_bound { n ≤ 1024 }
     requires v_in_bounds { n * frontier_length v ≤ length window.now }
@@ -25,6 +26,7 @@ pub fn window_too_large(window: &[u8], n: usize, v: CountWidth, w: CountWidth) -
 }
 
 // Writes the frontier from a place on to a place of the other window.
+#[inline(always)]
 fn move_frontier(
     window: &[u8],
     from: usize,
@@ -44,6 +46,7 @@ fn move_frontier(
 }
 
 // Writes a window's first n frontiers with counts of v bytes as such with counts of w bytes.
+#[inline(always)]
 pub fn move_window(window: &[u8], n: usize, v: CountWidth, target: &mut [u8], w: CountWidth)
     requires n_bound { n ≤ 1024 }
     requires v_in_bounds { n * frontier_length v ≤ length window.now }

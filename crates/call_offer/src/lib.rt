@@ -40,6 +40,7 @@ fn offered_event(mask: u64, clock: [u32; 8], labels: [u8; 8]) -> Event
 }
 
 // The place of an event among the pending ones: after those whose key is before its own.
+#[inline(always)]
 pub fn place_among(record: &[u8], w: CountWidth, e: Event) -> usize
     requires record_len { length «record».now ≡ record_length w }
     requires record_bound { pending_count «record».now ≤ 32 }
@@ -53,6 +54,7 @@ pub fn place_among(record: &[u8], w: CountWidth, e: Event) -> usize
 }
 
 // Whether a pending event is the same. Such a one conflicts, so that without a conflict there is none to look for.
+#[inline(always)]
 fn sent_again(suspected: bool, record: &[u8], w: CountWidth, e: Event) -> bool
     requires record_len { length «record».now ≡ record_length w }
     requires record_bound { pending_count «record».now ≤ 32 }
@@ -94,6 +96,7 @@ fn judge_pending(again: bool, conflict: bool, full: bool) -> Result<(), Unaccept
 }
 
 // Whether an offer is accepted, and else how it is answered: a refusal or again, in their order.
+// By hand, as promised: docs/REQUEST-NOTES.md names this function, so it asks for a number as before.
 pub fn judge(
     w: usize,
     mask: u64,
@@ -101,7 +104,6 @@ pub fn judge(
     labels: [u8; 8],
     record: &[u8],
 ) -> Result<(), Unaccepted>
-    // By hand, as promised: docs/REQUEST-NOTES.md names this function, so it asks for a number as before.
     requires { Width w }
     ensures { unaccepted result ≡ unaccepted_word w mask clock labels «record».now }
 {
@@ -124,8 +126,8 @@ pub fn judge(
 }
 
 // Offers an event: the reply, and the record's bytes after it.
+// By hand, as promised: docs/PROOF-MAP.md names this function, so it asks for a number as before.
 pub fn offer(w: usize, mask: u64, clock: [u32; 8], labels: [u8; 8], record: &mut [u8]) -> u64
-    // By hand, as promised: docs/PROOF-MAP.md names this function, so it asks for a number as before.
     requires width { Width w }
     requires by_index { (p : ℕ) → at clock p < 256 ^ w }
     ensures reply { result ≡ reply_word (offer_call w mask clock labels «record».old).answer }

@@ -24,6 +24,7 @@ use rules::reading::read_rule;
 
 // Writes the record of a new watch: the number of processes, the table's first lines, one frontier kept.
 // By hand, for C: the number of lines stands beside the table, here and at open_table, as in the record that C lends.
+#[inline(always)]
 pub fn write_record(record: &mut [u8], w: CountWidth, k: u32, table: &[u8], lines: u32)
     requires record_len { length «record».old ≡ record_length w }
     requires k_bound { k ≤ 8 }
@@ -41,6 +42,7 @@ pub fn write_record(record: &mut [u8], w: CountWidth, k: u32, table: &[u8], line
 }
 
 // Writes the window of a new watch: the cut of zeros, with its labels and values.
+#[inline(always)]
 pub fn write_window(window: &mut [u8], w: CountWidth, labels: [u8; 8], values: u64)
     requires w_in_bounds { frontier_length w ≤ length window.old }
     ensures { window.new ≡ window_bytes w (length window.old) (zeros_judged labels values) }
@@ -59,6 +61,7 @@ pub fn write_window(window: &mut [u8], w: CountWidth, labels: [u8; 8], values: u
 }
 
 // Opens with a table: the reply, and the bytes of record and window after it.
+#[inline(always)]
 pub fn open_table(
     w: CountWidth,
     k: u32,
@@ -84,6 +87,7 @@ pub fn open_table(
 }
 
 // What turns an open back before its text is read.
+#[inline(always)]
 pub fn open_fault(w: CountWidth, k: u64, labels: [u8; 8], n: usize, m: usize) -> Result<(), Refusal>
     ensures { refused result ≡ open_fault w k labels n m }
 {
@@ -100,6 +104,7 @@ pub fn open_fault(w: CountWidth, k: u64, labels: [u8; 8], n: usize, m: usize) ->
 }
 
 // Opens a watch with a rule's text: the reply, and the bytes of record and window after it.
+// By hand, as promised: docs/PROOF-MAP.md names this function, so it asks for a number as before.
 pub fn open(
     w: usize,
     rule: &[u8],
@@ -108,7 +113,6 @@ pub fn open(
     record: &mut [u8],
     window: &mut [u8],
 ) -> u64
-    // By hand, as promised: docs/PROOF-MAP.md names this function, so it asks for a number as before.
     requires { Width w }
     ensures reply { result ≡ reply_word (open_call w rule.now k labels «record».old window.old).answer }
     ensures bytes { «record».new ≡ (open_call w rule.now k labels «record».old window.old).bytes }

@@ -5,16 +5,18 @@ use native.Mathlib.Nat.{zero-add}
 use native.Mathlib.Numerals.{add-one}
 use mathlib.Core.Path.{◌≡◌, refl, sym, ap, ◌∙◌}
 use mathlib.Core.Bool.{Bool, cond, ◌||◌}
-use mathlib.Core.List.{List, ◌++◌}
+use mathlib.Core.List.{List, [], ◌∷◌, ◌++◌}
 use lib.Dec.{eqb, lit<}
-use lib.ListN.{length, drop}
+use lib.ListN.{length, get_or, take, drop, length-append}
+use Rattle.std.proofs.Math.ListN.{get_or-map}
+use Rattle.std.proofs.Common.{map, append-nil}
 use borrow.Author.Tests.{lt-ltb, le-ltb, ltb-false, ne_eqb, eq-eqb}
-use lib.Seq.{sets, sets-eq}
+use lib.Seq.{sets, sets-eq, take-suc}
 use Rattle.codec.specs.Bit.{bit}
 use Rattle.codec.specs.Little.{Bytes}
 use Rattle.codec.specs.SetsLaws.{sets-append}
-use Rattle.clocks.specs.Counts.{list_of}
-use Rattle.frontiers.specs.Bytes.{frontier_at, frontiers}
+use Rattle.frontiers.specs.declared.Frontier.{Frontier}
+use Rattle.frontiers.specs.Bytes.{frontiers}
 use Rattle.records.specs.Record.{process_count, line_total, kept_count}
 use Rattle.refusals.specs.Refusals.{bad_record_length, bad_window_length, room_of, bad_state}
 use Rattle.refusals.specs.RefusalCode.{watch_fault}
@@ -22,8 +24,8 @@ use Rattle.refusals.specs.FaultLaws.{Good, fault_first, fault_passed, tests_good
 use Rattle.answers.specs.Result.{result_word}
 use Rattle.answers.specs.Turns.{chosen_by, passed as passed_turn, end, turn}
 use Rattle.call_page.specs.Page.{row, rows, short_page, Paged, page_turned_back, page_written, page_call}
-use Rattle.call_page.specs.PageCode.{page_fault}
-use Rattle.call_page.specs.RowLaws.{row_at, rows_more, length-rows}
+use Rattle.call_page.specs.PageCode.{TenDigits, page_fault}
+use Rattle.call_page.specs.RowLaws.{rows_behind, length-row, length-rows}
 
 -- ---- The number
 
@@ -51,25 +53,50 @@ module _ (w : ℕ) (s window : List ℕ) (n : ℕ) where
 
 -- ---- The rows
 
-pub no_row : (page : List ℕ) (w : ℕ) (s : List ℕ) (k line : ℕ) → page ≡ sets page 0 (rows k line (frontiers w s 0))
-unfolding rows frontiers list_of
-no_row page w s k line = refl
+-- The rows of the first i frontiers stand at the page's start, and have the length of so many.
+pub record Rows (page₀ : List ℕ) (laid : List Frontier) (k line i : ℕ) (page : List ℕ) : Type 0 where
+  pub stand : page ≡ sets page₀ 0 (rows k line (take i laid))
+  pub long : length (rows k line (take i laid)) ≡ 93 * i
 
-module _ (page₀ : List ℕ) (w : ℕ) (s : List ℕ) (b : Bytes s) (narrow : w ≤ 4) (k line : ℕ) where
-  -- One row more, where its counts and the rule's truth are read.
-  pub next_row : (i : ℕ) (page page' counts : List ℕ) (values : ℕ) (holds : Bool)
-      → page ≡ sets page₀ 0 (rows k line (frontiers w s i)) → counts ≡ (frontier_at w s i).counts
-      → values ≡ (frontier_at w s i).values → holds ≡ bit values line → page' ≡ sets page (93 * i) (row k counts holds)
-      → page' ≡ sets page₀ 0 (rows k line (frontiers w s (i + 1)))
-  next_row i page page' counts values holds e c v h q =
-      let before : List ℕ = rows k line (frontiers w s i) in
-      let there : 93 * i ≡ 0 + length before = omega (arith, length-rows w s b narrow k line i) in
-      let here : row k counts holds ≡ row_at w s k line i = rw (h, v, c) in
-      q ∙ ap (λ (u : List ℕ). sets u (93 * i) (row k counts holds)) e
-      ∙ ap (sets (sets page₀ 0 before) (93 * i)) here
-      ∙ ap (λ (a : ℕ). sets (sets page₀ 0 before) a (row_at w s k line i)) there
-      ∙ sets-append page₀ 0 before (row_at w s k line i)
-      ∙ rw (add-one i) (ap (sets page₀ 0) (sym (rows_more w s k line i)))
+module _ (page₀ : List ℕ) (laid : List Frontier) (k line : ℕ) where
+  pub no_row : Rows page₀ laid k line 0 page₀
+  unfolding rows
+  no_row = record { stand = refl; long = refl }
+
+  module _ (i : ℕ) (l : i < length laid) where
+    abbrev none : Frontier
+    none = record { counts = []; labels = []; masks = []; values = 0 }
+
+    abbrev f : Frontier
+    f = get_or laid i none
+
+    row_more : rows k line (take (i + 1) laid) ≡ rows k line (take i laid) ++ row k f.counts (bit f.values line)
+    unfolding rows
+    row_more =
+        rw (add-one, take-suc laid i none l, rows_behind k line (take i laid) (f ∷ []))
+        (ap (λ (r : List ℕ). rows k line (take i laid) ++ r) (append-nil (row k f.counts (bit f.values line))))
+
+    -- One row more, where its counts and the rule's truth are read.
+    pub next_row : (page page' counts : List ℕ) (values : ℕ) (holds : Bool)
+        → Rows page₀ laid k line i page → TenDigits counts → counts ≡ get_or (map (λ (g : Frontier). g.counts) laid) i []
+        → values ≡ get_or (map (λ (g : Frontier). g.values) laid) i 0 → holds ≡ bit values line
+        → page' ≡ sets page (93 * i) (row k counts holds) → Rows page₀ laid k line (i + 1) page'
+    next_row page page' counts values holds r ten c v h q =
+        let before : List ℕ = rows k line (take i laid) in
+        let new : List ℕ = row k counts holds in
+        let counted : counts ≡ f.counts = c ∙ get_or-map (λ (g : Frontier). g.counts) laid i none in
+        let valued : values ≡ f.values = v ∙ get_or-map (λ (g : Frontier). g.values) laid i none in
+        let here : new ≡ row k f.counts (bit f.values line) = rw (h, valued, counted) in
+        let more : rows k line (take (i + 1) laid) ≡ before ++ new = row_more ∙ ap (λ (u : List ℕ). before ++ u) (sym here) in
+        let there : 93 * i ≡ 0 + length before = omega (arith, r.long) in
+        record {
+          stand =
+              q ∙ ap (λ (u : List ℕ). sets u (93 * i) new) r.stand
+              ∙ ap (λ (a : ℕ). sets (sets page₀ 0 before) a new) there
+              ∙ sets-append page₀ 0 before new
+              ∙ ap (sets page₀ 0) (sym more);
+          long = rw (more, length-append before new) (omega (arith, r.long, length-row k counts holds ten));
+        }
 
 -- ---- The call
 

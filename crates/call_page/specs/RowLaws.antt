@@ -83,7 +83,7 @@ few_digits w s b narrow i p = go (dec_lt p 8)
         (lt_of_lt_of_le (number_lt s (place + p * w) w b) (le_trans (pow-le-pow_right (lit< tt) narrow) (lit≤ tt)))
     go (no l) = rw (at_beyond (list_of 8 (λ q. number s (place + q * w) w)) p (rw length-list_of (omega arith))) (lit< tt)
 
-rows_behind : (k line : ℕ) (fs gs : List Frontier) → rows k line (fs ++ gs) ≡ rows k line fs ++ rows k line gs
+pub rows_behind : (k line : ℕ) (fs gs : List Frontier) → rows k line (fs ++ gs) ≡ rows k line fs ++ rows k line gs
 unfolding rows
 rows_behind k line [] gs = refl
 rows_behind k line (f ∷ fs) gs =

@@ -9,6 +9,7 @@ use crate::lent::{settle_pool, shared_fault};
 use refusals::watch_fault;
 
 // Closes a process of watch number `number`: the reply, and the bytes of the three buffers after it.
+// By hand, as promised: docs/PROOF-MAP.md names this function, so it asks for a number as before.
 pub fn close(
     w: usize,
     process: u64,
@@ -17,7 +18,6 @@ pub fn close(
     pool: &mut [u8],
     number: u64,
 ) -> u64
-    // By hand, as promised: docs/PROOF-MAP.md names this function, so it asks for a number as before.
     requires { Width w }
     ensures reply { result ≡ reply_word (shared_close w process «record».old window.old
         pool.old number).call.answer }
@@ -32,6 +32,8 @@ pub fn close(
     if let Err(refusal) = shared_fault(plain, pool, number) {
         return refusal.into();
     }
+    // A pool of another length was turned back just now.
+    let pool = pool.as_mut_array().unwrap();
     let reply = call_close::close(w, process, record, window);
     settle_pool(pool, number as usize, record, reply);
     reply

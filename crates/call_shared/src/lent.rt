@@ -4,10 +4,10 @@ ghost use Rattle.std.specs.Prelude.{◌%◌, ◌≤◌, ◌<◌, ◌≡◌, leng
 ghost use Rattle.numbers.specs.Limit.{most_members};
 ghost use Rattle.numbers.specs.RefusalNumber.{refused};
 ghost use Rattle.records.specs.Record.{kept_count};
-ghost use Rattle.pool.specs.Pool.{pool_length};
 ghost use Rattle.call_shared.specs.SharedCode.{shared_fault, pool_by};
 
 use numbers::refusal::Refusal;
+use pool::Pool;
 use records::fields::kept_count;
 
 // What a shared call is turned back for, by what the plain call is. Only the plain 6 is told before what the pool
@@ -18,9 +18,9 @@ pub fn shared_fault(plain: Result<(), Refusal>, pool: &[u8], number: u64) -> Res
     if plain == Err(Refusal::Length) {
         return plain;
     }
-    if pool::bad_pool_length(pool.len()) {
+    let Some(pool) = pool.as_array() else {
         return Err(Refusal::Length);
-    }
+    };
     if pool::no_share(pool, number) {
         return Err(Refusal::State);
     }
@@ -28,8 +28,7 @@ pub fn shared_fault(plain: Result<(), Refusal>, pool: &[u8], number: u64) -> Res
 }
 
 // The pool after a call of watch i with this reply: a refusal leaves it as it was, else the record says what is kept.
-pub fn settle_pool(pool: &mut [u8], i: usize, record: &[u8], reply: u64)
-    requires pool_len { length pool.old ≡ pool_length }
+pub fn settle_pool(pool: &mut Pool, i: usize, record: &[u8], reply: u64)
     requires i_lt_most_members { i < most_members }
     requires in_bounds { 8 ≤ length «record».now }
     requires record_bound { reply % 256 ≡ 0 → kept_count «record».now < 65536 }

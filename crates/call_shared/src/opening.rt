@@ -10,6 +10,7 @@ use call_open::open_fault;
 use frontiers::width::CountWidth;
 
 // Opens watch number `number` with a rule's text: the reply, and the bytes of the three buffers after it.
+// By hand, as promised: docs/PROOF-MAP.md names this function, so it asks for a number as before.
 pub fn open(
     w: usize,
     rule: &[u8],
@@ -20,7 +21,6 @@ pub fn open(
     pool: &mut [u8],
     number: u64,
 ) -> u64
-    // By hand, as promised: docs/PROOF-MAP.md names this function, so it asks for a number as before.
     requires { Width w }
     ensures reply { result ≡ reply_word (shared_open w rule.now k labels
         «record».old window.old pool.old number).call.answer }
@@ -35,6 +35,8 @@ pub fn open(
     if let Err(refusal) = shared_fault(plain, pool, number) {
         return refusal.into();
     }
+    // A pool of another length was turned back just now.
+    let pool = pool.as_mut_array().unwrap();
     let reply = call_open::open(w, rule, k, labels, record, window);
     settle_pool(pool, number as usize, record, reply);
     reply

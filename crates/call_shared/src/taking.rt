@@ -11,6 +11,7 @@ use frontiers::width::CountWidth;
 use refusals::room_of;
 
 // Takes an event of watch number `number`: the reply, and the bytes of the four buffers after it.
+// By hand, as promised: docs/PROOF-MAP.md names this function, so it asks for a number as before.
 pub fn take(
     w: usize,
     record: &mut [u8],
@@ -19,7 +20,6 @@ pub fn take(
     pool: &mut [u8],
     number: u64,
 ) -> u64
-    // By hand, as promised: docs/PROOF-MAP.md names this function, so it asks for a number as before.
     requires { Width w }
     ensures reply { result ≡ reply_word (shared_take w «record».old window.old
         scratch.old pool.old number).call.answer }
@@ -37,9 +37,11 @@ pub fn take(
     if let Err(refusal) = shared_fault(plain, pool, number) {
         return refusal.into();
     }
+    // A pool of another length was turned back just now.
+    let pool = pool.as_mut_array().unwrap();
     let i = number as usize;
     let allowed = pool::allowance(pool, i).min(room_of(width, window.len()));
-    let reply = take_within(width, allowed, record, window, scratch);
+    let reply = take_within(w, allowed, record, window, scratch);
     settle_pool(pool, i, record, reply);
     reply
 }

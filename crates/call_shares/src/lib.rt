@@ -5,13 +5,12 @@
 ghost use Rattle.std.specs.Prelude.{◌≤◌, ◌≡◌, length};
 ghost use Rattle.numbers.specs.Limit.{most_members};
 ghost use Rattle.answers.specs.Result.{result_word};
-ghost use Rattle.pool.specs.Pool.{pool_length};
 ghost use Rattle.call_shares.specs.Shares.{bad_shares, pool_of, set_shares};
 
 use codec::write_u16;
 use numbers::limit::{FRONTIERS, MEMBERS};
 use numbers::refusal::Refusal;
-use pool::bad_pool_length;
+use pool::Pool;
 
 // 49: no share, over eight, a share of 0, or shares that add up to more than 1,024. Eight are few enough for the sum to
 // fit.
@@ -26,9 +25,8 @@ fn bad_shares(shares: &[u16]) -> bool
 }
 
 // Writes the pool: the shares, and 0 in all other places.
-fn put_shares(shares: &[u16], pool: &mut [u8])
-    requires shares_len_bound { length shares.now ≤ most_members }
-    requires pool_len { length pool.old ≡ pool_length }
+fn put_shares(shares: &[u16], pool: &mut Pool)
+    requires { length shares.now ≤ most_members }
     ensures { pool.new ≡ pool_of shares.now }
 {
     pool.fill(0);
@@ -42,9 +40,9 @@ pub fn set_shares(shares: &[u16], pool: &mut [u8]) -> u64
     ensures reply { result ≡ result_word (set_shares shares.now pool.old).answer }
     ensures pool { pool.new ≡ (set_shares shares.now pool.old).pool }
 {
-    if bad_pool_length(pool.len()) {
+    let Some(pool) = pool.as_mut_array() else {
         return Refusal::Length.into();
-    }
+    };
     if bad_shares(shares) {
         return Refusal::Shares.into();
     }

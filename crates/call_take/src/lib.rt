@@ -32,6 +32,7 @@ use updates::{count_taken, remove_event};
 use window_step::Stepping;
 
 // The window's step for a ready event, by the record's table and counts.
+#[inline(always)]
 fn step_window(
     record: &[u8],
     w: CountWidth,
@@ -71,10 +72,11 @@ fn step_window(
         reached,
         lines,
     };
-    window_step::step::step(window, marks, scratch, &record[place..], fixed);
+    window_step::step::step(window, marks, scratch, &record[place..], &fixed);
 }
 
 // The rule's truth at the last of so many frontiers: the table's last line.
+#[inline(always)]
 fn verdict(window: &[u8], w: CountWidth, kept: usize, lines: u32) -> bool
     requires le_kept { (1 ≤ kept) × RoomFor w kept window.now }
     requires le_lines { (1 ≤ lines) × (lines ≤ 64) }
@@ -84,6 +86,7 @@ fn verdict(window: &[u8], w: CountWidth, kept: usize, lines: u32) -> bool
 }
 
 // Pending event number i leaves and is counted as taken.
+#[inline(always)]
 fn count_event(record: &mut [u8], w: CountWidth, i: usize, e: Event, kept: u32)
     requires record_len { length «record».old ≡ record_length w }
     requires i_bound { (i < pending_count «record».old) × (pending_count «record».old ≤ 32) }
@@ -97,6 +100,7 @@ fn count_event(record: &mut [u8], w: CountWidth, i: usize, e: Event, kept: u32)
 
 // Takes pending event number i, with which so many frontiers are kept: the reply, and the bytes of the three buffers
 // after it.
+#[inline(always)]
 fn take_event(
     record: &mut [u8],
     w: CountWidth,
@@ -139,12 +143,15 @@ fn undecided_word(seen: bool) -> u64
 // Takes an event where at most so many frontiers of the window may be used: the reply, and the bytes of the three
 // buffers after it.
 pub fn take_within(
-    w: CountWidth,
+    w: usize,
     allowed: usize,
     record: &mut [u8],
     window: &mut [u8],
     scratch: &mut [u8],
 ) -> u64
+    // By hand, for speed: as a number, which the compiler knows to be 4 in the wide form. Of the type it did not, and
+    // each loop of a take was compiled for both widths and tested which.
+    requires width { Width w }
     requires record_len { length «record».old ≡ record_length w }
     requires record_bound { (process_count «record».old ≤ 8) × (1 ≤ line_total «record».old) × (line_total «record».old ≤ 64) }
     requires record_bound_2 { pending_count «record».old ≤ 32 }
@@ -156,26 +163,28 @@ pub fn take_within(
     ensures window { window.new ≡ (take_within w allowed «record».old window.old).window }
     ensures scratch { scratch.new ≡ (take_within w allowed «record».old window.old).scratch }
 {
+    let width = CountWidth::of(w);
     let n = kept_count(record) as usize;
     let mut marks = [0u8; 1024];
-    let choice = decide(record, w.bytes(), window, &mut marks, n, allowed);
+    let choice = decide(record, w, window, &mut marks, n, allowed);
     match choice {
         Choice::Undecided { seen } => {
             scratch.fill(0);
             undecided_word(seen)
         }
         Choice::Falsified { place } => {
-            remove_event(record, w, place);
+            remove_event(record, width, place);
             scratch.fill(0);
             Refusal::FalseClock.into()
         }
         Choice::Chosen { place, kept } => take_event(
-            record, w, window, &marks, scratch, n, place, kept,
+            record, width, window, &marks, scratch, n, place, kept,
         ),
     }
 }
 
 // What a take is turned back for, in their order.
+#[inline(always)]
 pub fn take_fault(w: CountWidth, record: &[u8], n: usize, m: usize) -> Result<(), Refusal>
     ensures { refused result ≡ take_fault w «record».now n m }
 {
@@ -189,8 +198,8 @@ pub fn take_fault(w: CountWidth, record: &[u8], n: usize, m: usize) -> Result<()
 }
 
 // Takes the first event that is decided on: the reply, and the bytes of the three buffers after it.
+// By hand, as promised: docs/PROOF-MAP.md names this function, so it asks for a number as before.
 pub fn take(w: usize, record: &mut [u8], window: &mut [u8], scratch: &mut [u8]) -> u64
-    // By hand, as promised: docs/PROOF-MAP.md names this function, so it asks for a number as before.
     requires { Width w }
     ensures reply { result ≡ reply_word (take_call w «record».old window.old scratch.old).answer }
     ensures bytes { «record».new ≡ (take_call w «record».old window.old scratch.old).bytes }
@@ -200,6 +209,6 @@ pub fn take(w: usize, record: &mut [u8], window: &mut [u8], scratch: &mut [u8]) 
     let width = CountWidth::of(w);
     match take_fault(width, record, window.len(), scratch.len()) {
         Err(refusal) => refusal.into(),
-        Ok(()) => take_within(width, room_of(width, window.len()), record, window, scratch),
+        Ok(()) => take_within(w, room_of(width, window.len()), record, window, scratch),
     }
 }

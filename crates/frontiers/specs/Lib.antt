@@ -2,6 +2,7 @@
 
 -- What a reader has to believe
 pub mod Bytes
+pub mod Listed
 -- What is proved of them
 pub mod ListLaws
 pub mod Width

@@ -1,9 +1,9 @@
 -- Windows and their frontiers go back and forth: laws of `frontiers`, `framed` and `window_bytes`, over the width.
-use Rattle.std.specs.Prelude.{ℕ, zero, suc, ◌+◌, ◌-◌, ◌*◌, ◌≤◌, ◌<◌, ◌≡◌, refl, List, [], ◌∷◌, ◌++◌, get_or, take, replicate, drop}
+use Rattle.std.specs.Prelude.{ℕ, zero, suc, ◌+◌, ◌-◌, ◌*◌, ◌≤◌, ◌<◌, ◌≡◌, refl, List, [], ◌∷◌, ◌++◌, map, get_or, take, replicate, drop}
 use Rattle.std.proofs.Common.{arith, add-one, zero-mul, suc-mul, mul_comm, le_of_suc-le-suc, le_refl, sym, ◌∙◌, ap, append_assoc, append-nil, length-append, drop_at, take-add}
 use Rattle.std.proofs.Math.Nat.{mul-sub}
 use mathlib.Core.List.Memᴰ
-use Rattle.std.proofs.Math.ListN.{length}
+use Rattle.std.proofs.Math.ListN.{length, get_or-map}
 use Rattle.std.proofs.lemmas.List.{length-replicate, replicate-append-replicate}
 use Rattle.std.proofs.lemmas.List.Edits.{sets, sets-eq}
 use Rattle.std.proofs.Math.Seq.{drop-append-add, length-take-le}
@@ -220,3 +220,21 @@ replaced-window_bytes w total fs gs f g h k =
     let b : length (framed w gs) ≡ length gs * F = length-framed w gs g in
     let left : (length fs - length gs) * F ≡ length fs * F - length gs * F = rw (mul_comm (length fs - length gs) F, mul-sub F (length fs) (length gs), mul_comm F (length fs), mul_comm F (length gs)) in
     rw (left, ← a, ← b) (over_zeros (framed w fs) (framed w gs) total (omega arith) (omega arith))
+
+-- ---- What is read of the first n, by places
+
+pub counts_listed : (w : ℕ) (s : List ℕ) (n i : ℕ) → i < n
+    → get_or (map (λ (f : Frontier). f.counts) (frontiers w s n)) i [] ≡ (frontier_at w s i).counts
+counts_listed w s n i l =
+    get_or-map (λ (f : Frontier). f.counts) (frontiers w s n) i none ∙ ap (λ (f : Frontier). f.counts) (get_d_frontiers w s n i none l)
+  where
+    none : Frontier
+    none = record { counts = []; labels = []; masks = []; values = 0 }
+
+pub values_listed : (w : ℕ) (s : List ℕ) (n i : ℕ) → i < n
+    → get_or (map (λ (f : Frontier). f.values) (frontiers w s n)) i 0 ≡ (frontier_at w s i).values
+values_listed w s n i l =
+    get_or-map (λ (f : Frontier). f.values) (frontiers w s n) i none ∙ ap (λ (f : Frontier). f.values) (get_d_frontiers w s n i none l)
+  where
+    none : Frontier
+    none = record { counts = []; labels = []; masks = []; values = 0 }

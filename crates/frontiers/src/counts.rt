@@ -10,6 +10,7 @@ use crate::width::CountWidth;
 use std::array;
 
 // The count at a place.
+#[inline(always)]
 pub fn read_count(s: &[u8], place: usize, w: CountWidth) -> u32
     requires w_in_bounds { place + w ≤ length s.now }
     ensures { result ≡ number s.now place w }
@@ -22,6 +23,7 @@ pub fn read_count(s: &[u8], place: usize, w: CountWidth) -> u32
 }
 
 // Stores a count at a place.
+#[inline(always)]
 pub fn write_count(s: &mut [u8], place: usize, w: CountWidth, c: u32)
     requires w_in_bounds { place + w ≤ length s.old }
     requires c_bound { c < 256 ^ w }
@@ -35,6 +37,7 @@ pub fn write_count(s: &mut [u8], place: usize, w: CountWidth, c: u32)
 }
 
 // The eight counts from a place on.
+#[inline(always)]
 pub fn read_counts(s: &[u8], place: usize, w: CountWidth) -> [u32; 8]
     requires w_in_bounds { place + 8 * w ≤ length s.now }
     ensures { result ≡ list_of 8 (λ p. number s.now (place + p * w) w) }
@@ -43,6 +46,7 @@ pub fn read_counts(s: &[u8], place: usize, w: CountWidth) -> [u32; 8]
 }
 
 // Stores eight counts at the start.
+#[inline(always)]
 pub fn write_counts(s: &mut [u8], w: CountWidth, counts: [u32; 8])
     requires w_in_bounds { 8 * w ≤ length s.old }
     requires by_index { (p : ℕ) → at counts p < 256 ^ w }

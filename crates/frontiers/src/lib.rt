@@ -3,6 +3,7 @@
 #![tactic(auto)]
 
 pub mod counts;
+pub mod listed;
 pub mod moving;
 pub mod place;
 pub mod stored;

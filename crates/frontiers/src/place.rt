@@ -6,6 +6,7 @@ ghost use Rattle.frontiers.specs.Bytes.{frontier_length};
 use crate::width::CountWidth;
 
 // The length of a frontier.
+#[inline(always)]
 pub fn frontier_length(w: CountWidth) -> usize
     ensures { (result ≡ frontier_length w) × (result ≤ 56) }
 {
@@ -13,6 +14,7 @@ pub fn frontier_length(w: CountWidth) -> usize
 }
 
 // The place of frontier number i.
+#[inline(always)]
 pub fn frontier_place(w: CountWidth, i: usize) -> usize
     requires i_bound { i ≤ 1024 }
     ensures { (result ≡ i * frontier_length w) × (result ≤ 57344) }

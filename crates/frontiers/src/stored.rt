@@ -26,6 +26,7 @@ pub fn write_eight(s: &mut [u8], place: usize, bytes: [u8; 8])
 }
 
 // The values of the frontier whose bytes begin at a place.
+#[inline(always)]
 pub fn read_values(s: &[u8], place: usize, w: CountWidth) -> u64
     requires w_in_bounds { place + frontier_length w ≤ length s.now }
     ensures { result ≡ (frontier_from w s.now place).values }
@@ -34,6 +35,7 @@ pub fn read_values(s: &[u8], place: usize, w: CountWidth) -> u64
 }
 
 // The counts of frontier number i.
+#[inline(always)]
 pub fn counts_at(s: &[u8], w: CountWidth, i: usize) -> [u32; 8]
     requires i_bound { i ≤ 1024 }
     requires w_in_bounds { i * frontier_length w + frontier_length w ≤ length s.now }
@@ -44,6 +46,7 @@ pub fn counts_at(s: &[u8], w: CountWidth, i: usize) -> [u32; 8]
 }
 
 // The values of frontier number i.
+#[inline(always)]
 pub fn values_at(s: &[u8], w: CountWidth, i: usize) -> u64
     requires i_bound { i ≤ 1024 }
     requires w_in_bounds { i * frontier_length w + frontier_length w ≤ length s.now }
@@ -54,6 +57,7 @@ pub fn values_at(s: &[u8], w: CountWidth, i: usize) -> u64
 }
 
 // The frontier whose bytes begin at a place.
+#[inline(always)]
 pub fn read_frontier(s: &[u8], place: usize, w: CountWidth) -> Frontier
     requires w_in_bounds { place + frontier_length w ≤ length s.now }
     ensures { result ≡ frontier_from w s.now place }
@@ -67,6 +71,7 @@ pub fn read_frontier(s: &[u8], place: usize, w: CountWidth) -> Frontier
 }
 
 // Frontier number i.
+#[inline(always)]
 pub fn frontier_at(s: &[u8], w: CountWidth, i: usize) -> Frontier
     requires i_bound { i ≤ 1024 }
     requires w_in_bounds { i * frontier_length w + frontier_length w ≤ length s.now }
@@ -77,6 +82,7 @@ pub fn frontier_at(s: &[u8], w: CountWidth, i: usize) -> Frontier
 }
 
 // Stores a frontier's bytes at the start of what is lent.
+#[inline(always)]
 pub fn write_frontier(s: &mut [u8], w: CountWidth, f: Frontier)
     requires w_in_bounds { frontier_length w ≤ length s.old }
     requires by_index { (p : ℕ) → at f.counts p < 256 ^ w }
@@ -89,8 +95,8 @@ pub fn write_frontier(s: &mut [u8], w: CountWidth, f: Frontier)
 }
 
 // Lays a frontier down as number i: the tail from there on is lent to the frontier writer.
+// By hand, as promised: docs/PROOF-MAP.md names this function, so it asks for a number as before.
 pub fn lay_frontier(scratch: &mut [u8], w: usize, i: usize, f: Frontier)
-    // By hand, as promised: docs/PROOF-MAP.md names this function, so it asks for a number as before.
     requires width { Width w }
     requires i_bound { i ≤ 1024 }
     requires w_in_bounds { i * frontier_length w + frontier_length w ≤ length scratch.old }

@@ -1,4 +1,5 @@
-// The width of a count: two bytes (01, The window), or four (02 [6]).
+// The width of a count: two bytes (01, The window), or four (02 [6]). What takes it is compiled into its callers, by
+// `#[inline(always)]`: there the compiler knows the number, which it would else read anew for each count.
 
 ghost use Rattle.std.specs.Prelude.{ℕ, ◌≡◌};
 ghost use Rattle.frontiers.specs.Width.{Width};
@@ -23,6 +24,7 @@ impl Model for CountWidth {
 
 impl CountWidth {
     // Of so many bytes.
+    #[inline(always)]
     pub fn of(bytes: usize) -> Self
         requires { Width bytes }
         ensures { result ≡ bytes }
@@ -31,6 +33,7 @@ impl CountWidth {
     }
 
     // How many bytes a count has.
+    #[inline(always)]
     pub fn bytes(self) -> usize
         ensures value { result ≡ self }
         ensures width { Width self }

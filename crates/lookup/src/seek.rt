@@ -1,49 +1,40 @@
-// The look-up of counts among frontiers in ascending order, read straight from their bytes.
+// The look-up of counts among frontiers in ascending order, read straight from their bytes. Each function is compiled
+// into its caller, where the width of a count is a constant: read from the struct, a look-up takes up to twice as long.
 
-ghost use Rattle.std.specs.Prelude.{◌+◌, ◌*◌, ◌≤◌, ◌<◌, ◌≡◌, length, unwrap_or, IfSome};
-ghost use Rattle.frontiers.specs.Bytes.{frontier_length, frontier_at, frontiers};
-ghost use Rattle.lookup.specs.Seek.{standing, bisect as bisected, gallop as galloped, seek as sought, keys_of};
+ghost use Rattle.std.specs.Prelude.{◌≤◌, ◌<◌, ◌≡◌, length, unwrap_or, IfSome};
+ghost use Rattle.lookup.specs.Seek.{stands_to, bisect as bisected, gallop as galloped, seek as sought, keys_of};
 
-use frontiers::width::CountWidth;
+use frontiers::listed::Frontiers;
 use std::cmp::Ordering;
 
 // How the counts of frontier i stand to the key: process by process, until one differs.
-pub fn standing_at(s: &[u8], w: CountWidth, i: usize, key: [u32; 8]) -> Ordering
-    requires i_bound { i ≤ 1024 }
-    requires w_in_bounds { i * frontier_length w + frontier_length w ≤ length s.now }
-    ensures { result ≡ standing (frontier_at w s.now i).counts key }
+#[inline(always)]
+pub fn standing_at(laid: &Frontiers, i: usize, key: [u32; 8]) -> Ordering
+    requires { i < length laid.now }
+    ensures { result ≡ stands_to (keys_of laid.now) key i }
 {
-    let mut place = frontiers::place::frontier_place(w, i);
-    for wanted in &key {
-        let count = frontiers::counts::read_count(s, place, w);
-        if count != *wanted {
-            return count.cmp(wanted);
+    for p in 0..8 {
+        let count = laid.count_at(i, p);
+        if count != key[p] {
+            return count.cmp(&key[p]);
         }
-        place += w.bytes();
     }
     Ordering::Equal
 }
 
 // The place from low on and below high at which the key stands, by halving.
-pub fn bisect(
-    s: &[u8],
-    w: CountWidth,
-    n: usize,
-    key: [u32; 8],
-    low: usize,
-    high: usize,
-) -> Option<usize>
-    requires n_bound { n ≤ 1024 }
-    requires w_in_bounds { n * frontier_length w ≤ length s.now }
-    requires high_le_n { high ≤ n }
-    ensures place { unwrap_or result n ≡ bisected (keys_of (frontiers w s.now n)) key n low high }
-    ensures within { IfSome result (λ i. i < n) }
+#[inline(always)]
+pub fn bisect(laid: &Frontiers, key: [u32; 8], low: usize, high: usize) -> Option<usize>
+    requires { high ≤ length laid.now }
+    ensures place { unwrap_or result (length laid.now)
+        ≡ bisected (keys_of laid.now) key (length laid.now) low high }
+    ensures within { IfSome result (λ i. i < length laid.now) }
 {
     let mut lo = low;
     let mut hi = high;
     while lo < hi {
         let middle = lo + (hi - lo) / 2;
-        match standing_at(s, w, middle, key) {
+        match standing_at(laid, middle, key) {
             Ordering::Equal => {
                 return Some(middle);
             }
@@ -59,26 +50,27 @@ pub fn bisect(
 }
 
 // The same after a place whose counts stand before the key, by steps that double.
-pub fn gallop(s: &[u8], w: CountWidth, n: usize, key: [u32; 8], low: usize) -> Option<usize>
-    requires n_bound { n ≤ 1024 }
-    requires w_in_bounds { n * frontier_length w ≤ length s.now }
-    requires low_lt_n { low < n }
-    ensures place { unwrap_or result n ≡ galloped (keys_of (frontiers w s.now n)) key n low 1 }
-    ensures within { IfSome result (λ i. i < n) }
+#[inline(always)]
+pub fn gallop(laid: &Frontiers, key: [u32; 8], low: usize) -> Option<usize>
+    requires { low < length laid.now }
+    ensures place { unwrap_or result (length laid.now)
+        ≡ galloped (keys_of laid.now) key (length laid.now) low 1 }
+    ensures within { IfSome result (λ i. i < length laid.now) }
 {
+    let n = laid.len();
     let mut lo = low;
     let mut width = 1;
     loop {
         let far = lo + width;
         if n <= far {
-            return bisect(s, w, n, key, lo + 1, n);
+            return bisect(laid, key, lo + 1, n);
         }
-        match standing_at(s, w, far, key) {
+        match standing_at(laid, far, key) {
             Ordering::Equal => {
                 return Some(far);
             }
             Ordering::Greater => {
-                return bisect(s, w, n, key, lo + 1, far);
+                return bisect(laid, key, lo + 1, far);
             }
             Ordering::Less => {
                 lo = far;
@@ -88,19 +80,19 @@ pub fn gallop(s: &[u8], w: CountWidth, n: usize, key: [u32; 8], low: usize) -> O
     }
 }
 
-// The place at which the key stands among the first n frontiers, from a hint.
-pub fn seek(s: &[u8], w: CountWidth, n: usize, key: [u32; 8], hint: usize) -> Option<usize>
-    requires n_bound { n ≤ 1024 }
-    requires w_in_bounds { n * frontier_length w ≤ length s.now }
-    ensures place { unwrap_or result n ≡ sought (keys_of (frontiers w s.now n)) key hint }
-    ensures within { IfSome result (λ i. i < n) }
+// The place at which the key stands among the frontiers, from a hint.
+#[inline(always)]
+pub fn seek(laid: &Frontiers, key: [u32; 8], hint: usize) -> Option<usize>
+    ensures place { unwrap_or result (length laid.now) ≡ sought (keys_of laid.now) key hint }
+    ensures within { IfSome result (λ i. i < length laid.now) }
 {
+    let n = laid.len();
     if n <= hint {
-        return bisect(s, w, n, key, 0, n);
+        return bisect(laid, key, 0, n);
     }
-    match standing_at(s, w, hint, key) {
+    match standing_at(laid, hint, key) {
         Ordering::Equal => Some(hint),
-        Ordering::Less => gallop(s, w, n, key, hint),
-        Ordering::Greater => bisect(s, w, n, key, 0, hint),
+        Ordering::Less => gallop(laid, key, hint),
+        Ordering::Greater => bisect(laid, key, 0, hint),
     }
 }

@@ -110,6 +110,14 @@ pub length_wrong : (n : ℕ) → bad_pool_length n ≡ true → n ≢ pool_lengt
 unfolding bad_pool_length
 length_wrong n h = eqb-false n pool_length (not-true _ h)
 
+pub right_length : (n : ℕ) → n ≡ pool_length → bad_pool_length n ≡ false
+unfolding bad_pool_length
+right_length n h = rw (eq-eqb n pool_length h)
+
+pub wrong_length : (n : ℕ) → n ≢ pool_length → bad_pool_length n ≡ true
+unfolding bad_pool_length
+wrong_length n h = rw (ne_eqb n pool_length h)
+
 pub share_allowed : (pool : List ℕ) (i : ℕ) → share_at pool i ≤ allowance pool i
 unfolding allowance
 share_allowed pool i = omega arith

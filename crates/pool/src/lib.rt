@@ -3,34 +3,28 @@
 
 #![tactic(auto)]
 
-ghost use Rattle.std.specs.Prelude.{◌+◌, ◌*◌, ◌≤◌, ◌<◌, ◌≡◌, length};
+ghost use Rattle.std.specs.Prelude.{◌+◌, ◌*◌, ◌≤◌, ◌<◌, ◌≡◌};
 ghost use Rattle.codec.specs.Little.{number};
 ghost use Rattle.numbers.specs.Limit.{most_members};
-ghost use Rattle.pool.specs.Pool.{pool_length, sum_below, share_at, brought_up, bad_pool_length, no_share, used_by_others};
+ghost use Rattle.pool.specs.Pool.{sum_below, share_at, brought_up, no_share, used_by_others};
 ghost use Rattle.pool.specs.PoolCode.{used_by};
 ghost use Rattle.pool.specs.Pool as pools;
 
 use numbers::limit::{FRONTIERS, MEMBERS};
 
-// 6: a pool of a wrong length.
-pub fn bad_pool_length(n: usize) -> bool
-    ensures { result ≡ bad_pool_length n }
-{
-    n != 32
-}
+// The bytes of a pool. One of another length is refused with 6 before it gets this type.
+pub type Pool = [u8; 32];
 
 // Number n of the sixteen: the shares, then how many frontiers each watch keeps.
-fn number_at(pool: &[u8], n: usize) -> usize
-    requires pool_len { length pool.now ≡ pool_length }
-    requires n_bound { n < 2 * most_members }
+fn number_at(pool: &Pool, n: usize) -> usize
+    requires { n < 2 * most_members }
     ensures { (result ≡ number pool.now (2 * n) 2) × (result < 65536) }
 {
     usize::from(codec::read_u16(pool, 2 * n))
 }
 
 // 34: a number without a share. Its whole word counts.
-pub fn no_share(pool: &[u8], number: u64) -> bool
-    requires { length pool.now ≡ pool_length }
+pub fn no_share(pool: &Pool, number: u64) -> bool
     ensures { result ≡ no_share pool.now number }
 {
     number >= MEMBERS as u64 || number_at(pool, number as usize) == 0
@@ -38,9 +32,8 @@ pub fn no_share(pool: &[u8], number: u64) -> bool
 
 // What watch j holds against watch i: its share, or what it keeps if that is more. Of watch i itself the share alone
 // counts.
-fn held_by(pool: &[u8], i: usize, j: usize) -> usize
-    requires pool_len { length pool.now ≡ pool_length }
-    requires j_lt_most_members { j < most_members }
+fn held_by(pool: &Pool, i: usize, j: usize) -> usize
+    requires { j < most_members }
     ensures { (result ≡ share_at pool.now j + used_by pool.now i j) × (result < 65536) }
 {
     let share = number_at(pool, j);
@@ -51,8 +44,7 @@ fn held_by(pool: &[u8], i: usize, j: usize) -> usize
 }
 
 // What all watches hold against watch i: the promised frontiers, and those that others are using beyond their shares.
-fn held(pool: &[u8], i: usize) -> usize
-    requires { length pool.now ≡ pool_length }
+fn held(pool: &Pool, i: usize) -> usize
     ensures { result ≡ sum_below most_members (share_at pool.now) + used_by_others pool.now i }
 {
     let mut sum = 0;
@@ -63,18 +55,16 @@ fn held(pool: &[u8], i: usize) -> usize
 }
 
 // How many frontiers watch i may keep: its share, and what nothing holds against it.
-pub fn allowance(pool: &[u8], i: usize) -> usize
-    requires pool_len { length pool.now ≡ pool_length }
-    requires i_lt_most_members { i < most_members }
+pub fn allowance(pool: &Pool, i: usize) -> usize
+    requires { i < most_members }
     ensures { (result ≡ pools.allowance pool.now i) × (result ≤ 66560) }
 {
     number_at(pool, i) + FRONTIERS.saturating_sub(held(pool, i))
 }
 
 // Watch i's kept number is brought up to date.
-pub fn bring_up(pool: &mut [u8], i: usize, kept: u16)
-    requires pool_len { length pool.old ≡ pool_length }
-    requires i_lt_most_members { i < most_members }
+pub fn bring_up(pool: &mut Pool, i: usize, kept: u16)
+    requires { i < most_members }
     ensures { pool.new ≡ brought_up pool.old i kept }
 {
     codec::write_u16(pool, 16 + 2 * i, kept);

@@ -47,6 +47,7 @@ pub fn kept_count(record: &[u8]) -> u32
 }
 
 // The taken counts.
+#[inline(always)]
 pub fn taken_counts(record: &[u8], w: CountWidth) -> [u32; 8]
     requires w_in_bounds { 8 + 8 * w ≤ length «record».now }
     ensures { result ≡ taken_counts w «record».now }
@@ -55,6 +56,7 @@ pub fn taken_counts(record: &[u8], w: CountWidth) -> [u32; 8]
 }
 
 // The place of the table.
+#[inline(always)]
 pub fn table_place(w: CountWidth) -> usize
     ensures { (result ≡ table_place w) × (result ≤ 296) }
 {
@@ -62,6 +64,7 @@ pub fn table_place(w: CountWidth) -> usize
 }
 
 // The length of a pending event.
+#[inline(always)]
 pub fn event_length(w: CountWidth) -> usize
     ensures { (result ≡ event_length w) × (result ≤ 48) }
 {
@@ -69,6 +72,7 @@ pub fn event_length(w: CountWidth) -> usize
 }
 
 // The place of pending event number i.
+#[inline(always)]
 pub fn pending_place(w: CountWidth, i: usize) -> usize
     requires i_bound { i ≤ 32 }
     ensures { (result ≡ pending_place w i) × (result ≤ 2024) }
@@ -81,6 +85,7 @@ pub fn pending_place(w: CountWidth, i: usize) -> usize
 }
 
 // Pending event number i.
+#[inline(always)]
 pub fn pending_event(record: &[u8], w: CountWidth, i: usize) -> Event
     requires record_len { length «record».now ≡ record_length w }
     requires i_bound { i < 32 }

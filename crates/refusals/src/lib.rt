@@ -23,6 +23,7 @@ use records::fields::{
 
 // 6: a record of a wrong length.
 #[tactic(auto, unfolding(crate::specs::Refusals::bad_record_length))]
+#[inline(always)]
 pub fn bad_record_length(w: CountWidth, n: usize) -> bool
     ensures { result ≡ bad_record_length w n }
 {
@@ -31,6 +32,7 @@ pub fn bad_record_length(w: CountWidth, n: usize) -> bool
 
 // 6: a window that has not 1 to 1,024 whole frontiers.
 #[tactic(auto, unfolding(crate::specs::Refusals::bad_window_length, frontiers::specs::Bytes::frontier_length))]
+#[inline(always)]
 pub fn bad_window_length(w: CountWidth, n: usize) -> bool
     ensures { result ≡ bad_window_length w n }
 {
@@ -40,6 +42,7 @@ pub fn bad_window_length(w: CountWidth, n: usize) -> bool
 
 // How many frontiers a lent window has room for.
 #[tactic(auto, unfolding(crate::specs::Refusals::room_of, frontiers::specs::Bytes::frontier_length))]
+#[inline(always)]
 pub fn room_of(w: CountWidth, n: usize) -> usize
     ensures { result ≡ room_of w n }
 {
@@ -69,6 +72,7 @@ fn bad_numbers(k: u32, pending: usize, lines: u32, kept: usize, room: usize) -> 
 }
 
 // 34: the state of a watch that no calls left, where a window has so much room.
+#[inline(always)]
 pub fn bad_state(record: &[u8], w: CountWidth, room: usize) -> bool
     requires record_len { length «record».now ≡ record_length w }
     ensures { result ≡ bad_state w room «record».now }
@@ -85,9 +89,9 @@ pub fn bad_state(record: &[u8], w: CountWidth, room: usize) -> bool
 }
 
 // What record and window alone turn a call back with, for a window of n bytes.
+// By hand, as promised: docs/DECISIONS.md names this function, so it asks for a number as before.
 #[tactic(auto, using(crate::specs::RefusalLaws::right_length), unfolding(crate::specs::RefusalCode::watch_fault))]
 pub fn watch_fault(w: usize, record: &[u8], n: usize) -> Result<(), Refusal>
-    // By hand, as promised: docs/DECISIONS.md names this function, so it asks for a number as before.
     requires { Width w }
     ensures { refused result ≡ watch_fault w «record».now n }
 {

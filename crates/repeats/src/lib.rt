@@ -26,8 +26,8 @@ pub fn same_event(a: Event, b: Event) -> bool
 
 // Whether a pending event passes a test.
 // By hand, for the proof: in a closure under `any` the check does not find that i is a pending event's number.
+// By hand, as promised: docs/DECISIONS.md names this function, so it asks for a number as before.
 pub fn pending_alike<F: Fn(Event) -> bool>(record: &[u8], w: usize, alike: F) -> bool
-    // By hand, as promised: docs/DECISIONS.md names this function, so it asks for a number as before.
     requires width { Width w }
     requires record_len { length «record».now ≡ record_length w }
     requires record_bound { pending_count «record».now ≤ 32 }
@@ -45,6 +45,7 @@ pub fn pending_alike<F: Fn(Event) -> bool>(record: &[u8], w: usize, alike: F) ->
 }
 
 // Whether a pending event is the same: "again".
+#[inline(always)]
 pub fn repeated(record: &[u8], w: CountWidth, e: Event) -> bool
     requires record_len { length «record».now ≡ record_length w }
     requires record_bound { pending_count «record».now ≤ 32 }
@@ -54,6 +55,7 @@ pub fn repeated(record: &[u8], w: CountWidth, e: Event) -> bool
 }
 
 // 32: a pending event has the same count at a common process.
+#[inline(always)]
 pub fn conflicting(record: &[u8], w: CountWidth, e: Event) -> bool
     requires record_len { length «record».now ≡ record_length w }
     requires record_bound { pending_count «record».now ≤ 32 }

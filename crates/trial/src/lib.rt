@@ -33,6 +33,7 @@ pub enum Choice {
 }
 
 // How many frontiers are kept once a ready event is taken; the marks say what comes of each.
+// By hand, as promised: docs/DECISIONS.md names this function, so it asks for a number as before.
 pub fn kept_with(
     record: &[u8],
     w: usize,
@@ -41,7 +42,6 @@ pub fn kept_with(
     n: usize,
     e: Event,
 ) -> usize
-    // By hand, as promised: docs/DECISIONS.md names this function, so it asks for a number as before.
     requires width { Width w }
     requires record_len { length «record».now ≡ record_length w }
     requires record_bound { process_count «record».now ≤ 8 }
@@ -66,6 +66,7 @@ fn fitting(kept: usize, allowed: usize) -> bool
 
 // The first pending event in turn that has a false clock, or that fits, with its marks; or none, and whether one was
 // ready. The kept frontiers are looked through for what an event knows of, one by one: on any bytes, in any order.
+// By hand, as promised: docs/DECISIONS.md names this function, so it asks for a number as before.
 pub fn decide(
     record: &[u8],
     w: usize,
@@ -74,7 +75,6 @@ pub fn decide(
     n: usize,
     allowed: usize,
 ) -> Choice
-    // By hand, as promised: docs/DECISIONS.md names this function, so it asks for a number as before.
     requires width { Width w }
     requires record_len { length «record».now ≡ record_length w }
     requires record_bound { process_count «record».now ≤ 8 }

@@ -11,6 +11,7 @@ use frontiers::width::CountWidth;
 use records::fields::pending_place;
 
 // The lowest process of pending event number i.
+#[inline(always)]
 fn lowest_at(record: &[u8], w: CountWidth, i: usize) -> u32
     requires record_len { length «record».now ≡ record_length w }
     requires i_bound { i < 32 }
@@ -20,6 +21,7 @@ fn lowest_at(record: &[u8], w: CountWidth, i: usize) -> u32
 }
 
 // Whether none of the pending events has a lower lowest process than the one before it.
+#[inline(always)]
 pub fn in_order(record: &[u8], w: CountWidth, pending: usize) -> bool
     requires record_len { length «record».now ≡ record_length w }
     requires pending_value { (pending ≡ pending_count «record».now) × (pending ≤ 32) }
@@ -38,6 +40,7 @@ pub fn in_order(record: &[u8], w: CountWidth, pending: usize) -> bool
 
 // The place of the event in turn after so many, looked for from process 0 up; an event of no process has 8 for its
 // lowest.
+#[inline(always)]
 fn sought_place(record: &[u8], w: CountWidth, pending: usize, turn: usize) -> usize
     requires record_len { length «record».now ≡ record_length w }
     requires pending_value { (pending ≡ pending_count «record».now) × (pending ≤ 32) }
@@ -58,6 +61,7 @@ fn sought_place(record: &[u8], w: CountWidth, pending: usize, turn: usize) -> us
 }
 
 // The place of the event in turn after so many.
+#[inline(always)]
 pub fn place_in_turn(
     record: &[u8],
     w: CountWidth,

@@ -16,6 +16,7 @@ use records::fields::{event_length, pending_count, pending_place, taken_counts};
 
 // Stores eight counts at a place.
 #[tactic(auto, using(frontiers::specs::StoreLaws::lent_tail))]
+#[inline(always)]
 pub fn write_counts_at(record: &mut [u8], w: CountWidth, place: usize, counts: [u32; 8])
     requires w_in_bounds { place + 8 * w ≤ length «record».old }
     requires by_index { (p : ℕ) → at counts p < 256 ^ w }
@@ -25,9 +26,9 @@ pub fn write_counts_at(record: &mut [u8], w: CountWidth, place: usize, counts: [
 }
 
 // Stores a pending event's bytes at a place.
+// By hand, as promised: docs/DECISIONS.md names this function, so it asks for a number as before.
 #[tactic(auto, using(crate::proofs::UpdateSteps::stored_event))]
 pub fn write_event(record: &mut [u8], w: usize, place: usize, e: Event)
-    // By hand, as promised: docs/DECISIONS.md names this function, so it asks for a number as before.
     requires width { Width w }
     requires w_in_bounds { place + event_length w ≤ length «record».old }
     requires by_index { (p : ℕ) → at e.clock p < 256 ^ w }
@@ -41,6 +42,7 @@ pub fn write_event(record: &mut [u8], w: usize, place: usize, e: Event)
 
 // Lays an event down as number i of the pending ones, those from i on moved up by one.
 #[tactic(auto, using(records::specs::RecordLaws::place_below))]
+#[inline(always)]
 pub fn insert_event(record: &mut [u8], w: CountWidth, i: usize, e: Event)
     requires record_len { length «record».old ≡ record_length w }
     requires i_bound { i ≤ pending_count «record».old }
@@ -58,6 +60,7 @@ pub fn insert_event(record: &mut [u8], w: CountWidth, i: usize, e: Event)
 
 // Takes pending event number i out, those behind it moved down by one, the freed place 0.
 #[tactic(auto, using(records::specs::RecordLaws::place_below))]
+#[inline(always)]
 pub fn remove_event(record: &mut [u8], w: CountWidth, i: usize)
     requires record_len { length «record».old ≡ record_length w }
     requires i_bound { i < pending_count «record».old }
@@ -74,6 +77,7 @@ pub fn remove_event(record: &mut [u8], w: CountWidth, i: usize)
 }
 
 // The clock of an event stored as the last one of each of its processes.
+#[inline(always)]
 pub fn set_clocks(record: &mut [u8], w: CountWidth, e: Event)
     requires record_len { length «record».old ≡ record_length w }
     requires by_index { (p : ℕ) → at e.clock p < 256 ^ w }
@@ -93,6 +97,7 @@ pub fn set_clocks(record: &mut [u8], w: CountWidth, e: Event)
 }
 
 // Counts a ready event as taken: the taken counts with it, its clock as its processes' last, the frontiers kept.
+#[inline(always)]
 pub fn count_taken(record: &mut [u8], w: CountWidth, e: Event, kept: u32)
     requires record_len { length «record».old ≡ record_length w }
     requires by_index { (p : ℕ) → at e.clock p < 256 ^ w }

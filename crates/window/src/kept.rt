@@ -15,6 +15,7 @@ use clocks::Event;
 use frontiers::width::CountWidth;
 
 // How many frontiers there are after the event; each frontier's mark says what comes of it.
+// By hand, as promised: docs/DECISIONS.md names this function, so it asks for a number as before.
 pub fn count_after(
     window: &[u8],
     marks: &mut [u8],
@@ -25,7 +26,6 @@ pub fn count_after(
     e: Event,
     reached: [u32; 8],
 ) -> usize
-    // By hand, as promised: docs/DECISIONS.md names this function, so it asks for a number as before.
     requires width { Width w }
     requires room_for { RoomFor w n window.now }
     requires k_bound { k ≤ 8 }

@@ -3,17 +3,14 @@ use Prim.Native.Nat.{ℕ, ◌+◌, ◌≤◌, ◌<◌}
 use native.Mathlib.Numerals.{add-one}
 use mathlib.Core.Path.{◌≡◌, refl, sym, ap, ◌∙◌}
 use mathlib.Core.Bool.{true, false}
-use mathlib.Core.List.{List, []}
+use mathlib.Core.List.{List}
 use lib.Bits.{bit_or, bit_and}
 use lib.ListN.{get_or, set, length}
 use borrow.Author.Tests.{lt-ltb, le-ltb}
 use Rattle.clocks.specs.Event.{involved, minus}
 use Rattle.clocks.specs.Counts.{at, list_of}
 use Rattle.frontiers.specs.declared.Frontier.{Frontier}
-use Rattle.window.specs.Lists.{get_d_mapped}
 use Rattle.lookup.specs.Seek.{seek, keys_of}
-use Rattle.frontiers.specs.Bytes.{frontiers, frontier_at}
-use Rattle.frontiers.specs.WindowLaws.{length-frontiers, get_d_frontiers}
 use Rattle.pactl.specs.Judge.{judge}
 use Rattle.window_step.specs.declared.Found.{Found}
 use Rattle.window.specs.Step.{Setting, Gathered, sought, without_last, consider, gathered, values_at, advanced, judged_by}
@@ -57,15 +54,6 @@ gathered_more s laid hints g p = rw add-one
 pub gathered_none : (s : Setting) (laid : List Frontier) (hints : List ℕ) (g : Frontier) → gathered s laid hints g 0 ≡ record { ors = g.values; ands = g.values; hints = hints }
 unfolding gathered
 gathered_none s laid hints g = refl
-
--- ---- Values by places
-pub values_at_lem : (w : ℕ) (bytes : List ℕ) (n i : ℕ) → i < n → values_at (frontiers w bytes n) i ≡ (frontier_at w bytes i).values
-values_at_lem w bytes n i l =
-    get_d_mapped (λ f. f.values) (frontiers w bytes n) i none 0 (rw (length-frontiers w bytes n) l)
-    ∙ ap (λ (f : Frontier). f.values) (get_d_frontiers w bytes n i none l)
-  where
-    none : Frontier
-    none = record { counts = []; labels = []; masks = []; values = 0 }
 
 -- ---- A new frontier by the parts of the code: what it came from, what was gathered, how it was judged
 module _ (s : Setting) (laid : List Frontier) (hints : List ℕ) (f g : Frontier) (r : Found) (a : g ≡ advanced s f) (e : gathered_of r ≡ gathered s laid hints g s.processes) where

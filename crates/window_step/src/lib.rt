@@ -2,6 +2,9 @@
 
 #![tactic(auto)]
 
+ghost use Rattle.std.specs.Prelude.{◌≤◌};
+ghost use Rattle.window.specs.StepCode.{Fitting};
+
 use clocks::Event;
 use frontiers::width::CountWidth;
 
@@ -13,7 +16,7 @@ pub mod step;
 
 // What is fixed during a step: the width of a count, how many frontiers there are and how many are kept, the processes
 // and which of them are closed, the event, the taken counts with it, and the table's lines.
-// Its code goes by the marks: closed and reached only say what was marked.
+// Its code goes by the marks: closed and reached only say what was marked. Bytes can hold the event.
 #[derive(Clone, Copy)]
 pub struct Stepping {
     pub w: CountWidth,
@@ -24,6 +27,9 @@ pub struct Stepping {
     pub event: Event,
     pub reached: [u32; 8],
     pub lines: u32,
+    ghost fitting: { Fitting w event },
+    ghost few_processes: { k ≤ 8 },
+    ghost few_lines: { lines ≤ 64 },
 }
 
 // What is gathered from the cuts that precede a new frontier: the OR and the AND of their values, and where each

@@ -5,7 +5,6 @@ ghost use Rattle.codec.specs.Bit.{bit};
 ghost use Rattle.frontiers.specs.declared.Frontier.{Frontier};
 ghost use Rattle.frontiers.specs.Bytes.{frontier_at, frontiers};
 ghost use Rattle.window.specs.Step.{kept_after};
-ghost use Rattle.window.specs.StepCode.{Fitting};
 ghost use Rattle.window.specs.Room.{RoomFor};
 ghost use Rattle.window_step.specs.Fixed.{setting_of, frontiers_of, stepped_of};
 ghost use Rattle.window_step.specs.Laying.{takes, rest_of, fresh_at};
@@ -46,6 +45,7 @@ pub fn next_marked(marks: &[u8], n: usize, from: usize, p: u32) -> usize
 }
 
 // Whether the next one to be laid down is new: i is the next that stays, j the next that the event leads on from.
+#[inline(always)]
 pub fn fresh_first(window: &[u8], w: CountWidth, n: usize, i: usize, j: usize, e: Event) -> bool
     requires room_for { RoomFor w n window.now }
     requires j_value { j < n → takes e (frontier_at w window.now j) ≡ true }
@@ -64,16 +64,14 @@ pub fn fresh_first(window: &[u8], w: CountWidth, n: usize, i: usize, j: usize, e
 }
 
 // Lays down in the scratch all frontiers that there are after the event, by the marks.
-pub fn lay_all(window: &[u8], marks: &[u8], scratch: &mut [u8], table: &[u8], fixed: Stepping)
-    requires fitting { Fitting fixed.w fixed.event }
-    requires room_for { RoomFor fixed.w fixed.n window.now }
-    requires room_for_2 { RoomFor fixed.w fixed.kept scratch.old }
-    requires lines_bound { (fixed.lines ≤ 64) × (3 * fixed.lines ≤ length table.now) }
-    requires k_bound { fixed.k ≤ 8 }
-    requires kept_value { fixed.kept ≡ kept_after (setting_of fixed table.now) (frontiers_of fixed window.now) }
-    requires n_in_bounds { fixed.n ≤ length marks.now }
-    requires marked { Marked (setting_of fixed table.now) fixed.w window.now fixed.n marks.now }
-    ensures { frontiers fixed.w scratch.new fixed.kept ≡ stepped_of fixed table.now window.now }
+pub fn lay_all(window: &[u8], marks: &[u8], scratch: &mut [u8], table: &[u8], fixed: &Stepping)
+    requires room_for { RoomFor fixed.now.w fixed.now.n window.now }
+    requires room_for_2 { RoomFor fixed.now.w fixed.now.kept scratch.old }
+    requires table_len { 3 * fixed.now.lines ≤ length table.now }
+    requires kept_value { fixed.now.kept ≡ kept_after (setting_of fixed.now table.now) (frontiers_of fixed.now window.now) }
+    requires n_in_bounds { fixed.now.n ≤ length marks.now }
+    requires marked { Marked (setting_of fixed.now table.now) fixed.now.w window.now fixed.now.n marks.now }
+    ensures { frontiers fixed.now.w scratch.new fixed.now.kept ≡ stepped_of fixed.now table.now window.now }
 {
     let w = fixed.w;
     let n = fixed.n;
@@ -84,9 +82,7 @@ pub fn lay_all(window: &[u8], marks: &[u8], scratch: &mut [u8], table: &[u8], fi
     let mut j = next_marked(marks, n, 0, LEADS);
     for m in 0..fixed.kept {
         if fresh_first(window, w, n, i, j, e) {
-            // By hand, for the proof: once `w` was read from `fixed`, the check covers no handing on of it as it is.
-            let here = Stepping { w, ..fixed };
-            let ended = crate::lay::lay_fresh(window, scratch, table, here, full, j, m, hints);
+            let ended = crate::lay::lay_fresh(window, scratch, table, fixed, full, j, m, hints);
             hints = ended;
             j = next_marked(marks, n, j + 1, LEADS);
         } else {

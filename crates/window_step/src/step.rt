@@ -3,7 +3,6 @@
 ghost use Rattle.std.specs.Prelude.{◌*◌, ◌-◌, ◌≤◌, ◌≡◌, length, replicate};
 ghost use Rattle.frontiers.specs.Bytes.{frontier_length, frontiers, replaced};
 ghost use Rattle.window.specs.Step.{kept_after};
-ghost use Rattle.window.specs.StepCode.{Fitting};
 ghost use Rattle.window.specs.Room.{RoomFor};
 ghost use Rattle.window_step.specs.Fixed.{setting_of, frontiers_of, stepped_of};
 ghost use Rattle.window.specs.Marks.{Marked};
@@ -12,6 +11,7 @@ use crate::Stepping;
 use frontiers::width::CountWidth;
 
 // How many bytes are left of n frontiers after m others.
+#[inline(always)]
 fn left_over(w: CountWidth, n: usize, m: usize) -> usize
     requires n_bound { n ≤ 1024 }
     ensures { result ≡ (n - m) * frontier_length w }
@@ -21,6 +21,7 @@ fn left_over(w: CountWidth, n: usize, m: usize) -> usize
 
 // The first m frontiers of the scratch take the place of the window's n; what is left of those and the scratch are
 // cleared.
+#[inline(always)]
 pub fn copy_back(window: &mut [u8], scratch: &mut [u8], w: CountWidth, n: usize, m: usize)
     requires room_for { RoomFor w n window.old }
     requires room_for_2 { RoomFor w m window.old }
@@ -36,24 +37,18 @@ pub fn copy_back(window: &mut [u8], scratch: &mut [u8], w: CountWidth, n: usize,
 }
 
 // The window after the event, of so many frontiers as are kept; the scratch is cleared.
-pub fn step(window: &mut [u8], marks: &[u8], scratch: &mut [u8], table: &[u8], fixed: Stepping)
-    requires fitting { Fitting fixed.w fixed.event }
-    requires room_for { RoomFor fixed.w fixed.n window.old }
-    requires room_for_2 { RoomFor fixed.w fixed.kept scratch.old }
-    requires room_for_3 { RoomFor fixed.w fixed.kept window.old }
-    requires lines_bound { (fixed.lines ≤ 64) × (3 * fixed.lines ≤ length table.now) }
-    requires k_bound { fixed.k ≤ 8 }
-    requires kept_value { fixed.kept ≡ kept_after (setting_of fixed table.now) (frontiers_of fixed window.old) }
-    requires n_in_bounds { fixed.n ≤ length marks.now }
-    requires marked { Marked (setting_of fixed table.now) fixed.w window.old fixed.n marks.now }
-    ensures window_after { window.new ≡ replaced fixed.w window.old fixed.n (stepped_of fixed table.now window.old) }
+pub fn step(window: &mut [u8], marks: &[u8], scratch: &mut [u8], table: &[u8], fixed: &Stepping)
+    requires room_for { RoomFor fixed.now.w fixed.now.n window.old }
+    requires room_for_2 { RoomFor fixed.now.w fixed.now.kept scratch.old }
+    requires room_for_3 { RoomFor fixed.now.w fixed.now.kept window.old }
+    requires table_len { 3 * fixed.now.lines ≤ length table.now }
+    requires kept_value { fixed.now.kept ≡ kept_after (setting_of fixed.now table.now) (frontiers_of fixed.now window.old) }
+    requires n_in_bounds { fixed.now.n ≤ length marks.now }
+    requires marked { Marked (setting_of fixed.now table.now) fixed.now.w window.old fixed.now.n marks.now }
+    ensures window_after { window.new ≡ replaced fixed.now.w window.old fixed.now.n (stepped_of fixed.now table.now window.old) }
     ensures scratch_after { scratch.new ≡ replicate (length scratch.old) 0 }
-    ensures kept_after { frontiers fixed.w window.new fixed.kept ≡ stepped_of fixed table.now window.old }
+    ensures kept_after { frontiers fixed.now.w window.new fixed.now.kept ≡ stepped_of fixed.now table.now window.old }
 {
-    // By hand, for the proof: read first, as the check covers no field of `fixed` once it was handed on.
-    let w = fixed.w;
-    let n = fixed.n;
-    let kept = fixed.kept;
     crate::merge::lay_all(window, marks, scratch, table, fixed);
-    copy_back(window, scratch, w, n, kept);
+    copy_back(window, scratch, fixed.w, fixed.n, fixed.kept);
 }

@@ -48,19 +48,19 @@ returns-then-from-line c =
 pub kept_count-requires : goal.kept_count-requires
 kept_count-requires c = omega (arith, (good (goal.at.kept_count-requires c).In_default).record_long)
 
-pub find_first-requires-clause-line_bound : goal.find_first-requires-clause-line_bound
-find_first-requires-clause-line_bound c =
-    let fine = good (goal.at.find_first-requires-clause-line_bound c).In_default in
+pub find_first-requires : goal.find_first-requires
+find_first-requires c =
+    let fine = good (goal.at.find_first-requires c).In_default in
     omega (arith, fine.lines)
 
-pub find_first-requires-clause-kept_bound : goal.find_first-requires-clause-kept_bound
-find_first-requires-clause-kept_bound c =
-    let fine = good (goal.at.find_first-requires-clause-kept_bound c).In_default in
+pub of-laid-requires-clause-count_bound : goal.of-laid-requires-clause-count_bound
+of-laid-requires-clause-count_bound c =
+    let fine = good (goal.at.of-laid-requires-clause-count_bound c).In_default in
     omega (arith, fine.kept)
 
-pub find_first-requires-clause-w_in_bounds : goal.find_first-requires-clause-w_in_bounds
-find_first-requires-clause-w_in_bounds c =
-    let fine = good (goal.at.find_first-requires-clause-w_in_bounds c).In_default in
+pub of-laid-requires-clause-within : goal.of-laid-requires-clause-within
+of-laid-requires-clause-within c =
+    let fine = good (goal.at.of-laid-requires-clause-within c).In_default in
     let held = fine.kept_within in
     rw (c.kept_count.ensures, c.of-width.ensures) held
 

@@ -8,9 +8,9 @@ pub returns-in-Some : goal.returns-in-Some
 returns-in-Some c =
     let a = c.args in
     let first = c.in-Some.ensures.first in
-    sym (first.2 ∙ find_here a.w a.line a.window.now a.kept c.in-Some.i first.0 first.1)
+    sym (first.2 ∙ find_here a.line a.laid.now c.in-Some.i first.0 first.1)
 
 pub returns-in-None : goal.returns-in-None
 returns-in-None c =
     let a = c.args in
-    sym (c.in-None.ensures.nowhere refl ∙ find_none a.w a.line a.window.now a.kept a.kept (le_refl _))
+    sym (c.in-None.ensures.nowhere refl ∙ find_none a.line a.laid.now _ (le_refl _))

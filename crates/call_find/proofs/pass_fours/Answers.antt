@@ -4,8 +4,7 @@ use borrow.Author.Tests.{tests}
 use Rattle.std.proofs.lemmas.Iterator.{serves_from_Range, first_from_Range}
 use Rattle.std.specs.Option.{unwrap_or}
 use Rattle.call_find.specs.FindCode.{reply_from}
-use Rattle.frontiers.specs.Bytes.{frontier_length}
-use Rattle.call_find.proofs.FindSteps.{NoneOfFour, four_within, fours_end}
+use Rattle.call_find.proofs.FindSteps.{NoneOfFour, fours_end}
 use Rattle.call_find.proofs.pass_fours.Goals as goal
 use Rattle.call_find.proofs.pass_fours.Goals.{After-find}
 
@@ -13,25 +12,23 @@ pub find-requires-clause-callable : goal.find-requires-clause-callable
 find-requires-clause-callable c =
     let a = c.args in
     serves_from_Range (λ x q h. search rules) (λ x l m y e.
-    let n = length a.window.now in
-    let within : (4 * y.now + 4) * frontier_length a.w ≤ n = four_within y.now a.kept (frontier_length a.w) n (omega arith) (search rules) in
+    let within : 4 * y.now + 4 ≤ length a.laid.now = omega arith in
     search rules)
 
 passed : (c : After-find) → let a = c.args in let r = c.find.result in
-    (unwrap_or r (a.kept / 4) ≤ a.kept / 4)
-    × (reply_from a.w a.line a.window.now a.kept 0
-    ≡ reply_from a.w a.line a.window.now a.kept (4 * unwrap_or r (a.kept / 4)))
+    let n = length a.laid.now / 4 in
+    (unwrap_or r n ≤ n) × (reply_from a.line a.laid.now 0 ≡ reply_from a.line a.laid.now (4 * unwrap_or r n))
 passed c =
     let a = c.args in
-    fours_end a.w a.line a.window.now a.kept c.find.result
-    (first_from_Range _ _ _ _ (λ _. Unit {0}) (NoneOfFour a.w a.line a.window.now) c.find.ensures.ran (λ x q k. tt)
-    (λ x q k. search (rules, tests)))
+    let found = first_from_Range _ _ _ _ (λ _. Unit {0}) (NoneOfFour a.line a.laid.now) c.find.ensures.ran (λ x q k. tt)
+    (λ x q k. search (rules, tests)) in
+    fours_end a.line a.laid.now c.find.result (rw c.len-fours.ensures.value at found)
 
 pub overflow_mul-result : goal.overflow_mul-result
 overflow_mul-result c =
     let within = (passed (goal.at.overflow_mul-result c).After-find).0 in
-    record { fits = rw c.unwrap_or.ensures (omega arith) }
+    record { fits = rw (c.unwrap_or.ensures, c.len-fours.ensures.value) (omega arith) }
 
 pub returns-clause-kept_value : goal.returns-clause-kept_value
 returns-clause-kept_value c =
-    rw c.unwrap_or.ensures (passed (goal.at.returns-clause-kept_value c).After-find).1
+    rw (c.unwrap_or.ensures, c.len-fours.ensures.value) (passed (goal.at.returns-clause-kept_value c).After-find).1

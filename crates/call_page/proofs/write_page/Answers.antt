@@ -1,13 +1,15 @@
 -- A number turns the call back; else the rows are written: the laws `page_turned` and `page_written_lem`.
-use Rattle.std.proofs.Common.{◌≡◌, ℕ, ◌≤◌, ◌-◌, ◌*◌, List, length, arith, sym, ap, ◌∙◌}
+use Rattle.std.proofs.Common.{◌≡◌, ℕ, ◌≤◌, ◌<◌, ◌-◌, ◌*◌, List, length, arith, sym, ap, ◌∙◌}
 use Rattle.std.proofs.lemmas.List.Edits.{sets}
 use Rattle.codec.specs.Little.{Bytes}
 use Rattle.numbers.specs.RefusalLaws.{some_number}
 use Rattle.frontiers.specs.Bytes.{frontiers}
+use Rattle.frontiers.specs.WindowLaws.{length-frontiers, counts_listed}
 use Rattle.records.specs.Record.{process_count, line_total, kept_count}
 use Rattle.refusals.specs.FaultLaws.{Good}
 use Rattle.call_page.specs.Page.{rows}
 use Rattle.call_page.specs.PageCode.{page_fault}
+use Rattle.call_page.specs.RowLaws.{few_digits}
 use Rattle.call_page.proofs.PageSteps.{page_turned, page_good, page_written_lem}
 use Rattle.call_page.proofs.write_page.Goals as goal
 use Rattle.call_page.proofs.write_page.Goals.{In_default}
@@ -45,6 +47,15 @@ line_total-line-requires c = omega (arith, (good (goal.at.line_total-line-requir
 pub overflow_sub-line : goal.overflow_sub-line
 overflow_sub-line c = omega (arith, (good (goal.at.overflow_sub-line c).In_default).0.some_line)
 
+pub of-laid-requires : goal.of-laid-requires
+of-laid-requires c =
+    let fine = (good (goal.at.of-laid-requires c).In_default).0 in
+    let within = fine.kept_within in
+    record {
+      count_bound = omega (arith, fine.kept);
+      within = rw (c.of-width.ensures, c.kept_count-kept.ensures) within;
+    }
+
 pub put_rows-requires : goal.put_rows-requires
 put_rows-requires c =
     let both = good (goal.at.put_rows-requires c).In_default in
@@ -52,9 +63,13 @@ put_rows-requires c =
     record {
       k_bound = omega (arith, fine.processes);
       line_bound = omega (arith, fine.lines, fine.some_line);
-      kept_bound = omega (arith, fine.kept);
-      w_in_bounds = let within = fine.kept_within in rw (c.of-width.ensures, c.kept_count-kept.ensures) within;
-      kept_in_bounds = omega (arith, both.1);
+      ten_digits = rw c.of-laid.ensures (λ i l.
+          let there : i < c.kept_count-kept.result = rw (length-frontiers c.of-width.result c.args.window.now c.kept_count-kept.result) at l in
+          rw (counts_listed c.of-width.result c.args.window.now c.kept_count-kept.result i there)
+          (few_digits c.of-width.result c.args.window.now (λ j. (c.type_inv.window j).fits) (omega arith) i));
+      laid_in_bounds =
+          rw (c.of-laid.ensures, length-frontiers c.of-width.result c.args.window.now c.kept_count-kept.result)
+          (omega (arith, both.1));
     }
 
 pub returns : goal.returns
@@ -64,7 +79,7 @@ returns c =
     let bytes : Bytes a.window.now = λ i. (c.type_inv.window i).fits in
     let text : ℕ → ℕ → ℕ → List ℕ = λ k m n. sets a.page.now 0 (rows k (m - 1) (frontiers a.w a.window.now n)) in
     let laid : c.put_rows.new.page ≡ text (process_count s) (line_total s) (kept_count s) =
-    (rw c.of-width.ensures at c.put_rows.ensures)
+    (rw (c.of-laid.ensures, c.of-width.ensures) at c.put_rows.ensures)
     ∙ ap (λ (k : ℕ). text k c.line_total-line.result c.kept_count-kept.result) c.process_count-k.ensures.0
     ∙ ap (λ (m : ℕ). text (process_count s) m c.kept_count-kept.result) c.line_total-line.ensures.0
     ∙ ap (λ (n : ℕ). text (process_count s) (line_total s) n) c.kept_count-kept.ensures in

@@ -2,7 +2,7 @@
 use Prim.Native.Nat.{ℕ, ◌<◌, ◌-◌}
 use native.Mathlib.Omega.{arith}
 use mathlib.Core.List.{List}
-use lib.ListN.{length, take, drop, length-take, length-drop}
+use lib.ListN.{length, take, drop}
 use mathlib.Core.Path.{◌≡◌, ap, ◌∙◌}
 use Rattle.clocks.specs.Event.{apply}
 use Rattle.clocks.specs.Counts.{at, list_of}
@@ -12,7 +12,6 @@ use Rattle.window.specs.StepCode.{setting_with}
 use Rattle.records.specs.Record.{taken_counts, ready_in}
 use Rattle.trial.specs.Trial.{setting_in}
 use Rattle.trial.specs.SettingLaws.{setting_lent}
-use Rattle.std.proofs.Common.{rules}
 use Rattle.call_take.proofs.step_window.Goals as goal
 use Rattle.call_take.proofs.step_window.Goals.{After-table_place-place, Start}
 
@@ -41,14 +40,6 @@ setting c =
     ∙ ap (λ (l : List ℕ). list_of 8 (apply a.e (at l))) c.taken_counts.ensures in
     setting_lent a.w s a.e _ _ _ _ _ (small (goal.at.After-table_place-place c).Start) c.process_count-k.ensures.0
     (c.from-closed.ensures ∙ c.closed_mask.ensures.0) c.table_place-place.ensures.0 c.line_total-lines.ensures.0 counts
-
-pub step-requires-clause-fitting : goal.step-requires-clause-fitting
-step-requires-clause-fitting c =
-    let asked = c.requires in
-    asked.fitting
-
-pub step-requires-clause-lines_bound : goal.step-requires-clause-lines_bound
-step-requires-clause-lines_bound c = (search rules, simp (length-take, length-drop) (omega arith))
 
 pub step-requires-clause-kept_value : goal.step-requires-clause-kept_value
 step-requires-clause-kept_value c =

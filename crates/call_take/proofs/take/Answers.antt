@@ -27,7 +27,7 @@ fit c = let a = c.args in take_fit a.w a.«record».now a.window.now a.scratch.n
 pub take_within-requires-clause-record_len : goal.take_within-requires-clause-record_len
 take_within-requires-clause-record_len c =
     let f = fit (goal.at.take_within-requires-clause-record_len c).In-Ok in
-    rw c.of-width.ensures f.long
+    f.long
 
 pub take_within-requires-clause-record_bound : goal.take_within-requires-clause-record_bound
 take_within-requires-clause-record_bound c =
@@ -42,7 +42,7 @@ take_within-requires-clause-record_bound_2 c =
 pub take_within-requires-clause-room_for : goal.take_within-requires-clause-room_for
 take_within-requires-clause-room_for c =
     let f = fit (goal.at.take_within-requires-clause-room_for c).In-Ok in
-    (f.few_kept, rw c.of-width.ensures f.kept_within)
+    (f.few_kept, f.kept_within)
 
 pub take_within-requires-clause-room_for_2 : goal.take_within-requires-clause-room_for_2
 take_within-requires-clause-room_for_2 c =
@@ -62,8 +62,8 @@ returns-in-Ok c =
     let e = c.take_within.ensures in
     let room : c.room_of.result ≡ room_of a.w (length a.window.now) = rw (c.room_of.ensures, c.of-width.ensures) in
     record {
-      reply = rw (goes, ← room) (rw c.of-width.ensures at e.reply);
-      bytes = rw (goes, ← room) (rw c.of-width.ensures at e.bytes);
-      window = rw (goes, ← room) (rw c.of-width.ensures at e.window);
-      scratch = rw (goes, ← room) (rw c.of-width.ensures at e.scratch);
+      reply = rw (goes, ← room) e.reply;
+      bytes = rw (goes, ← room) e.bytes;
+      window = rw (goes, ← room) e.window;
+      scratch = rw (goes, ← room) e.scratch;
     }

@@ -26,7 +26,7 @@ pub decide-choice-requires-clause-room_for : goal.decide-choice-requires-clause-
 decide-choice-requires-clause-room_for c =
     let asked = c.requires.room_for in
     let count = c.kept_count-n.ensures in
-    (rw count asked.0, rw (count, c.bytes.ensures.value) asked.1)
+    (rw count asked.0, rw count asked.1)
 
 pub decide-choice-requires-clause-n_in_bounds : goal.decide-choice-requires-clause-n_in_bounds
 decide-choice-requires-clause-n_in_bounds c =
@@ -39,7 +39,7 @@ decision : (c : After-decide-choice) → let a = c.args in
     c.decide-choice.result
     ≡ choice_for a.w a.«record».now (kept a.w a.«record».now a.window.now)
     (trial a.w a.«record».now a.allowed (kept a.w a.«record».now a.window.now))
-decision c = rw (← c.kept_count-n.ensures) (rw c.bytes.ensures.value at c.decide-choice.ensures.value)
+decision c = rw (← c.kept_count-n.ensures) c.decide-choice.ensures.value
 
 pub remove_event-requires-clause-i_bound : goal.remove_event-requires-clause-i_bound
 remove_event-requires-clause-i_bound c =
@@ -51,13 +51,13 @@ pub take_event-requires-clause-room_for : goal.take_event-requires-clause-room_f
 take_event-requires-clause-room_for c =
     let asked = c.requires in
     let count = c.kept_count-n.ensures in
-    (rw count asked.room_for.0, rw count asked.room_for.1)
+    (rw count asked.room_for.0, rw (count, c.of-width.ensures) asked.room_for.1)
 
 pub take_event-requires-clause-le_kept : goal.take_event-requires-clause-le_kept
 take_event-requires-clause-le_kept c =
     let a = c.args in
     let t = (choice_chosen a.w a.«record».now a.allowed _ _ _ (sym c.in-Chosen.is ∙ decision (goal.at.take_event-requires-clause-le_kept c).After-decide-choice)).1 in
-    (t.some, (omega (arith, t.few), omega (arith, mul-le-mul_right (frontier_length a.w) t.few)))
+    (t.some, (omega (arith, t.few), rw c.of-width.ensures (omega (arith, mul-le-mul_right (frontier_length a.w) t.few))))
 
 pub take_event-requires-clause-i_bound : goal.take_event-requires-clause-i_bound
 take_event-requires-clause-i_bound c =
@@ -69,14 +69,14 @@ pub take_event-requires-clause-t : goal.take_event-requires-clause-t
 take_event-requires-clause-t c =
     let a = c.args in
     let t = (choice_chosen a.w a.«record».now a.allowed _ _ _ (sym c.in-Chosen.is ∙ decision (goal.at.take_event-requires-clause-t c).After-decide-choice)).1 in
-    t.ready
+    rw c.of-width.ensures t.ready
 
 pub take_event-requires-clause-kept_value : goal.take_event-requires-clause-kept_value
 take_event-requires-clause-kept_value c =
     let a = c.args in
     let count = c.kept_count-n.ensures in
     let t = (choice_chosen a.w a.«record».now a.allowed _ _ _ (sym c.in-Chosen.is ∙ decision (goal.at.take_event-requires-clause-kept_value c).After-decide-choice)).1 in
-    rw count t.many
+    rw (count, c.of-width.ensures) t.many
 
 pub take_event-requires-clause-n_in_bounds : goal.take_event-requires-clause-n_in_bounds
 take_event-requires-clause-n_in_bounds c =
@@ -86,7 +86,7 @@ take_event-requires-clause-n_in_bounds c =
     rw (long, count) asked.room_for.0
 
 pub take_event-requires-clause-marked : goal.take_event-requires-clause-marked
-take_event-requires-clause-marked c = rw c.bytes.ensures.value at (c.decide-choice.ensures.marked_for _ _ c.in-Chosen.is)
+take_event-requires-clause-marked c = rw c.of-width.ensures (c.decide-choice.ensures.marked_for _ _ c.in-Chosen.is)
 
 pub returns-in-Undecided : goal.returns-in-Undecided
 unfolding decided
@@ -109,7 +109,7 @@ returns-in-Falsified c =
     let cleared : c.fill-in-Falsified.new.self ≡ replicate (length a.scratch.now) 0 = search rules in
     record {
       reply = c.into.ensures ∙ ap (λ (o : Taken). reply_word o.answer) (sym whole);
-      bytes = c.remove_event.ensures ∙ ap (λ (o : Taken). o.bytes) (sym whole);
+      bytes = (rw c.of-width.ensures at c.remove_event.ensures) ∙ ap (λ (o : Taken). o.bytes) (sym whole);
       window = ap (λ (o : Taken). o.window) (sym whole);
       scratch = cleared ∙ ap (λ (n : ℕ). replicate n 0) c.requires.scratch_len ∙ ap (λ (o : Taken). o.scratch) (sym whole);
     }
@@ -122,8 +122,8 @@ returns-in-Chosen c =
     let e = c.take_event.ensures in
     let count = c.kept_count-n.ensures in
     record {
-      reply = rw (whole, ← count) e.reply;
-      bytes = rw (whole, ← count) e.bytes;
-      window = rw (whole, ← count) e.window;
+      reply = rw (whole, ← count) (rw c.of-width.ensures at e.reply);
+      bytes = rw (whole, ← count) (rw c.of-width.ensures at e.bytes);
+      window = rw (whole, ← count) (rw c.of-width.ensures at e.window);
       scratch = rw whole e.scratch;
     }

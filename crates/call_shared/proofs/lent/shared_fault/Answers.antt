@@ -2,15 +2,17 @@
 use mathlib.Core.Path.{◌≡◌, sym}
 use mathlib.Core.Bool.{false}
 use lib.Dec.{eqb}
+use lib.ListN.{length}
 use borrow.Author.Tests.{tests, ne_eqb}
 use Rattle.std.proofs.Common.{rules, Err, true≢false}
 use Rattle.numbers.specs.RefusalNumber.{refused}
 use Rattle.numbers.specs.declared.refusal.Refusal.TheVariants.{Length}
-use Rattle.pool.specs.PoolLaws.{length_right}
+use Rattle.pool.specs.Pool.{bad_pool_length}
+use Rattle.pool.specs.PoolLaws.{right_length, wrong_length}
 use Rattle.call_shared.specs.SharedCode.{shared_fault}
 use Rattle.call_shared.proofs.FaultSteps.{only_length}
 use Rattle.call_shared.proofs.lent.shared_fault.Goals as goal
-use Rattle.call_shared.proofs.lent.shared_fault.Goals.{Else-eq}
+use Rattle.call_shared.proofs.lent.shared_fault.Goals.{Else-eq, In-Some}
 
 -- The plain refusal is not 6.
 other : (c : Else-eq) → eqb (refused c.args.plain) 6 ≡ false
@@ -24,20 +26,21 @@ unfolding shared_fault
 returns-then-eq c = let plain : c.args.plain ≡ Err Length = search (rules, tests) in rw plain
 
 -- The rest is left to the search, so that another result than the one wanted is refused for what it is.
-pub returns-then-bad_pool_length : goal.returns-then-bad_pool_length
+pub returns-in_default : goal.returns-in_default
 unfolding shared_fault
-returns-then-bad_pool_length c =
-    rw (other (goal.at.returns-then-bad_pool_length c).Else-eq, sym c.if-bad_pool_length.ensures) (search rules)
+returns-in_default c =
+    rw (other (goal.at.returns-in_default c).Else-eq, wrong_length _ c.in_default.ensures.cases) (search rules)
 
-pub no_share-requires : goal.no_share-requires
-no_share-requires c = length_right _ (sym c.if-bad_pool_length.ensures)
+-- The pool has its length.
+long : (c : In-Some) → bad_pool_length (length c.args.pool.now) ≡ false
+long c = right_length _ c.in-Some.ensures.cases.long
 
 pub returns-then-no_share : goal.returns-then-no_share
 unfolding shared_fault
 returns-then-no_share c =
-    rw (other (goal.at.returns-then-no_share c).Else-eq, sym c.if-bad_pool_length.ensures, sym c.if-no_share.ensures)
+    rw (other (goal.at.returns-then-no_share c).Else-eq, long (goal.at.returns-then-no_share c).In-Some, ← c.in-Some.ensures.cases.same, sym c.if-no_share.ensures)
     (search rules)
 
 pub returns : goal.returns
 unfolding shared_fault
-returns c = rw (other (goal.at.returns c).Else-eq, sym c.if-bad_pool_length.ensures, sym c.if-no_share.ensures)
+returns c = rw (other (goal.at.returns c).Else-eq, long (goal.at.returns c).In-Some, ← c.in-Some.ensures.cases.same, sym c.if-no_share.ensures)

@@ -11,7 +11,7 @@ use Rattle.call_shared.specs.SettledLaws.{Made, made_pool, made_few, open_settle
 use Rattle.call_shared.proofs.CallSteps.{OpenPassed, open_turned, open_passed}
 use Rattle.std.proofs.Common.{rules}
 use Rattle.call_shared.proofs.opening.open.Goals as goal
-use Rattle.call_shared.proofs.opening.open.Goals.{After-open-reply, In_default}
+use Rattle.call_shared.proofs.opening.open.Goals.{After-unwrap-pool, After-open-reply, In_default}
 
 -- ---- What is known there
 
@@ -21,6 +21,10 @@ known c =
     let a = c.args in
     open_passed a.w a.rule.now a.k a.labels a.«record».now a.window.now a.pool.now a.number
     (sym (rw (← (rw c.of.ensures at c.open_fault-plain.ensures)) c.in_default.ensures))
+
+-- The pool is the same as an array.
+same_pool : (c : After-unwrap-pool) → c.unwrap-pool.result.now ≡ c.args.pool.now
+same_pool c = (rw c.unwrap-pool.ensures at c.as_mut_array.ensures.cases).same
 
 made : (c : After-open-reply) → let a = c.args in
     let call = open_call a.w a.rule.now a.k a.labels a.«record».now a.window.now in
@@ -50,10 +54,11 @@ returns-in-Err c =
     (rw (← (rw c.of.ensures at c.open_fault-plain.ensures)) c.in-Err.ensures) (some_number refusal) in
     record { reply = rw whole (omega (arith, c.into.ensures)); bytes = rw whole; window = rw whole; pool = rw whole }
 
-pub settle_pool-requires-clause-pool_len : goal.settle_pool-requires-clause-pool_len
-settle_pool-requires-clause-pool_len c =
-    let k = known (goal.at.settle_pool-requires-clause-pool_len c).In_default in
-    k.pool_long
+-- The pool is of the right length.
+pub unwrap-pool-requires : goal.unwrap-pool-requires
+unwrap-pool-requires c =
+    let k = known (goal.at.unwrap-pool-requires c).In_default in
+    c.as_mut_array.ensures.variant.1 k.pool_long
 
 pub settle_pool-requires-clause-i_lt_most_members : goal.settle_pool-requires-clause-i_lt_most_members
 settle_pool-requires-clause-i_lt_most_members c =
@@ -79,5 +84,5 @@ returns c =
       reply = rw whole e.reply;
       bytes = rw whole e.bytes;
       window = rw whole e.window;
-      pool = rw whole (c.settle_pool.ensures ∙ pool);
+      pool = rw whole ((rw (same_pool (goal.at.returns c).After-unwrap-pool) at c.settle_pool.ensures) ∙ pool);
     }

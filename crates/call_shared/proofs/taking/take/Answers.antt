@@ -14,7 +14,7 @@ use Rattle.call_shared.specs.SettledLaws.{Made, made_pool, made_few, take_settle
 use Rattle.call_shared.proofs.CallSteps.{TakePassed, allowed_room, take-turned, take_passed}
 use Rattle.std.proofs.Common.{rules}
 use Rattle.call_shared.proofs.taking.take.Goals as goal
-use Rattle.call_shared.proofs.taking.take.Goals.{After-min-allowed, After-take_within-reply, In_default}
+use Rattle.call_shared.proofs.taking.take.Goals.{After-unwrap-pool, After-min-allowed, After-take_within-reply, In_default}
 
 -- ---- What is known there
 
@@ -25,13 +25,17 @@ known c =
     take_passed a.w a.«record».now a.window.now a.scratch.now a.pool.now a.number
     (sym (rw (← (rw c.of-width.ensures at c.take_fault-plain.ensures)) c.in_default.ensures))
 
+-- The pool is the same as an array.
+same_pool : (c : After-unwrap-pool) → c.unwrap-pool.result.now ≡ c.args.pool.now
+same_pool c = (rw c.unwrap-pool.ensures at c.as_mut_array.ensures.cases).same
+
 -- The smaller one of the pool's number and the window's.
 allowed_is : (c : After-min-allowed) → let a = c.args in
     c.min-allowed.result ≡ min (allowance a.pool.now a.number) (room_of a.w (length a.window.now))
 allowed_is c =
     let a = c.args in
     let most : c.allowance.result ≡ allowance a.pool.now a.number =
-    c.allowance.ensures.0 in
+    rw (same_pool (goal.at.After-min-allowed c).After-unwrap-pool) at c.allowance.ensures.0 in
     rw (← most, ← (rw c.of-width.ensures at c.room_of.ensures)) c.min-allowed.ensures
 
 -- What is taken is what the definition takes.
@@ -53,10 +57,10 @@ plain-take : (c : After-take_within-reply) → let t = plain (goal.at.After-take
 plain-take c =
     let e = c.take_within-reply.ensures in
     let same = same-take (goal.at.After-take_within-reply c).After-min-allowed in (
-      (rw c.of-width.ensures at e.reply) ∙ ap (λ (t : Taken). reply_word t.answer) same,
-      (rw c.of-width.ensures at e.bytes) ∙ ap (λ (t : Taken). t.bytes) same,
-      (rw c.of-width.ensures at e.window) ∙ ap (λ (t : Taken). t.window) same,
-      (rw c.of-width.ensures at e.scratch) ∙ ap (λ (t : Taken). t.scratch) same,
+      e.reply ∙ ap (λ (t : Taken). reply_word t.answer) same,
+      e.bytes ∙ ap (λ (t : Taken). t.bytes) same,
+      e.window ∙ ap (λ (t : Taken). t.window) same,
+      e.scratch ∙ ap (λ (t : Taken). t.scratch) same,
     )
 
 made : (c : After-take_within-reply) → let t = plain (goal.at.After-take_within-reply c).After-min-allowed in
@@ -93,21 +97,22 @@ returns-in-Err c =
       pool = rw whole;
     }
 
-pub allowance-requires-clause-pool_len : goal.allowance-requires-clause-pool_len
-allowance-requires-clause-pool_len c =
-    let k = known (goal.at.allowance-requires-clause-pool_len c).In_default in
-    k.pool_long
+-- The pool is of the right length.
+pub unwrap-pool-requires : goal.unwrap-pool-requires
+unwrap-pool-requires c =
+    let k = known (goal.at.unwrap-pool-requires c).In_default in
+    c.as_mut_array.ensures.variant.1 k.pool_long
 
-pub allowance-requires-clause-i_lt_most_members : goal.allowance-requires-clause-i_lt_most_members
-allowance-requires-clause-i_lt_most_members c =
-    let k = known (goal.at.allowance-requires-clause-i_lt_most_members c).In_default in
+pub allowance-requires : goal.allowance-requires
+allowance-requires c =
+    let k = known (goal.at.allowance-requires c).In_default in
     omega (arith, k.member)
 
 pub take_within-reply-requires-clause-record_len : goal.take_within-reply-requires-clause-record_len
 take_within-reply-requires-clause-record_len c =
     let k = known (goal.at.take_within-reply-requires-clause-record_len c).In_default in
     let g = k.good in
-    rw c.of-width.ensures g.record_long
+    g.record_long
 
 pub take_within-reply-requires-clause-record_bound : goal.take_within-reply-requires-clause-record_bound
 take_within-reply-requires-clause-record_bound c =
@@ -125,7 +130,7 @@ pub take_within-reply-requires-clause-room_for : goal.take_within-reply-requires
 take_within-reply-requires-clause-room_for c =
     let k = known (goal.at.take_within-reply-requires-clause-room_for c).In_default in
     let g = k.good in
-    (g.kept, rw c.of-width.ensures g.kept_within)
+    (g.kept, g.kept_within)
 
 pub take_within-reply-requires-clause-room_for_2 : goal.take_within-reply-requires-clause-room_for_2
 take_within-reply-requires-clause-room_for_2 c =
@@ -133,17 +138,12 @@ take_within-reply-requires-clause-room_for_2 c =
     let k = known (goal.at.take_within-reply-requires-clause-room_for_2 c).In_default in
     let most = allowance a.pool.now a.number in
     let room = allowed_room a.w most (length a.window.now) c.min-allowed.result (allowed_is (goal.at.take_within-reply-requires-clause-room_for_2 c).After-min-allowed) k.few_room in
-    (room.0, rw c.of-width.ensures room.1)
+    room
 
 pub take_within-reply-requires-clause-scratch_len : goal.take_within-reply-requires-clause-scratch_len
 take_within-reply-requires-clause-scratch_len c =
     let k = known (goal.at.take_within-reply-requires-clause-scratch_len c).In_default in
     k.same
-
-pub settle_pool-requires-clause-pool_len : goal.settle_pool-requires-clause-pool_len
-settle_pool-requires-clause-pool_len c =
-    let k = known (goal.at.settle_pool-requires-clause-pool_len c).In_default in
-    k.pool_long
 
 pub settle_pool-requires-clause-i_lt_most_members : goal.settle_pool-requires-clause-i_lt_most_members
 settle_pool-requires-clause-i_lt_most_members c =
@@ -170,5 +170,5 @@ returns c =
       bytes = rw whole e.1;
       window = rw whole e.2;
       scratch = rw whole e.3;
-      pool = rw whole (c.settle_pool.ensures ∙ pool);
+      pool = rw whole ((rw (same_pool (goal.at.returns c).After-unwrap-pool) at c.settle_pool.ensures) ∙ pool);
     }

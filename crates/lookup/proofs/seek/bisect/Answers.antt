@@ -1,39 +1,27 @@
+use Rattle.std.proofs.Common.{length}
 use Prim.Native.Nat.{◌/◌, ◌-◌, ◌+◌}
-use native.Mathlib.Omega.{arith}
 use mathlib.Core.Path.{◌≡◌, sym, ◌∙◌}
 use Rattle.lookup.proofs.seek.SeekSteps.{bisect-end_keys, bisect_step_keys}
-use Rattle.frontiers.specs.WindowLaws.{place-within}
 use Rattle.lookup.specs.Seek.{bisect, keys_of}
-use Rattle.frontiers.specs.Bytes.{frontiers}
 use Rattle.std.specs.declared.cmp.Ordering.{Ordering}
 use Rattle.std.specs.declared.cmp.Ordering.TheVariants.{Less, Equal, Greater}
 use Rattle.std.proofs.Common.{rules}
 use Rattle.lookup.proofs.seek.bisect.Goals as goal
 use Rattle.lookup.proofs.seek.bisect.Goals.{After-standing_at}
 
-pub standing_at-requires-clause-i_bound : goal.standing_at-requires-clause-i_bound
-standing_at-requires-clause-i_bound c = omega arith
-
-pub standing_at-requires-clause-w_in_bounds : goal.standing_at-requires-clause-w_in_bounds
-standing_at-requires-clause-w_in_bounds c =
-    let a = c.args in
-    let lo = c.loop-lo.lo in
-    let hi = c.loop-lo.hi in
-    omega (arith, place-within (lo + (hi - lo) / 2) a.n a.w (omega arith))
-
 -- What a turn does, by how the middle stands to the key.
 turn : (c : After-standing_at) (b : Ordering) → c.standing_at.result ≡ b → let a = c.args in
     let lo = c.loop-lo.lo in
     let hi = c.loop-lo.hi in
-    bisect (keys_of (frontiers a.w a.s.now a.n)) a.key a.n a.low a.high ≡ elim b [
-      | Less ↦ bisect (keys_of (frontiers a.w a.s.now a.n)) a.key a.n (lo + (hi - lo) / 2 + 1) hi
+    bisect (keys_of a.laid.now) a.key (length a.laid.now) a.low a.high ≡ elim b [
+      | Less ↦ bisect (keys_of a.laid.now) a.key (length a.laid.now) (lo + (hi - lo) / 2 + 1) hi
       | Equal ↦ lo + (hi - lo) / 2
-      | Greater ↦ bisect (keys_of (frontiers a.w a.s.now a.n)) a.key a.n lo (lo + (hi - lo) / 2)
+      | Greater ↦ bisect (keys_of a.laid.now) a.key (length a.laid.now) lo (lo + (hi - lo) / 2)
     ]
 turn c b q =
     let a = c.args in
     let l = c.loop-lo in
-    l.invariant.1 ∙ bisect_step_keys a.w a.s.now a.n a.key l.lo l.hi (search rules) l.invariant.0 b (sym c.standing_at.ensures ∙ q)
+    l.invariant.1 ∙ bisect_step_keys a.laid.now a.key l.lo l.hi (search rules) l.invariant.0 b (sym c.standing_at.ensures ∙ q)
 
 pub returns-in-Equal-clause-place : goal.returns-in-Equal-clause-place
 returns-in-Equal-clause-place c = sym (turn (goal.at.returns-in-Equal-clause-place c).After-standing_at Equal c.in-Equal.is)
@@ -49,4 +37,4 @@ pub returns-clause-place : goal.returns-clause-place
 returns-clause-place c =
     let a = c.args in
     let l = c.loop-lo in
-    sym (l.invariant.1 ∙ bisect-end_keys a.w a.s.now a.n a.key l.lo l.hi (search rules))
+    sym (l.invariant.1 ∙ bisect-end_keys a.laid.now a.key l.lo l.hi (search rules))

@@ -3,7 +3,6 @@
 use Prim.Native.Nat.{ℕ}
 use mathlib.Core.Path.{◌≡◌}
 use mathlib.Core.List.{List}
-use Rattle.frontiers.specs.Bytes.{frontiers}
 use Rattle.window.specs.Step.{Setting, Gathered, gathered}
 use Rattle.window_step.proofs.gather.gather.Given as goal
 
@@ -13,4 +12,4 @@ sofar ors ands begins = record { ors = ors; ands = ands; hints = begins }
 
 abbrev pub invariant-loop-p : goal.invariant-loop-p
 invariant-loop-p l = (s : Setting) → s.stored ≡ 8 → s.event.mask ≡ l.mask
-    → sofar l.ors l.ands l.hints ≡ gathered s (frontiers l.w l.scratch l.m) l.initial.hints l.g l.p
+    → sofar l.ors l.ands l.hints ≡ gathered s l.laid l.initial.hints l.g l.p

@@ -17,21 +17,21 @@ use Rattle.window_step.proofs.lay.lay_fresh.Goals.{After-advanced-g, After-judge
 
 -- The new frontier, not judged yet, is that of the definition.
 leads : (c : After-advanced-g) → let a = c.args in
-    (s : Setting) → s.stored ≡ 8 → s.event ≡ a.fixed.event → c.advanced-g.result ≡ advanced s (frontier_at a.fixed.w a.window.now a.j)
+    (s : Setting) → s.stored ≡ 8 → s.event ≡ a.fixed.now.event → c.advanced-g.result ≡ advanced s (frontier_at a.fixed.now.w a.window.now a.j)
 leads c s h v = c.advanced-g.ensures s h v ∙ ap (advanced s) c.frontier_at-f.ensures
 
 -- What is laid down is of proper shape.
 proper : (c : After-judge-values) → Bytes c.args.window.now → let g = c.advanced-g.result in
-    Shaped c.args.fixed.w (record { counts = g.counts; labels = g.labels; masks = g.masks; values = c.judge-values.result })
+    Shaped c.args.fixed.now.w (record { counts = g.counts; labels = g.labels; masks = g.masks; values = c.judge-values.result })
 proper c bytes =
     let a = c.args in
     let p = c.requires in
-    let w = a.fixed.w in
-    let s = setting_of a.fixed a.table.now in
+    let w = a.fixed.now.w in
+    let s = setting_of a.fixed.now a.table.now in
     let f = frontier_at w a.window.now a.j in
     let small : c.judge-values.result < 256 ^ 8 = search rules in
     subst (λ (g : Frontier). Shaped w (record { counts = g.counts; labels = g.labels; masks = g.masks; values = c.judge-values.result })) (sym (leads (goal.at.After-judge-values c).After-advanced-g s refl refl))
-    (shaped_advanced w s a.fixed.event f c.judge-values.result refl refl p.fitting (shaped_at w a.window.now a.j bytes p.place_for.1) p.t small)
+    (shaped_advanced w s a.fixed.now.event f c.judge-values.result refl refl a.fixed.now.fitting (shaped_at w a.window.now a.j bytes p.place_for.1) p.t small)
 
 pub lay_frontier-requires-clause-by_index : goal.lay_frontier-requires-clause-by_index
 lay_frontier-requires-clause-by_index c =
@@ -40,14 +40,14 @@ lay_frontier-requires-clause-by_index c =
 pub returns-clause-m_after : goal.returns-clause-m_after
 returns-clause-m_after c =
     let a = c.args in
-    let w = a.fixed.w in
-    let s = setting_of a.fixed a.table.now in
+    let w = a.fixed.now.w in
+    let s = setting_of a.fixed.now a.table.now in
     let laid = frontiers w a.scratch.now a.m in
     let f = frontier_at w a.window.now a.j in
     let g = c.advanced-g.result in
     let r = c.gather-found.result in
     let new = leads (goal.at.returns-clause-m_after c).After-advanced-g s refl refl in
-    let gathers = c.gather-found.ensures s refl refl in
+    let gathers = rw c.of-laid.ensures at (c.gather-found.ensures s refl refl) in
     rw (c.lay_frontier.ensures, c.bytes.ensures.value) (
     frontiers_stored w a.scratch.now a.m _ (proper (goal.at.returns-clause-m_after c).After-judge-values (λ i. (c.type_inv.window i).fits)) c.requires.place_for_2.1
     ∙ ap (λ (x : Frontier). laid ++ (x ∷ [])) (fresh_is s laid a.hints f g r new gathers c.judge-values.result c.judge-values.ensures))

@@ -10,7 +10,7 @@ pub returns-clause-window_after : goal.returns-clause-window_after
 returns-clause-window_after c =
     let copy = c.copy_back.ensures in
     let a = c.args in
-    copy.window_after ∙ ap (replaced a.fixed.w a.window.now a.fixed.n) c.lay_all.ensures
+    copy.window_after ∙ ap (replaced a.fixed.now.w a.window.now a.fixed.now.n) c.lay_all.ensures
 
 pub returns-clause-scratch_after : goal.returns-clause-scratch_after
 returns-clause-scratch_after c =
