@@ -17,6 +17,8 @@ fn part(word: u64, bits: u32, i: u32) -> u32
 }
 
 // Eight counts of two bytes out of two words.
+// By hand, as no plainer: this and the next stand for the two numbers of words that C hands over, each a line over
+// `part`.
 pub fn unpack_counts(low: u64, high: u64) -> [u32; 8]
     ensures { result ≡ unpack_counts 2 (low ∷ high ∷ []) }
 {

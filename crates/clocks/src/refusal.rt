@@ -37,6 +37,7 @@ fn stray(outside: bool, label: u8) -> bool
 }
 
 // 9, of an event: a label byte not 0 at a process that does not take part.
+// By hand, as no plainer: this and the next are two conditions of 01, each a line over `stray`.
 pub fn bad_labels(mask: u64, labels: [u8; 8]) -> bool
     ensures { result ≡ bad_labels mask labels }
 {

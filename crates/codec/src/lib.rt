@@ -15,6 +15,9 @@ fn bytes_at<const N: usize>(s: &[u8], at: usize) -> [u8; N]
     s[at..at + N].try_into().unwrap()
 }
 
+// By hand, as no plainer: three readers and three writers, each a line over its type's own bytes. A trait over the three
+// types, with the two functions and their laws, would be longer than the lines that it saves.
+
 // The number of two bytes at a place.
 pub fn read_u16(s: &[u8], at: usize) -> u16
     requires { at + 2 ≤ length s.now }

@@ -11,12 +11,15 @@ pub fn move_up(s: &mut [u8], from: usize, n: usize, by: usize)
     s.copy_within(from..from + n, from + by);
 }
 
-// Moves n bytes down by so many places.
+// Moves n bytes down by so many places, the first one first. By hand, for speed: where n is the length of a frontier, the
+// compiler moves all its bytes at once; with `copy_within` a close took up to twice as long.
 pub fn move_down(s: &mut [u8], to: usize, n: usize, by: usize)
     requires { to + by + n ≤ length s.old }
     ensures { s.new ≡ sets s.old to (take n (drop (to + by) s.old)) }
 {
-    s.copy_within(to + by..to + by + n, to);
+    for i in 0..n {
+        s[to + i] = s[to + by + i];
+    }
 }
 
 // Stores one byte n times.

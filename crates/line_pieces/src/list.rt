@@ -80,6 +80,7 @@ fn no_numbers(place: usize) -> Numbers
 }
 
 // A list after its opening bracket: it may be empty.
+// By hand, as no plainer: this list and the next differ in what stands before them, and share the rest.
 pub fn then_list(line: &[u8], order: Order, most: u64, here: Here) -> Result<Numbers, Fault>
     requires { most ≤ 4294967295 }
     ensures { IsList result (then_list line.now (ascending order) most (here_of here)) }

@@ -13,6 +13,8 @@ ghost use Rattle.pool.specs.Pool as pools;
 use numbers::limit::{FRONTIERS, MEMBERS};
 
 // The bytes of a pool. One of another length is refused with 6 before it gets this type.
+// By hand, as no plainer: a watch's number has no type of its own. `no_share` lets only those below eight pass, and such
+// a type would have to be handed out by the fault of each shared call.
 pub type Pool = [u8; 32];
 
 // Number n of the sixteen: the shares, then how many frontiers each watch keeps.

