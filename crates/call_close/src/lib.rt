@@ -71,7 +71,7 @@ pub fn close(w: usize, process: u64, record: &mut [u8], window: &mut [u8]) -> u6
         ≡ (close_call w process «record».old window.old).window }
 {
     let width = CountWidth::of(w);
-    match close_fault(width, process, record, window.len()) {
+    match close_fault(w, process, record, window.len()) {
         Err(refusal) => refusal.into(),
         Ok(()) => close_process(width, process as u32, record, window),
     }

@@ -96,7 +96,7 @@ fn judge_pending(again: bool, conflict: bool, full: bool) -> Result<(), Unaccept
 }
 
 // Whether an offer is accepted, and else how it is answered: a refusal or again, in their order.
-// By hand, as promised: docs/REQUEST-NOTES.md names this function, so it asks for a number as before.
+// By hand, as promised: docs/REQUEST-NOTES.md names this function (`unaccepted_word` before), so it asks for a number.
 pub fn judge(
     w: usize,
     mask: u64,

@@ -13,7 +13,7 @@ use Rattle.call_close.proofs.close.Goals.{In-Ok}
 
 none : (c : In-Ok) → let a = c.args in
     close_fault a.w a.process a.«record».now (length a.window.now) ≡ 0
-none c = rw (← c.of-width.ensures, ← c.in-Ok.ensures)
+none c = rw (← c.in-Ok.ensures)
 
 fit : (c : In-Ok) → let a = c.args in
     Fit a.w a.process a.«record».now (length a.window.now)
@@ -28,7 +28,7 @@ returns-in-Err c =
     let a = c.args in
     let refusal = c.in-Err.refusal in
     let known : number_of refusal ≡ close_fault a.w a.process a.«record».now (length a.window.now) =
-    rw (← c.of-width.ensures, ← c.in-Err.ensures) in
+    rw (← c.in-Err.ensures) in
     let turned =
     close_turned a.w a.process a.«record».now a.window.now (number_of refusal) known (some_number refusal) in
     record { reply = c.into.ensures ∙ turned.0; bytes = turned.1; window = turned.2 }

@@ -18,7 +18,7 @@ use Rattle.call_close.proofs.refused.close_fault.Goals.{After-not_open, In_ok-wa
 -- ---- The tests that let it pass
 
 none : (c : In_ok-watch_fault) → let a = c.args in watch_fault a.w a.«record».now a.n ≡ 0
-none c = rw (← c.bytes.ensures.value, ← c.in_ok-watch_fault.ensures)
+none c = sym c.in_ok-watch_fault.ensures
 
 good : (c : In_ok-watch_fault) → let a = c.args in Good a.w a.«record».now a.n
 good c = let a = c.args in good_watch a.w a.«record».now a.n (none c)
@@ -62,9 +62,8 @@ returns-in_err-watch_fault c =
     let known = c.in_err-watch_fault in
     let refusal = known.field-0.0 in
     let same : refused c.from_residual.result ≡ number_of refusal = search rules in
-    let turned : number_of refusal ≡ watch_fault a.w a.«record».now a.n = rw (← c.bytes.ensures.value, ← known.ensures) in
-    let some : watch_fault a.w a.«record».now a.n ≡ 0 → ⊥ = λ z. omega (arith, some_number refusal, turned, z) in
-    same ∙ turned ∙ fault_first a.w a.«record».now a.n _ some
+    let some : watch_fault a.w a.«record».now a.n ≡ 0 → ⊥ = λ z. omega (arith, some_number refusal, known.ensures, z) in
+    same ∙ known.ensures ∙ fault_first a.w a.«record».now a.n _ some
 
 pub process_count-requires : goal.process_count-requires
 process_count-requires c = omega (arith, (good (goal.at.process_count-requires c).In_ok-watch_fault).record_long)
@@ -86,7 +85,7 @@ overflow_cast-process c =
 pub named_by-requires-clause-record_len : goal.named_by-requires-clause-record_len
 named_by-requires-clause-record_len c =
     let fine = good (goal.at.named_by-requires-clause-record_len c).In_ok-watch_fault in
-    fine.record_long
+    rw c.of.ensures fine.record_long
 
 pub named_by-requires-clause-record_bound : goal.named_by-requires-clause-record_bound
 named_by-requires-clause-record_bound c =
@@ -98,8 +97,8 @@ named_by-requires-clause-p_bound c = one_of_eight (goal.at.named_by-requires-cla
 
 pub returns-then-named_by : goal.returns-then-named_by
 returns-then-named_by c =
-    sym (behind (goal.at.returns-then-named_by c).In_ok-watch_fault ∙ rw (open_passed (goal.at.returns-then-named_by c).Else-not_open, sym c.named_by.ensures ∙ c.if-named_by.true))
+    sym (behind (goal.at.returns-then-named_by c).In_ok-watch_fault ∙ rw (open_passed (goal.at.returns-then-named_by c).Else-not_open, sym (rw c.of.ensures at c.named_by.ensures) ∙ c.if-named_by.true))
 
 pub returns : goal.returns
 returns c =
-    sym (behind (goal.at.returns c).In_ok-watch_fault ∙ rw (open_passed (goal.at.returns c).Else-not_open, sym c.named_by.ensures ∙ c.if-named_by.false))
+    sym (behind (goal.at.returns c).In_ok-watch_fault ∙ rw (open_passed (goal.at.returns c).Else-not_open, sym (rw c.of.ensures at c.named_by.ensures) ∙ c.if-named_by.false))
