@@ -3,8 +3,6 @@
 
 #![tactic(auto)]
 
-ghost use Rattle.std.specs.Prelude.{◌≤◌, length};
-
 use numbers::fault::Fault;
 use pactl::judging::judge;
 use pactl::table::good_table;
