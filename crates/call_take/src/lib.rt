@@ -21,6 +21,7 @@ ghost use Rattle.call_take.specs.TakeCode.{take_fault};
 
 use answers::state_word;
 use clocks::Event;
+use frontiers::moving::clear_all;
 use frontiers::width::CountWidth;
 use numbers::refusal::Refusal;
 use records::fields::{
@@ -169,12 +170,12 @@ pub fn take_within(
     let choice = decide(record, w, window, &mut marks, n, allowed);
     match choice {
         Choice::Undecided { seen } => {
-            scratch.fill(0);
+            clear_all(scratch);
             undecided_word(seen)
         }
         Choice::Falsified { place } => {
             remove_event(record, width, place);
-            scratch.fill(0);
+            clear_all(scratch);
             Refusal::FalseClock.into()
         }
         Choice::Chosen { place, kept } => take_event(

@@ -1,7 +1,9 @@
 // Bytes moved within a slice, filled in, and cleared.
 
-ghost use Rattle.std.specs.Prelude.{◌+◌, ◌≤◌, ◌≡◌, length, take, drop, replicate};
+ghost use Rattle.std.specs.Prelude.{◌+◌, ◌*◌, ◌≤◌, ◌≡◌, length, take, drop, replicate};
 ghost use Rattle.std.proofs.lemmas.List.Edits.{sets};
+
+use crate::stored::{read_eight, write_eight};
 
 // Moves n bytes up by so many places.
 pub fn move_up(s: &mut [u8], from: usize, n: usize, by: usize)
@@ -11,14 +13,24 @@ pub fn move_up(s: &mut [u8], from: usize, n: usize, by: usize)
     s.copy_within(from..from + n, from + by);
 }
 
-// Moves n bytes down by so many places, the first one first. By hand, for speed: where n is the length of a frontier, the
-// compiler moves all its bytes at once; with `copy_within` a close took up to twice as long.
+// Moves n bytes down by so many places.
 pub fn move_down(s: &mut [u8], to: usize, n: usize, by: usize)
     requires { to + by + n ≤ length s.old }
     ensures { s.new ≡ sets s.old to (take n (drop (to + by) s.old)) }
 {
+    s.copy_within(to + by..to + by + n, to);
+}
+
+// Moves n times eight bytes down by so many places, the first eight first.
+// By hand, for speed: with `copy_within`, or byte by byte, a close that has just compared the counts of a frontier takes
+// its bytes one by one out of what was compared, and needs more than twice the time.
+pub fn move_eights_down(s: &mut [u8], to: usize, n: usize, by: usize)
+    requires { to + by + 8 * n ≤ length s.old }
+    ensures { s.new ≡ sets s.old to (take (8 * n) (drop (to + by) s.old)) }
+{
     for i in 0..n {
-        s[to + i] = s[to + by + i];
+        let eight = read_eight(s, to + by + 8 * i);
+        write_eight(s, to + 8 * i, eight);
     }
 }
 

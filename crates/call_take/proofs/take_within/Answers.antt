@@ -93,7 +93,7 @@ unfolding decided
 returns-in-Undecided c =
     let a = c.args in
     let whole = within_by a.w a.allowed a.«record».now a.window.now _ (choice_undecided a.w a.«record».now a.allowed _ _ (sym c.in-Undecided.is ∙ decision (goal.at.returns-in-Undecided c).After-decide-choice)) in
-    let cleared : c.fill.new.self ≡ replicate (length a.scratch.now) 0 = search rules in
+    let cleared : c.clear_all.new.s ≡ replicate (length a.scratch.now) 0 = search rules in
     record {
       reply = c.undecided_word.ensures ∙ ap (λ (o : Taken). reply_word o.answer) (sym whole);
       bytes = ap (λ (o : Taken). o.bytes) (sym whole);
@@ -106,7 +106,7 @@ unfolding decided reply_word
 returns-in-Falsified c =
     let a = c.args in
     let whole = within_by a.w a.allowed a.«record».now a.window.now _ (choice_falsified a.w a.«record».now a.allowed _ _ (sym c.in-Falsified.is ∙ decision (goal.at.returns-in-Falsified c).After-decide-choice)).0 in
-    let cleared : c.fill-in-Falsified.new.self ≡ replicate (length a.scratch.now) 0 = search rules in
+    let cleared : c.clear_all-in-Falsified.new.s ≡ replicate (length a.scratch.now) 0 = search rules in
     record {
       reply = c.into.ensures ∙ ap (λ (o : Taken). reply_word o.answer) (sym whole);
       bytes = (rw c.of-width.ensures at c.remove_event.ensures) ∙ ap (λ (o : Taken). o.bytes) (sym whole);

@@ -1,11 +1,11 @@
 -- A frontier that stands there already is as good as moved; another is moved by the law `moved_to_lem`.
 use native.Mathlib.Omega.{arith}
-use mathlib.Core.Path.{◌≡◌, sym, ◌∙◌}
-use Prim.Native.Nat.{◌-◌, ◌+◌, ◌*◌}
+use mathlib.Core.Path.{◌≡◌, sym, ap, ◌∙◌}
+use Prim.Native.Nat.{ℕ, ◌-◌, ◌+◌, ◌*◌, ◌/◌}
 use native.Mathlib.Nat.{mul-le-mul_right}
 use Rattle.codec.specs.SetsLaws.{sets_same}
 use Rattle.frontiers.specs.Bytes.{frontier_length}
-use Rattle.call_close.proofs.StayingSteps.{moved_to_lem}
+use Rattle.call_close.proofs.StayingSteps.{frontier_eights, moved_to_lem}
 use Rattle.std.proofs.Common.{rules}
 use Rattle.call_close.proofs.staying.settle.Goals as goal
 
@@ -21,8 +21,8 @@ overflow_sub-from c =
     let a = c.args in
     omega (arith, mul-le-mul_right {m = a.m} {n = a.i} (frontier_length a.w) (search rules))
 
-pub move_down-requires : goal.move_down-requires
-move_down-requires c =
+pub move_eights_down-requires : goal.move_eights_down-requires
+move_eights_down-requires c =
     let a = c.args in
     omega (arith, mul-le-mul_right {m = a.m} {n = a.i} (frontier_length a.w) (search rules))
 
@@ -33,6 +33,8 @@ returns c =
     let from = c.frontier_place-from in
     let there : to.result + (from.result - to.result) ≡ a.i * frontier_length a.w =
     omega (arith, mul-le-mul_right {m = a.m} {n = a.i} (frontier_length a.w) (search rules)) in
-    c.move_down.ensures
-    ∙ moved_to_lem a.window.now to.result (from.result - to.result) c.frontier_length.result a.m a.i
-    (frontier_length a.w) to.ensures.0 there c.frontier_length.ensures.0
+    let size : 8 * (c.frontier_length.result / 8) ≡ frontier_length a.w =
+    ap (λ (n : ℕ). 8 * (n / 8)) c.frontier_length.ensures.0 ∙ frontier_eights a.w in
+    c.move_eights_down.ensures
+    ∙ moved_to_lem a.window.now to.result (from.result - to.result) (8 * (c.frontier_length.result / 8)) a.m a.i
+    (frontier_length a.w) to.ensures.0 there size

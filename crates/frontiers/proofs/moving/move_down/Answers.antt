@@ -1,21 +1,11 @@
-use Prim.Native.Nat.{ℕ, ◌+◌}
-use native.Mathlib.Omega.{arith}
-use mathlib.Core.Path.{◌≡◌, ap, ◌∙◌}
-use mathlib.Core.List.{List}
-use lib.ListN.{get_or, set}
-use Rattle.frontiers.proofs.moving.MovingSteps.{moved_down, down_next, down_all}
-use Rattle.std.proofs.Common.{rules}
+-- What is copied is stored over what stood there: the law `pasted`.
+use Rattle.std.proofs.Common.{◌≡◌, ◌+◌, ◌-◌, ◌∙◌, arith, drop, length-drop}
+use Rattle.frontiers.specs.StoreLaws.{pasted}
 use Rattle.frontiers.proofs.moving.move_down.Goals as goal
-
-pub loop-i-preserved : goal.loop-i-preserved
-loop-i-preserved c =
-    let a = c.args in
-    let l = c.loop-i in
-    let next = down_next a.s.now a.to a.by a.n l.i (search rules) (search rules) in
-    ap (λ (x : List ℕ). set x (a.to + l.i) (get_or x (a.to + a.by + l.i) 0)) l.invariant ∙ next
 
 pub returns : goal.returns
 returns c =
     let a = c.args in
-    let all : c.loop-i.i ≡ a.n = omega arith in
-    c.loop-i.invariant ∙ ap (moved_down a.s.now a.to a.by a.n) all ∙ down_all a.s.now a.to a.by a.n
+    let n : a.to + a.by + a.n - (a.to + a.by) ≡ a.n = omega arith in
+    c.copy_within.ensures.after
+    ∙ rw n (pasted a.s.now a.to a.n (drop (a.to + a.by) a.s.now) (simp length-drop (omega arith)) (omega arith))
