@@ -1,5 +1,5 @@
 -- The frontiers that stay, laid together at the window's start one by one.
-use Prim.Native.Nat.{ℕ, ◌+◌, ◌-◌, ◌*◌, ◌/◌, ◌≤◌}
+use Prim.Native.Nat.{ℕ, ◌+◌, ◌-◌, ◌*◌, ◌≤◌}
 use native.Mathlib.Omega.{arith}
 use native.Mathlib.Nat.{mul-le-mul_right}
 use native.Mathlib.Numerals.{add-one}
@@ -24,11 +24,6 @@ pub cleared_behind : (w n m far left : ℕ) (s laid : List ℕ) (gs : List Front
     → sets laid far (replicate left 0) ≡ replaced w s n gs
 unfolding replaced
 cleared_behind w n m far left s laid gs e f l h = rw (h, f, l, e)
-
--- A frontier has a whole number of eight bytes.
-pub frontier_eights : (w : ℕ) → 8 * (frontier_length w / 8) ≡ frontier_length w
-unfolding frontier_length
-frontier_eights w = omega arith
 
 -- A frontier moved, by the places and the length that were worked out.
 pub moved_to_lem : (s : List ℕ) (to by size m i F : ℕ) → to ≡ m * F → to + by ≡ i * F → size ≡ F

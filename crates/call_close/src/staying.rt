@@ -6,7 +6,7 @@ ghost use Rattle.frontiers.specs.Bytes.{framed, replaced};
 ghost use Rattle.window.specs.Room.{RoomFor, PlaceFor};
 ghost use Rattle.call_close.specs.CloseCode.{staying, moved_to};
 
-use frontiers::moving::{clear, move_eights_down};
+use frontiers::moving::{clear, move_part_down};
 use frontiers::place::{frontier_length, frontier_place};
 use frontiers::stored::counts_at;
 use frontiers::width::CountWidth;
@@ -24,7 +24,11 @@ fn settle(window: &mut [u8], w: CountWidth, i: usize, m: usize)
     }
     let to = frontier_place(w, m);
     let from = frontier_place(w, i);
-    move_eights_down(window, to, frontier_length(w) / 8, from - to);
+    if w.bytes() == 2 {
+        move_part_down::<40>(window, to, from - to);
+    } else {
+        move_part_down::<56>(window, to, from - to);
+    }
 }
 
 // Moves those of n frontiers that stay to the window's start, in their order: how many they are.

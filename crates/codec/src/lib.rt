@@ -8,7 +8,7 @@ ghost use Rattle.codec.specs.Little.{number, put};
 ghost use Rattle.codec.specs.Bit.{bit};
 
 // The N bytes at a place.
-fn bytes_at<const N: usize>(s: &[u8], at: usize) -> [u8; N]
+pub fn bytes_at<const N: usize>(s: &[u8], at: usize) -> [u8; N]
     requires { at + N ≤ length s.now }
     ensures { result ≡ take N (drop at s.now) }
 {

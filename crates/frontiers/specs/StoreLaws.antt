@@ -7,7 +7,7 @@ use Rattle.codec.specs.SetsLaws.{sets-append, sets-tail}
 use Rattle.frontiers.specs.BytesLaws.{length-count_bytes, count_bytes-append, count_bytes-one}
 use Rattle.frontiers.specs.Bytes.{count_bytes, frontier_bytes}
 use Rattle.frontiers.specs.declared.Frontier.{Frontier}
-use lib.Seq.{paste, take-add, drop-drop}
+use lib.Seq.{paste}
 
 -- ---- Places of counts
 
@@ -30,17 +30,6 @@ sets_more s a bs p l =
     let seam : sets (sets s a (take p bs)) (a + p) (get_or bs p 0 ∷ []) ≡ sets s a (take p bs ++ (get_or bs p 0 ∷ [])) =
     rw long at (sets-append s a (take p bs) (get_or bs p 0 ∷ [])) in
     rw (add-one, take-suc bs p 0 l) seam
-
--- Eight more, stored behind eight times i.
-pub eights_more : (t : List ℕ) (to : ℕ) (s : List ℕ) (from i : ℕ) → from + 8 * (i + 1) ≤ length s
-    → sets (sets t to (take (8 * i) (drop from s))) (to + 8 * i) (take 8 (drop (from + 8 * i) s))
-    ≡ sets t to (take (8 * (i + 1)) (drop from s))
-eights_more t to s from i within =
-    let d : List ℕ = drop from s in
-    let far : 8 * (i + 1) ≡ 8 * i + 8 = omega arith in
-    let long : length (take (8 * i) d) ≡ 8 * i = length-take-le (8 * i) d (simp length-drop (omega arith)) in
-    rw (far, take-add (8 * i) 8 d, drop-drop (8 * i) from s)
-    (rw long at (sets-append t to (take (8 * i) d) (take 8 (drop (from + 8 * i) s))))
 
 -- The next count, stored behind the first p.
 pub counts_more : (w : ℕ) (s cs : List ℕ) (p : ℕ) → p < length cs

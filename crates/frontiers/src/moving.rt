@@ -1,9 +1,7 @@
 // Bytes moved within a slice, filled in, and cleared.
 
-ghost use Rattle.std.specs.Prelude.{◌+◌, ◌*◌, ◌≤◌, ◌≡◌, length, take, drop, replicate};
+ghost use Rattle.std.specs.Prelude.{◌+◌, ◌≤◌, ◌≡◌, length, take, drop, replicate};
 ghost use Rattle.std.proofs.lemmas.List.Edits.{sets};
-
-use crate::stored::{read_eight, write_eight};
 
 // Moves n bytes up by so many places.
 pub fn move_up(s: &mut [u8], from: usize, n: usize, by: usize)
@@ -21,17 +19,16 @@ pub fn move_down(s: &mut [u8], to: usize, n: usize, by: usize)
     s.copy_within(to + by..to + by + n, to);
 }
 
-// Moves n times eight bytes down by so many places, the first eight first.
-// By hand, for speed: with `copy_within`, or byte by byte, a close that has just compared the counts of a frontier takes
-// its bytes one by one out of what was compared, and needs more than twice the time.
-pub fn move_eights_down(s: &mut [u8], to: usize, n: usize, by: usize)
-    requires { to + by + 8 * n ≤ length s.old }
-    ensures { s.new ≡ sets s.old to (take (8 * n) (drop (to + by) s.old)) }
+// Moves N bytes down by so many places. By hand, for speed: all are read before one is written, so the compiler moves
+// them at once. With `copy_within`, or byte by byte, a close takes the bytes of a frontier one by one out of the counts
+// that it has just compared, and needs up to twice the time.
+#[inline(always)]
+pub fn move_part_down<const N: usize>(s: &mut [u8], to: usize, by: usize)
+    requires { to + by + N ≤ length s.old }
+    ensures { s.new ≡ sets s.old to (take N (drop (to + by) s.old)) }
 {
-    for i in 0..n {
-        let eight = read_eight(s, to + by + 8 * i);
-        write_eight(s, to + 8 * i, eight);
-    }
+    let part: [u8; N] = codec::bytes_at(s, to + by);
+    s[to..to + N].copy_from_slice(&part);
 }
 
 // Stores one byte n times.

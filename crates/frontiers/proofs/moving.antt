@@ -1,2 +1,0 @@
--- What the functions' proofs here share.
-pub mod MovingSteps
