@@ -7,7 +7,7 @@ ghost use Rattle.rules.specs.ReaderCode.{Expected, DigitDone, form_read};
 ghost use Rattle.rules.specs.Laying.{digit_at, close_read, Done, Room};
 
 use crate::laying::{
-    Kind, Table, lay_after, lay_after_both, lay_before, lay_between, lay_constant, put_line,
+    Kind, Table, lay_after, lay_after_both, lay_before, lay_between, lay_constant, lay_line,
 };
 use crate::words::{Word, byte_at, read_word};
 use crate::{Binary, Constant, Unary};
@@ -96,7 +96,7 @@ fn read_atom(rule: Rule, from: Reached, table: &mut Table) -> Result<Reached, Fa
     let p = read_digit(rule.text, place + 1, rule.k)?;
     expect(rule.text, place + 2, b' ')?;
     let b = read_digit(rule.text, place + 3, 8)?;
-    let end = put_line(table, from.laid, Kind::Proposition, p, b);
+    let end = lay_line(table, from.laid, Kind::Proposition, p, b);
     close(rule.text, place + 4, from, end)
 }
 

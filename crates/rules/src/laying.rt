@@ -38,16 +38,25 @@ impl From<Kind> for u8 {
 }
 
 // Lays a line down as line n of a table. This one, and each below, answers the number of lines that are then laid down.
+// By hand, as promised: the kind is a number, since a line of any kind may be laid down.
 // By hand, as no plainer: n stands beside the table as the later lines name the earlier ones by it.
-pub fn put_line(table: &mut Table, n: usize, kind: Kind, a: usize, b: usize) -> usize
+pub fn put_line(table: &mut Table, n: usize, kind: u8, a: usize, b: usize) -> usize
     requires { (n < 200) × (a < 200) × (b < 200) }
-    ensures { Laid n 1 (line (kind_number kind) a b ∷ []) table.old table.new result }
+    ensures { Laid n 1 (line kind a b ∷ []) table.old table.new result }
 {
     let at = 3 * n;
-    table[at] = u8::from(kind);
+    table[at] = kind;
     table[at + 1] = a as u8;
     table[at + 2] = b as u8;
     n + 1
+}
+
+// Lays a line of one of the six kinds down.
+pub fn lay_line(table: &mut Table, n: usize, kind: Kind, a: usize, b: usize) -> usize
+    requires { (n < 200) × (a < 200) × (b < 200) }
+    ensures { Laid n 1 (line (kind_number kind) a b ∷ []) table.old table.new result }
+{
+    put_line(table, n, u8::from(kind), a, b)
 }
 
 // The lines of true, from line n on.
@@ -55,10 +64,10 @@ fn lay_true(table: &mut Table, n: usize) -> usize
     requires { n + 4 ≤ 200 }
     ensures { Laid n 4 (true_lines n) table.old table.new result }
 {
-    let second = put_line(table, n, Kind::Proposition, 0, 0);
-    let third = put_line(table, second, Kind::Not, n, 0);
-    let fourth = put_line(table, third, Kind::And, n, second);
-    put_line(table, fourth, Kind::Not, third, 0)
+    let second = lay_line(table, n, Kind::Proposition, 0, 0);
+    let third = lay_line(table, second, Kind::Not, n, 0);
+    let fourth = lay_line(table, third, Kind::And, n, second);
+    lay_line(table, fourth, Kind::Not, third, 0)
 }
 
 // The lines of a word alone, from line n on.
@@ -69,7 +78,7 @@ pub fn lay_constant(table: &mut Table, word: Constant, n: usize) -> usize
     let end = lay_true(table, n);
     match word {
         Constant::True => end,
-        Constant::False => put_line(table, end, Kind::Not, n + 3, 0),
+        Constant::False => lay_line(table, end, Kind::Not, n + 3, 0),
     }
 }
 
@@ -97,9 +106,9 @@ fn lay_negated(table: &mut Table, last: usize, kind: Kind, a: usize, b: usize) -
     requires { (last + 4 ≤ 200) × (a < 200) × (b < 200) }
     ensures { Laid (last + 1) 3 (not_line last ∷ line (kind_number kind) a b ∷ not_line (last + 2) ∷ []) table.old table.new result }
 {
-    let second = put_line(table, last + 1, Kind::Not, last, 0);
-    let third = put_line(table, second, kind, a, b);
-    put_line(table, third, Kind::Not, second, 0)
+    let second = lay_line(table, last + 1, Kind::Not, last, 0);
+    let third = lay_line(table, second, kind, a, b);
+    lay_line(table, third, Kind::Not, second, 0)
 }
 
 // The lines after that form's. Its last line is `last`, and that of true is `truth`.
@@ -109,10 +118,10 @@ pub fn lay_after(table: &mut Table, word: Unary, truth: usize, last: usize) -> u
 {
     let n = last + 1;
     match word {
-        Unary::Not => put_line(table, n, Kind::Not, last, 0),
-        Unary::Ey => put_line(table, n, Kind::Ey, last, 0),
-        Unary::Ep => put_line(table, n, Kind::Es, truth, last),
-        Unary::Ap => put_line(table, n, Kind::As, truth, last),
+        Unary::Not => lay_line(table, n, Kind::Not, last, 0),
+        Unary::Ey => lay_line(table, n, Kind::Ey, last, 0),
+        Unary::Ep => lay_line(table, n, Kind::Es, truth, last),
+        Unary::Ap => lay_line(table, n, Kind::As, truth, last),
         Unary::Ay => lay_negated(table, last, Kind::Ey, n, 0),
         Unary::Eh => lay_negated(table, last, Kind::As, truth, n),
         Unary::Ah => lay_negated(table, last, Kind::Es, truth, n),
@@ -129,7 +138,7 @@ pub fn lay_between(table: &mut Table, word: Binary, last: usize) -> usize
         Binary::And => n,
         Binary::Es => n,
         Binary::As => n,
-        Binary::Or => put_line(table, n, Kind::Not, last, 0),
+        Binary::Or => lay_line(table, n, Kind::Not, last, 0),
     }
 }
 
@@ -140,9 +149,9 @@ pub fn lay_after_both(table: &mut Table, word: Binary, first: usize, last: usize
 {
     let n = last + 1;
     match word {
-        Binary::And => put_line(table, n, Kind::And, first, last),
-        Binary::Es => put_line(table, n, Kind::Es, first, last),
-        Binary::As => put_line(table, n, Kind::As, first, last),
+        Binary::And => lay_line(table, n, Kind::And, first, last),
+        Binary::Es => lay_line(table, n, Kind::Es, first, last),
+        Binary::As => lay_line(table, n, Kind::As, first, last),
         Binary::Or => lay_negated(table, last, Kind::And, first + 1, n),
     }
 }

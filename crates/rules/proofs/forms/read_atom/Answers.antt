@@ -69,8 +69,8 @@ returns-in_err-b c =
     )
     (done_refused _ _ _ _ _ _)
 
-pub put_line-end-requires : goal.put_line-end-requires
-put_line-end-requires c =
+pub lay_line-end-requires : goal.lay_line-end-requires
+lay_line-end-requires c =
     let d₁ = digit_met _ _ _ _ c.in_ok-p.ensures in
     let d₂ = digit_met _ _ _ _ c.in_ok-b.ensures in
     (search rules, omega (arith, d₁.ten), omega (arith, d₂.ten))
@@ -91,4 +91,4 @@ returns c =
       d₂.same,
     )
     (done_close a.from.laid a.from.closed a.table.now _ s (a.from.place + 4) _ (atom _ _) _ c.close.ensures
-    c.put_line-end.ensures.count c.put_line-end.ensures.table)
+    c.lay_line-end.ensures.count c.lay_line-end.ensures.table)

@@ -6,19 +6,19 @@ use Rattle.rules.proofs.laying.lay_after.Goals as goal
 
 pub returns-in-Not : goal.returns-in-Not
 unfolding lines_after
-returns-in-Not c = rw c.in-Not.is (laid_within c.put_line.ensures (omega arith))
+returns-in-Not c = rw c.in-Not.is (laid_within c.lay_line.ensures (omega arith))
 
 pub returns-in-Ey : goal.returns-in-Ey
 unfolding lines_after
-returns-in-Ey c = rw c.in-Ey.is (laid_within c.put_line-in-Ey.ensures (omega arith))
+returns-in-Ey c = rw c.in-Ey.is (laid_within c.lay_line-in-Ey.ensures (omega arith))
 
 pub returns-in-Ep : goal.returns-in-Ep
 unfolding lines_after
-returns-in-Ep c = rw c.in-Ep.is (laid_within c.put_line-in-Ep.ensures (omega arith))
+returns-in-Ep c = rw c.in-Ep.is (laid_within c.lay_line-in-Ep.ensures (omega arith))
 
 pub returns-in-Ap : goal.returns-in-Ap
 unfolding lines_after
-returns-in-Ap c = rw c.in-Ap.is (laid_within c.put_line-in-Ap.ensures (omega arith))
+returns-in-Ap c = rw c.in-Ap.is (laid_within c.lay_line-in-Ap.ensures (omega arith))
 
 pub returns-in-Ay : goal.returns-in-Ay
 unfolding lines_after

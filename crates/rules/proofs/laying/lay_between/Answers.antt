@@ -17,4 +17,4 @@ returns-in-As c = rw c.in-As.is laid_none
 
 pub returns-in-Or : goal.returns-in-Or
 unfolding lines_between
-returns-in-Or c = rw c.in-Or.is c.put_line.ensures
+returns-in-Or c = rw c.in-Or.is c.lay_line.ensures

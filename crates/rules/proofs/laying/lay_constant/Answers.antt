@@ -12,4 +12,4 @@ pub returns-in-False : goal.returns-in-False
 unfolding constant_lines
 returns-in-False c =
     rw c.in-False.is
-    (laid_then c.lay_true-end.ensures c.put_line.ensures)
+    (laid_then c.lay_true-end.ensures c.lay_line.ensures)

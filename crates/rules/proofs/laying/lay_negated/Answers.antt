@@ -8,5 +8,5 @@ use Rattle.rules.proofs.laying.lay_negated.Goals as goal
 pub returns : goal.returns
 returns c =
     let last = c.args.last in
-    let second : c.put_line-second.result ≡ last + 2 = omega (arith, c.put_line-second.ensures.count) in
-    rw (← second) (laid_then (laid_then c.put_line-second.ensures c.put_line-third.ensures) c.put_line.ensures)
+    let second : c.lay_line-second.result ≡ last + 2 = omega (arith, c.lay_line-second.ensures.count) in
+    rw (← second) (laid_then (laid_then c.lay_line-second.ensures c.lay_line-third.ensures) c.lay_line.ensures)

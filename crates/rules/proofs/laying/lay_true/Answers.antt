@@ -10,7 +10,7 @@ pub returns : goal.returns
 unfolding true_lines
 returns c =
     let n = c.args.n in
-    let second : c.put_line-second.result ≡ n + 1 = omega (arith, c.put_line-second.ensures.count) in
-    let third : c.put_line-third.result ≡ n + 2 = omega (arith, c.put_line-third.ensures.count) in
-    let three = laid_then (laid_then c.put_line-second.ensures c.put_line-third.ensures) c.put_line-fourth.ensures in
-    rw (← second, ← third) (laid_then three c.put_line.ensures)
+    let second : c.lay_line-second.result ≡ n + 1 = omega (arith, c.lay_line-second.ensures.count) in
+    let third : c.lay_line-third.result ≡ n + 2 = omega (arith, c.lay_line-third.ensures.count) in
+    let three = laid_then (laid_then c.lay_line-second.ensures c.lay_line-third.ensures) c.lay_line-fourth.ensures in
+    rw (← second, ← third) (laid_then three c.lay_line.ensures)

@@ -11,4 +11,4 @@ pub returns : goal.returns
 unfolding lay table_bytes
 returns c =
     let e : 3 * c.args.n + 2 ≡ suc (suc (3 * c.args.n)) = omega arith in
-    record { count = refl; few = omega arith; table = rw (e, add-one (3 * c.args.n), c.from.ensures) }
+    record { count = refl; few = omega arith; table = rw (e, add-one (3 * c.args.n)) }
