@@ -83,6 +83,7 @@ pub fn lay_constant(table: &mut Table, word: Constant, n: usize) -> usize
 }
 
 // Whether a word with one form has the lines of true before that form's.
+#[tactic(auto, unfolding(crate::specs::Laying::has_true))]
 fn has_true(word: Unary) -> bool
     ensures { result ≡ has_true word }
 {
