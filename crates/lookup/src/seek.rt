@@ -1,15 +1,32 @@
-// The look-up of counts among frontiers in ascending order, read straight from their bytes. Each function is compiled
-// into its caller, where the width of a count is a constant: read from the struct, a look-up takes up to twice as long.
+// The look-up of counts among frontiers in ascending order, read straight from their bytes. What takes `Frontiers` is
+// compiled into its caller, where the width of a count is a constant: read from the struct, a look-up takes up to twice
+// as long.
 
-ghost use Rattle.std.specs.Prelude.{◌≤◌, ◌<◌, ◌≡◌, length, unwrap_or, IfSome};
-ghost use Rattle.lookup.specs.Seek.{stands_to, bisect as bisected, gallop as galloped, seek as sought, keys_of};
+ghost use Rattle.std.specs.Prelude.{◌+◌, ◌*◌, ◌≤◌, ◌<◌, ◌≡◌, length, unwrap_or, IfSome};
+ghost use Rattle.frontiers.specs.Width.{Width};
+ghost use Rattle.frontiers.specs.Bytes.{frontier_length, frontier_at};
+ghost use Rattle.lookup.specs.Seek.{standing, stands_to, bisect as bisected, gallop as galloped, seek as sought, keys_of};
 
 use frontiers::listed::Frontiers;
+use frontiers::width::CountWidth;
 use std::cmp::Ordering;
 
-// How the counts of frontier i stand to the key: process by process, until one differs.
+// How the counts of frontier i of a window's bytes stand to the key.
+// By hand, as promised: it asks for bytes and a number, since it answers for frontier number 1,024 too.
+pub fn standing_at(s: &[u8], w: usize, i: usize, key: [u32; 8]) -> Ordering
+    requires width { Width w }
+    requires i_bound { i ≤ 1024 }
+    requires w_in_bounds { i * frontier_length w + frontier_length w ≤ length s.now }
+    ensures { result ≡ standing (frontier_at w s.now i).counts key }
+{
+    let width = CountWidth::of(w);
+    let place = frontiers::place::frontier_place(width, i);
+    stands_at(&Frontiers::of(&s[place..], width, 1), 0, key)
+}
+
+// The same of frontiers that are laid: process by process, until one differs.
 #[inline(always)]
-pub fn standing_at(laid: &Frontiers, i: usize, key: [u32; 8]) -> Ordering
+fn stands_at(laid: &Frontiers, i: usize, key: [u32; 8]) -> Ordering
     requires { i < length laid.now }
     ensures { result ≡ stands_to (keys_of laid.now) key i }
 {
@@ -34,7 +51,7 @@ pub fn bisect(laid: &Frontiers, key: [u32; 8], low: usize, high: usize) -> Optio
     let mut hi = high;
     while lo < hi {
         let middle = lo + (hi - lo) / 2;
-        match standing_at(laid, middle, key) {
+        match stands_at(laid, middle, key) {
             Ordering::Equal => {
                 return Some(middle);
             }
@@ -65,7 +82,7 @@ pub fn gallop(laid: &Frontiers, key: [u32; 8], low: usize) -> Option<usize>
         if n <= far {
             return bisect(laid, key, lo + 1, n);
         }
-        match standing_at(laid, far, key) {
+        match stands_at(laid, far, key) {
             Ordering::Equal => {
                 return Some(far);
             }
@@ -90,7 +107,7 @@ pub fn seek(laid: &Frontiers, key: [u32; 8], hint: usize) -> Option<usize>
     if n <= hint {
         return bisect(laid, key, 0, n);
     }
-    match standing_at(laid, hint, key) {
+    match stands_at(laid, hint, key) {
         Ordering::Equal => Some(hint),
         Ordering::Less => gallop(laid, key, hint),
         Ordering::Greater => bisect(laid, key, 0, hint),

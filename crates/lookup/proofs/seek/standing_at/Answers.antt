@@ -1,30 +1,24 @@
-use native.Mathlib.Omega.{arith}
-use mathlib.Core.Path.{◌≡◌, sym, ◌∙◌}
-use Rattle.std.proofs.Common.{rules, [], get_or}
+-- Frontier i is the first of the bytes from its place on: the law `frontier_from-drop`.
+use Rattle.std.proofs.Common.{◌≡◌, ◌∙◌, ◌-◌, ◌*◌, ℕ, List, [], arith, length, get_or, drop, take, take_all, length-drop, zero-mul, add-zero, lit<}
+use Rattle.frontiers.specs.Bytes.{frontier_length, frontier_at, frontiers}
+use Rattle.frontiers.specs.BytesLaws.{frontier_from-drop}
+use Rattle.frontiers.specs.WindowLaws.{length-frontiers}
+use Rattle.lookup.specs.KeyLaws.{get_d_keys}
 use Rattle.lookup.specs.Seek.{keys_of}
-use Rattle.lookup.proofs.seek.SeekSteps.{standing_other, standing-equal, standing-end}
 use Rattle.lookup.proofs.seek.standing_at.Goals as goal
 
-pub returns-then-count-key : goal.returns-then-count-key
-returns-then-count-key c =
-    let a = c.args in
-    let counts = get_or (keys_of a.laid.now) a.i [] in
-    let read = c.count_at-count.ensures in
-    let other = standing_other counts a.key read.eight (search rules) c.loop-p.p (search rules) (λ q. c.if-count-key.true (read.value ∙ q)) in
-    c.cmp.ensures ∙ rw read.value (sym (c.loop-p.invariant.1 ∙ other))
+-- The first of the bytes from a frontier's place on.
+first_there : (w : ℕ) (s : List ℕ) (i place : ℕ) → place ≡ i * frontier_length w
+    → get_or (keys_of (frontiers w (take (length s - place) (drop place s)) 1)) 0 [] ≡ (frontier_at w s i).counts
+unfolding frontier_at
+first_there w s i place e =
+    rw (take_all (length s - place) (drop place s) (simp length-drop (omega arith)), get_d_keys w (drop place s) 1 0 (lit< tt), zero-mul, frontier_from-drop w s place 0, add-zero, e)
 
-pub loop-p-preserved : goal.loop-p-preserved
-loop-p-preserved c =
-    let a = c.args in
-    let counts = get_or (keys_of a.laid.now) a.i [] in
-    let read = c.count_at-count.ensures in
-    let equal = standing-equal counts a.key read.eight (search rules) c.loop-p.p (search rules) (sym read.value ∙ c.if-count-key.false) in
-    (λ _. read.eight, c.loop-p.invariant.1 ∙ equal)
+pub stands_at-requires : goal.stands_at-requires
+stands_at-requires c = rw (c.of.ensures, length-frontiers) (lit< tt)
 
 pub returns : goal.returns
 returns c =
     let a = c.args in
-    let counts = get_or (keys_of a.laid.now) a.i [] in
-    let all : c.loop-p.p ≡ 8 = omega arith in
-    let long = c.loop-p.invariant.0 (omega arith) in
-    sym (rw all at c.loop-p.invariant.1 ∙ standing-end counts a.key long (search rules))
+    let place : c.frontier_place-place.result ≡ a.i * frontier_length a.w = rw c.of-width.ensures at c.frontier_place-place.ensures.0 in
+    c.stands_at.ensures ∙ rw (c.of.ensures, c.of-width.ensures, first_there a.w a.s.now a.i _ place)

@@ -1,7 +1,7 @@
 -- Before the index the counts are those of the key, so that the comparison is that of what follows.
 use Rattle.std.proofs.Common.{◌≡◌, ◌<◌, [], length, get_or, drop}
 use Rattle.lookup.specs.Seek.{standing, stands_to, keys_of}
-use Rattle.lookup.proofs.seek.standing_at.Given as goal
+use Rattle.lookup.proofs.seek.stands_at.Given as goal
 
 abbrev pub invariant-loop-p : goal.invariant-loop-p
 invariant-loop-p l =
