@@ -18,7 +18,7 @@ use numbers::fault::Fault;
 use numbers::refusal::Refusal;
 use refusals::bad_processes;
 use replies::reply::{Accepted, Refused};
-use replies::{Stage, decode, next_stage};
+use replies::{Stage, decode};
 use reply_text::put;
 use watch32::{watch32_offer, watch32_open};
 
@@ -39,7 +39,7 @@ fn refuse(mut session: Session, fault: Fault) -> Session
     ensures stands { (t : Standing) (rule bytes window : List ℕ) → Stands t session rule bytes window → Stands (refuseLine t (number_of fault.refusal) fault.place) result rule bytes window }
     ensures text { result.text ≡ session.text }
 {
-    session.stage = next_stage(session.stage, true);
+    session.stage = session.stage.after(true);
     session.reply = Err(Refused::from(fault));
     session
 }
@@ -52,7 +52,7 @@ fn accept(mut session: Session) -> Session
     ensures frontiers { result.room ≡ session.room }
     ensures text { result.text ≡ session.text }
 {
-    session.stage = next_stage(session.stage, false);
+    session.stage = session.stage.after(false);
     session.reply = SILENT;
     session
 }
@@ -96,7 +96,7 @@ fn replied(mut session: Session, word: u64) -> Session
     ensures { Replied session word result }
 {
     let reply = decode(word);
-    session.stage = next_stage(session.stage, reply.is_err());
+    session.stage = session.stage.after(reply.is_err());
     session.reply = reply;
     session
 }

@@ -24,6 +24,22 @@ pub enum Stage {
     Over,
 }
 
+impl Stage {
+    // The stage of the next line, after a line at this one that was refused or not.
+    #[tactic(auto, unfolding(crate::specs::Following::next_stage))]
+    pub fn after(self, refused: bool) -> Stage
+        ensures { stage_number result ≡ next_stage (stage_number self) refused }
+    {
+        match (self, refused) {
+            (Stage::Event | Stage::Over, _) => self,
+            (_, true) => Stage::Over,
+            (Stage::Watch, false) => Stage::Rule,
+            (Stage::Rule, false) => Stage::Start,
+            (Stage::Start, false) => Stage::Event,
+        }
+    }
+}
+
 // An answer's parts, out of its reply word.
 pub fn decode(word: u64) -> Result<Accepted, Refused>
     ensures { PartsPromised word (reply_of result) }
@@ -61,16 +77,16 @@ pub fn takes_again(reply: Result<Accepted, Refused>) -> bool
     }
 }
 
-// The stage of the next line, after a line at this one that was refused or not.
-#[tactic(auto, unfolding(crate::specs::Following::next_stage))]
-pub fn next_stage(stage: Stage, refused: bool) -> Stage
-    ensures { stage_number result ≡ next_stage (stage_number stage) refused }
+// The number of the next line's stage, by that of this line's stage.
+// By hand, as promised: docs/PROOF-MAP.md names this function, so it answers for every number as before.
+pub fn next_stage(stage: u64, refused: bool) -> u64
+    ensures { result ≡ next_stage stage refused }
 {
-    match (stage, refused) {
-        (Stage::Event | Stage::Over, _) => stage,
-        (_, true) => Stage::Over,
-        (Stage::Watch, false) => Stage::Rule,
-        (Stage::Rule, false) => Stage::Start,
-        (Stage::Start, false) => Stage::Event,
+    if stage >= 3 {
+        return stage;
     }
+    if refused {
+        return 4;
+    }
+    stage + 1
 }

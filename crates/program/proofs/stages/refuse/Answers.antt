@@ -9,7 +9,7 @@ unfolding refuse parts_of
 returns-clause-stands c =
     λ t rule bytes window h. record {
       replied = c.from.ensures;
-      stage = c.next_stage-session.ensures ∙ rw h.stage;
+      stage = c.after-session.ensures ∙ rw h.stage;
       processes = h.processes;
       frontiers = h.frontiers;
       text = h.text;
