@@ -5,7 +5,7 @@ ghost use Rattle.frontiers.specs.Width.{Width};
 ghost use Rattle.answers.specs.Answer.{reply_word};
 ghost use Rattle.call_shared.specs.Shared.{shared_close};
 
-use crate::lent::{settle_pool, shared_fault};
+use crate::lent::{settle_pool, shared_refusal};
 use refusals::watch_fault;
 
 // Closes a process of watch number `number`: the reply, and the bytes of the three buffers after it.
@@ -29,7 +29,7 @@ pub fn close(
         pool.old number).pool }
 {
     let plain = watch_fault(w, record, window.len());
-    if let Err(refusal) = shared_fault(plain, pool, number) {
+    if let Err(refusal) = shared_refusal(plain, pool, number) {
         return refusal.into();
     }
     // A pool of another length was turned back just now.

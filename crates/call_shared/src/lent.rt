@@ -12,7 +12,7 @@ use records::fields::kept_count;
 
 // What a shared call is turned back for, by what the plain call is. Only the plain 6 is told before what the pool
 // refuses.
-pub fn shared_fault(plain: Result<(), Refusal>, pool: &[u8], number: u64) -> Result<(), Refusal>
+pub fn shared_refusal(plain: Result<(), Refusal>, pool: &[u8], number: u64) -> Result<(), Refusal>
     ensures { refused result ≡ shared_fault (refused plain) pool.now number }
 {
     if plain == Err(Refusal::Length) {
@@ -25,6 +25,20 @@ pub fn shared_fault(plain: Result<(), Refusal>, pool: &[u8], number: u64) -> Res
         return Err(Refusal::State);
     }
     plain
+}
+
+// The number that a shared call is turned back with, by that of the plain call; 0 for none.
+// By hand, as promised: it answers for every number, also one that no `Refusal` has.
+pub fn shared_fault(plain: u64, pool: &[u8], number: u64) -> u64
+    ensures { result ≡ shared_fault plain pool.now number }
+{
+    if plain == u64::from(Refusal::Length) {
+        return plain;
+    }
+    match shared_refusal(Ok(()), pool, number) {
+        Ok(()) => plain,
+        Err(refusal) => refusal.into(),
+    }
 }
 
 // The pool after a call of watch i with this reply: a refusal leaves it as it was, else the record says what is kept.

@@ -5,7 +5,7 @@ ghost use Rattle.frontiers.specs.Width.{Width};
 ghost use Rattle.answers.specs.Answer.{reply_word};
 ghost use Rattle.call_shared.specs.Shared.{shared_open};
 
-use crate::lent::{settle_pool, shared_fault};
+use crate::lent::{settle_pool, shared_refusal};
 use call_open::open_fault;
 use frontiers::width::CountWidth;
 
@@ -32,7 +32,7 @@ pub fn open(
         «record».old window.old pool.old number).pool }
 {
     let plain = open_fault(CountWidth::of(w), k, labels, record.len(), window.len());
-    if let Err(refusal) = shared_fault(plain, pool, number) {
+    if let Err(refusal) = shared_refusal(plain, pool, number) {
         return refusal.into();
     }
     // A pool of another length was turned back just now.

@@ -5,7 +5,7 @@ ghost use Rattle.frontiers.specs.Width.{Width};
 ghost use Rattle.answers.specs.Answer.{reply_word};
 ghost use Rattle.call_shared.specs.Shared.{shared_take};
 
-use crate::lent::{settle_pool, shared_fault};
+use crate::lent::{settle_pool, shared_refusal};
 use call_take::{take_fault, take_within};
 use frontiers::width::CountWidth;
 use refusals::room_of;
@@ -34,7 +34,7 @@ pub fn take(
 {
     let width = CountWidth::of(w);
     let plain = take_fault(width, record, window.len(), scratch.len());
-    if let Err(refusal) = shared_fault(plain, pool, number) {
+    if let Err(refusal) = shared_refusal(plain, pool, number) {
         return refusal.into();
     }
     // A pool of another length was turned back just now.

@@ -11,8 +11,8 @@ use Rattle.pool.specs.Pool.{bad_pool_length}
 use Rattle.pool.specs.PoolLaws.{right_length, wrong_length}
 use Rattle.call_shared.specs.SharedCode.{shared_fault}
 use Rattle.call_shared.proofs.FaultSteps.{only_length}
-use Rattle.call_shared.proofs.lent.shared_fault.Goals as goal
-use Rattle.call_shared.proofs.lent.shared_fault.Goals.{Else-eq, In-Some}
+use Rattle.call_shared.proofs.lent.shared_refusal.Goals as goal
+use Rattle.call_shared.proofs.lent.shared_refusal.Goals.{Else-eq, In-Some}
 
 -- The plain refusal is not 6.
 other : (c : Else-eq) → eqb (refused c.args.plain) 6 ≡ false
