@@ -11,6 +11,7 @@ ghost use Rattle.frontiers.specs.Width.{Width};
 ghost use Rattle.records.specs.Record.{record_length, pending_count, pending_events};
 ghost use Rattle.refusals.specs.Refusals as conditions;
 ghost use Rattle.repeats.specs.Repeats as repeats;
+ghost use Rattle.repeats.specs.RepeatsCode as code;
 
 use clocks::Event;
 use frontiers::width::CountWidth;
@@ -26,22 +27,36 @@ pub fn same_event(a: Event, b: Event) -> bool
 
 // Whether a pending event passes a test.
 // By hand, for the proof: in a closure under `any` the check does not find that i is a pending event's number.
-// By hand, as promised: docs/DECISIONS.md names this function, so it asks for a number as before.
-pub fn pending_alike<F: Fn(Event) -> bool>(record: &[u8], w: usize, alike: F) -> bool
-    requires width { Width w }
+#[inline(always)]
+pub fn any_pending<F: Fn(Event) -> bool>(record: &[u8], w: CountWidth, alike: F) -> bool
     requires record_len { length «record».now ≡ record_length w }
     requires record_bound { pending_count «record».now ≤ 32 }
     requires callable { F.IsAlwaysCallable alike }
     ensures { (test : Event → Bool) → ((f : Event) (b : Bool) → F.post alike f b → b ≡ test f)
         → result ≡ any_of test (pending_events w «record».now) }
 {
-    let width = CountWidth::of(w);
     for i in 0..pending_count(record) {
-        if alike(pending_event(record, width, i)) {
+        if alike(pending_event(record, w, i)) {
             return true;
         }
     }
     false
+}
+
+// Whether a pending event is the same as this one, or else has the same count at a common process: "again", or 32.
+// By hand, as promised: docs/DECISIONS.md names this function, so it asks for a number and a flag as before.
+#[inline(always)]
+pub fn pending_alike(record: &[u8], w: usize, e: Event, whole: bool) -> bool
+    requires width { Width w }
+    requires record_len { length «record».now ≡ record_length w }
+    requires record_bound { pending_count «record».now ≤ 32 }
+    ensures { result ≡ any_of (code.alike whole e) (pending_events w «record».now) }
+{
+    let width = CountWidth::of(w);
+    if whole {
+        return any_pending(record, width, |f| same_event(e, f));
+    }
+    any_pending(record, width, |f| conflicts(e, f))
 }
 
 // Whether a pending event is the same: "again".
@@ -51,7 +66,7 @@ pub fn repeated(record: &[u8], w: CountWidth, e: Event) -> bool
     requires record_bound { pending_count «record».now ≤ 32 }
     ensures { result ≡ repeats.repeated e (pending_events w «record».now) }
 {
-    pending_alike(record, w.bytes(), |f| same_event(e, f))
+    pending_alike(record, w.bytes(), e, true)
 }
 
 // 32: a pending event has the same count at a common process.
@@ -61,5 +76,5 @@ pub fn conflicting(record: &[u8], w: CountWidth, e: Event) -> bool
     requires record_bound { pending_count «record».now ≤ 32 }
     ensures { result ≡ conditions.conflicting e (pending_events w «record».now) }
 {
-    pending_alike(record, w.bytes(), |f| conflicts(e, f))
+    pending_alike(record, w.bytes(), e, false)
 }

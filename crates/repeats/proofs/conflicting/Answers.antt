@@ -1,8 +1,8 @@
--- The test is that of the definition.
-use Rattle.std.proofs.Common.{rules}
-use Rattle.refusals.specs.Refusals.{conflicts, conflicting}
+-- The test that is asked for is that of the definition.
+use Rattle.refusals.specs.Refusals.{conflicting}
+use Rattle.repeats.specs.RepeatsCode.{alike}
 use Rattle.repeats.proofs.conflicting.Goals as goal
 
 pub returns : goal.returns
-unfolding conflicting
-returns c = rw (c.pending_alike.ensures (conflicts c.args.e) (λ f b h. search rules), c.bytes.ensures.value)
+unfolding conflicting alike
+returns c = rw (c.pending_alike.ensures, c.bytes.ensures.value)

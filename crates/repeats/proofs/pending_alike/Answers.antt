@@ -1,19 +1,15 @@
--- The search answers as the definition does: the law `any_of_decides`.
-use Rattle.std.proofs.Common.{arith, sym, true, false, true≢false}
-use Rattle.clocks.specs.stored.SearchLaws.{any_of_decides}
-use Rattle.records.specs.Record.{pending_count, pending_at, pending_events}
+-- The test is that of the two that is asked for.
+use Rattle.std.proofs.Common.{rules}
+use Rattle.clocks.specs.SameEvent.{same_event}
+use Rattle.refusals.specs.Refusals.{conflicts}
+use Rattle.repeats.specs.RepeatsCode.{alike}
 use Rattle.repeats.proofs.pending_alike.Goals as goal
 
-pub returns-then-alike : goal.returns-then-alike
-unfolding pending_events
-returns-then-alike g c test tests =
-    let a = c.args in
-    any_of_decides (pending_count a.«record».now) (pending_at a.w a.«record».now) test true (λ h. absurd (true≢false h))
-    (λ h none. let passed = tests _ _ c.alike.ensures in let failed = none c.loop-i.i (omega arith) in cc)
+pub returns-then-whole : goal.returns-then-whole
+unfolding alike
+returns-then-whole c =
+    rw (c.if-whole.true, c.any_pending.ensures (same_event c.args.e) (λ f b h. search rules), c.of-width.ensures)
 
 pub returns : goal.returns
-unfolding pending_events
-returns g c test tests =
-    let a = c.args in
-    any_of_decides (pending_count a.«record».now) (pending_at a.w a.«record».now) test false
-    (λ h p l. sym (tests (pending_at a.w a.«record».now p) false (c.loop-i.invariant.1 p (omega arith)))) (λ h. absurd (true≢false (sym h)))
+unfolding alike
+returns c = rw (c.if-whole.false, c.any_pending-2.ensures (conflicts c.args.e) (λ f b h. search rules), c.of-width.ensures)
