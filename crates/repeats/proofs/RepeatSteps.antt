@@ -1,14 +1,15 @@
--- What the derived equality of events tests.
+-- What the derived equality of events tests, and what a look at the first counts tells.
 use Rattle.std.specs.Prelude.{◌≡◌, refl, Bool, ◌&&◌, length, eqb, T}
 use Rattle.std.specs.Str.{bytes_eq}
-use Rattle.std.proofs.Common.{subst}
+use Rattle.std.proofs.Common.{arith, subst}
 use Rattle.std.proofs.Math.Dec.{eqb_refl}
 use Rattle.std.proofs.Math.Facts.{eqb_yes}
 use Rattle.std.proofs.lemmas.Slice.Eq.{bytes_eq-Decides}
 use Rattle.clocks.specs.declared.Event.{Event}
-use Rattle.clocks.specs.SameEvent.{same_event}
+use Rattle.clocks.specs.Counts.{at}
+use Rattle.clocks.specs.SameEvent.{same_at, same_event}
 use Rattle.clocks.specs.cuts.EventLaws.{true-T, T_true}
-use Rattle.clocks.specs.stored.BoundedLaws.{and_i, and_l, and_r, same_test}
+use Rattle.clocks.specs.stored.BoundedLaws.{all_e, and_i, and_l, and_r, same_test}
 use Rattle.clocks.specs.stored.SameEventLaws.{same_refl, same-event-test}
 
 -- Mask, clock and labels, each compared as a whole.
@@ -36,3 +37,10 @@ derived_same e f ec fc el fl = same_test (derived e f) (same_event e f) there ba
 
     back : T (same_event e f) → T (derived e f)
     back t = subst (λ (g : Event). T (derived e g)) ((same-event-test e f ec fc el fl).0 t) (derived_refl e)
+
+-- Events with other counts of the first process are not the same.
+pub differ_first : (e f : Event) → (at e.clock 0 ≡ at f.clock 0 → ⊥) → eqb (at e.clock 0) (at f.clock 0) ≡ same_event e f
+unfolding same_event
+differ_first e f other =
+    same_test _ _ (λ t. absurd (other (eqb_yes t)))
+    (λ t. absurd (other (eqb_yes (and_l _ _ (all_e 8 (same_at e f) (and_r (eqb e.mask f.mask) _ t) 0 (omega arith))))))

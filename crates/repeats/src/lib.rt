@@ -22,7 +22,8 @@ use refusals::conflicts;
 pub fn same_event(a: Event, b: Event) -> bool
     ensures { result ≡ same_event a b }
 {
-    a == b
+    // By hand, for speed: most events differ in the first count, to which the equality alone comes last.
+    a.clock[0] == b.clock[0] && a == b
 }
 
 // Whether a pending event passes a test.
