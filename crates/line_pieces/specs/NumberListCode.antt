@@ -1,16 +1,24 @@
 -- A list of numbers as the code keeps it.
-use Rattle.std.specs.Prelude.{◌≡◌, Bool, true, false, Result, Ok, Err}
-use Rattle.numbers.specs.declared.fault.Fault.{Fault}
+use Rattle.std.specs.Prelude.{ℕ, Bool, true, false, List, Result, Ok, Err}
 use Rattle.line_pieces.specs.declared.Numbers.{Numbers}
+use Rattle.line_pieces.specs.declared.BadList.{BadList}
 use Rattle.line_pieces.specs.declared.list.Order.{Order}
 use Rattle.line_pieces.specs.declared.list.Order.TheVariants.{Ascending, Any}
+use Rattle.line_pieces.specs.Read.{Read}
 use Rattle.line_pieces.specs.ReadingCode.{here_of, fault_of}
 use Rattle.line_pieces.specs.NumberList.{ListRead, eight_values}
 
--- A list's first eight numbers, and where the reading stands after it; or its fault.
-abbrev pub IsList : Result Numbers Fault → ListRead → Type 0
-IsList (Ok list) l = (list.values ≡ eight_values l.numbers) × (here_of list.here ≡ l.read)
-IsList (Err fault) l = fault_of fault ≡ l.read
+-- The first eight numbers of a list, and the reading behind them: where it stands, or its fault.
+pub record ListKept : Type 0 where
+  pub values : List ℕ
+  pub read : Read
+
+abbrev pub numbers_read : (l : ListRead) → ListKept
+numbers_read l = record { values = eight_values l.numbers; read = l.read }
+
+abbrev pub numbers_of : Result Numbers BadList → ListKept
+numbers_of (Ok list) = record { values = list.values; read = here_of list.here }
+numbers_of (Err bad) = record { values = bad.values; read = fault_of bad.fault }
 
 -- Whether each number is above the one before it.
 abbrev pub ascending : Order → Bool

@@ -4,11 +4,11 @@ ghost use Rattle.std.specs.Prelude.{◌+◌, ◌≤◌, ◌≡◌, Ok, cond, [],
 ghost use Rattle.line_pieces.specs.Read.{At};
 ghost use Rattle.line_pieces.specs.ReadingCode.{here_of, read_of};
 ghost use Rattle.line_pieces.specs.NumberList.{list_read, all_numbers_at, then_list, then_spaced_list, then_close};
-ghost use Rattle.line_pieces.specs.NumberListCode.{IsList, ascending};
+ghost use Rattle.line_pieces.specs.NumberListCode.{numbers_of, numbers_read, ascending};
 
 use crate::number::read_number;
 use crate::reading::has_byte;
-use crate::{Here, Numbers};
+use crate::{BadList, Here, Numbers};
 use numbers::fault::Fault;
 use numbers::refusal::Refusal;
 
@@ -45,16 +45,16 @@ impl Order {
 }
 
 // All the numbers from a place on.
-fn read_numbers(line: &[u8], start: usize, order: Order, most: u64) -> Result<Numbers, Fault>
+fn read_numbers(line: &[u8], start: usize, order: Order, most: u64) -> Result<Numbers, BadList>
     requires { most ≤ 4294967295 }
-    ensures { IsList result (all_numbers_at line.now (ascending order) most start) }
+    ensures { numbers_of result ≡ numbers_read (all_numbers_at line.now (ascending order) most start) }
 {
     let mut values = [0u64; 8];
     let mut count: usize = 0;
     let mut least: u64 = 0;
     let mut at = start;
     loop {
-        let found = read_number(line, at, least, most)?;
+        let found = read_number(line, at, least, most).map_err(|fault| BadList { values, fault })?;
         keep(&mut values, count, found.value);
         count += 1;
         if !has_byte(line, found.place, b' ') {
@@ -71,7 +71,7 @@ fn read_numbers(line: &[u8], start: usize, order: Order, most: u64) -> Result<Nu
 
 // No numbers, where a reading stands.
 fn no_numbers(place: usize) -> Numbers
-    ensures { IsList (Ok result) (list_read [] (At place 0)) }
+    ensures { numbers_of (Ok result) ≡ numbers_read (list_read [] (At place 0)) }
 {
     Numbers {
         values: [0u64; 8],
@@ -81,9 +81,9 @@ fn no_numbers(place: usize) -> Numbers
 
 // A list after its opening bracket: it may be empty.
 // By hand, as no plainer: this list and the next differ in what stands before them, and share the rest.
-pub fn then_list(line: &[u8], order: Order, most: u64, here: Here) -> Result<Numbers, Fault>
+pub fn then_list(line: &[u8], order: Order, most: u64, here: Here) -> Result<Numbers, BadList>
     requires { most ≤ 4294967295 }
-    ensures { IsList result (then_list line.now (ascending order) most (here_of here)) }
+    ensures { numbers_of result ≡ numbers_read (then_list line.now (ascending order) most (here_of here)) }
 {
     if has_byte(line, here.place, b')') {
         return Ok(no_numbers(here.place));
@@ -92,9 +92,9 @@ pub fn then_list(line: &[u8], order: Order, most: u64, here: Here) -> Result<Num
 }
 
 // A list after a line's word, with a space before its first number.
-pub fn then_spaced_list(line: &[u8], most: u64, here: Here) -> Result<Numbers, Fault>
+pub fn then_spaced_list(line: &[u8], most: u64, here: Here) -> Result<Numbers, BadList>
     requires { most ≤ 4294967295 }
-    ensures { IsList result (then_spaced_list line.now most (here_of here)) }
+    ensures { numbers_of result ≡ numbers_read (then_spaced_list line.now most (here_of here)) }
 {
     if !has_byte(line, here.place, b' ') {
         return Ok(no_numbers(here.place));

@@ -1,5 +1,5 @@
 -- Every line: a `?` gives back the fault that it met, and the limit on the line's bytes comes last.
-use Rattle.std.proofs.Common.{ℕ, ◌≡◌, refl, Bool, true, false, cond, ◌&&◌, List, length, ltb, Result, Ok, Err}
+use Rattle.std.proofs.Common.{ℕ, ◌≡◌, refl, ap, Bool, true, false, cond, ◌&&◌, List, length, ltb, Result, Ok, Err}
 use Rattle.std.proofs.lemmas.Result.{err_from_is_err_and}
 use Rattle.std.specs.Result.{IsErrAnd}
 use Rattle.numbers.specs.declared.fault.Fault.{Fault}
@@ -7,10 +7,15 @@ use Rattle.numbers.specs.RefusalNumber.{number_of}
 use Rattle.line_pieces.specs.Read.{Read, At, Refused}
 use Rattle.line_pieces.specs.Reading.{line_limit, limited}
 use Rattle.line_pieces.specs.ReadingCode.{over_limit, within_limit}
+use Rattle.line_pieces.specs.NumberListCode.{ListKept}
 
 pub fault_kept : {A Line : Type 0} (line_of : Result A Fault → Line) (given : Result A Fault) (fault : Fault)
     {line : Line} → IsErrAnd given (λ f. f ≡ fault) → line_of (Err fault) ≡ line → line_of given ≡ line
 fault_kept line_of given fault h e = let p = err_from_is_err_and given h in rw (p.1, p.2) e
+
+-- The first eight numbers of a list.
+pub list_values : {kept list : ListKept} → kept ≡ list → kept.values ≡ list.values
+list_values h = ap (λ k. k.values) h
 
 -- What is read and the code's answer are both a fault, the same one, or neither is.
 abbrev pub Agrees : {A : Type 0} → Read → Result A Fault → Type 0

@@ -17,8 +17,8 @@ use Rattle.line_pieces.specs.Number.{number_at}
 use Rattle.line_pieces.specs.NumberLaws.{number-after}
 use Rattle.std.specs.Prelude.{Ok, Err}
 use Rattle.line_pieces.specs.NumberList.{after_number, numbers_at, all_numbers_at, eight_values}
-use Rattle.line_pieces.specs.NumberListCode.{IsList}
-use Rattle.numbers.specs.declared.fault.Fault.{Fault}
+use Rattle.line_pieces.specs.NumberListCode.{numbers_of, numbers_read}
+use Rattle.line_pieces.specs.declared.BadList.{BadList}
 
 -- ---- The numbers kept
 
@@ -86,18 +86,17 @@ module _ {s : List ℕ} {ascending : Bool} {most start : ℕ} {values : List ℕ
       let e : length s + 1 - length g.numbers ≡ suc (length s - length g.numbers) = omega (arith, g.few) in
       g.goes ∙ rw e
 
-  pub going_refused : (fault : Fault) → fault_of fault ≡ number_at s here least most
-      → IsList (Err fault) (all_numbers_at s ascending most start)
+  pub going_refused : (bad : BadList) → bad.values ≡ values → fault_of bad.fault ≡ number_at s here least most
+      → numbers_of (Err bad) ≡ numbers_read (all_numbers_at s ascending most start)
   unfolding after_number
-  going_refused fault h = rw (going_step, ← h)
+  going_refused bad kept met = rw (going_step, ← met, kept, g.values_are)
 
   pub going_last : (i v : ℕ) (more : List ℕ) → At i v ≡ number_at s here least most → eqb (byte_at s i) 32 ≡ false
       → more ≡ set values count v
-      → IsList (Ok (record { values = more; here = record { place = i; value = count + 1 } }))
-      (all_numbers_at s ascending most start)
+      → numbers_of (Ok (record { values = more; here = record { place = i; value = count + 1 } }))
+      ≡ numbers_read (all_numbers_at s ascending most start)
   unfolding after_number
-  going_last i v more h q m =
-      rw (going_step, ← h, q) (rw (m, g.values_are, g.count_is) (sym (eight_more g.numbers v)), rw g.count_is)
+  going_last i v more h q m = rw (going_step, ← h, q, m, g.values_are, g.count_is, eight_more g.numbers v)
 
   pub going_on : (i v next : ℕ) (more : List ℕ) → At i v ≡ number_at s here least most → eqb (byte_at s i) 32 ≡ true
       → i < length s → more ≡ set values count v → next ≡ cond ascending (v + 1) 0

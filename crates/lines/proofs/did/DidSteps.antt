@@ -8,6 +8,7 @@ use Rattle.codec.specs.Ascii.{ascii}
 use Rattle.line_pieces.specs.Read.{Read, At, Refused}
 use Rattle.line_pieces.specs.Reading.{value_read, then_byte, then_bytes, head_read, then_end, then_last}
 use Rattle.line_pieces.specs.NumberList.{then_list, then_close, eight_values}
+use Rattle.line_pieces.specs.NumberListCode.{ListKept, numbers_read}
 use Rattle.line_pieces.specs.ReadingCode.{within_limit}
 use Rattle.lines.proofs.LineSteps.{Agrees, line_limited}
 use Rattle.lines.specs.declared.did.Did.{Did as DidRead}
@@ -52,16 +53,16 @@ words_made n processes counts labels marks placed' mask c01 c23 c45 c67 word' l 
 
 -- The line's pieces, each of what is read before it.
 pub did_made : (s : List ℕ) (k : ℕ)
-    {word processes first second counts third fourth labels last bracket whole : Read}
+    {word first second third fourth last bracket whole : Read} {processes counts labels : ListKept}
     → word ≡ head_read s (ascii "(did (")
-    → processes ≡ (then_list s true process_limit word).read
-    → first ≡ then_close s 1 8 processes
+    → processes ≡ numbers_read (then_list s true process_limit word)
+    → first ≡ then_close s 1 8 processes.read
     → second ≡ then_bytes s (ascii " (") first
-    → counts ≡ (then_list s false count_limit second).read
-    → third ≡ then_close s k k counts
+    → counts ≡ numbers_read (then_list s false count_limit second)
+    → third ≡ then_close s k k counts.read
     → fourth ≡ then_bytes s (ascii " (") third
-    → labels ≡ (then_list s false label_limit fourth).read
-    → last ≡ then_close s (value_read first) (value_read first) labels
+    → labels ≡ numbers_read (then_list s false label_limit fourth)
+    → last ≡ then_close s (value_read first) (value_read first) labels.read
     → bracket ≡ then_byte s 41 last
     → whole ≡ then_end s bracket
     → did_of (value_read first) (then_list s true process_limit word).numbers

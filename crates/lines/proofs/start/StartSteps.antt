@@ -5,14 +5,15 @@ use Rattle.codec.specs.Ascii.{ascii}
 use Rattle.line_pieces.specs.Read.{Read, At, Refused}
 use Rattle.line_pieces.specs.Reading.{head_read, then_end}
 use Rattle.line_pieces.specs.NumberList.{then_spaced_list, then_close, eight_values}
+use Rattle.line_pieces.specs.NumberListCode.{ListKept, numbers_read}
 use Rattle.line_pieces.specs.ReadingCode.{within_limit}
 use Rattle.lines.proofs.LineSteps.{Agrees, line_limited}
 use Rattle.lines.specs.Lines.{label_limit, start_of, start_line}
 use Rattle.lines.specs.LinesCode.{start_line_of, start_pieces}
 
 -- The line's pieces, each of what is read before it.
-pub start_made : (s : List ℕ) (k : ℕ) {word list bracket whole : Read} → word ≡ head_read s (ascii "(start")
-    → list ≡ (then_spaced_list s label_limit word).read → bracket ≡ then_close s k k list → whole ≡ then_end s bracket
+pub start_made : (s : List ℕ) (k : ℕ) {word bracket whole : Read} {list : ListKept} → word ≡ head_read s (ascii "(start")
+    → list ≡ numbers_read (then_spaced_list s label_limit word) → bracket ≡ then_close s k k list.read → whole ≡ then_end s bracket
     → start_of (eight_values (then_spaced_list s label_limit word).numbers) whole ≡ start_pieces s k
 unfolding start_pieces
 start_made s k w l b e = rw (e, b, l, w)

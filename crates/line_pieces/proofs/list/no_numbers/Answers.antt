@@ -5,4 +5,4 @@ use Rattle.line_pieces.proofs.list.no_numbers.Goals as goal
 
 pub returns : goal.returns
 unfolding list_of
-returns c = (refl, refl)
+returns c = refl
