@@ -1,4 +1,5 @@
--- The pieces are read one after the other, as the definition says; a fault stays.
+-- The pieces are read one after the other, as the definition says; a fault stays. The whole line stands first: where
+-- several goals fail, rt names the first.
 use Rattle.std.proofs.Common.{refl, ◌∙◌}
 use Rattle.line_pieces.specs.Reading.{value_read, then_byte, then_bytes, then_end}
 use Rattle.line_pieces.specs.NumberList.{then_list, then_close}
@@ -7,6 +8,17 @@ use Rattle.lines.specs.LinesCode.{did_line_of}
 use Rattle.lines.proofs.did.DidSteps.{did_made, did_eight}
 use Rattle.lines.proofs.did.pieces.Goals as goal
 use Rattle.lines.proofs.LineSteps.{fault_kept, list_values}
+
+pub returns : goal.returns
+unfolding value_read did_of
+returns c =
+    c.did_of.ensures
+    ∙ rw (list_values c.in_ok-processes.ensures, list_values c.in_ok-counts.ensures, list_values c.in_ok-labels.ensures)
+    (did_eight c.in_ok-first.first.value _ _ _ c.in_ok-then_end.field-0.place c.in_ok-then_end.field-0.value
+    c.in_ok-first.ensures.few)
+    ∙ did_made c.args.line.now c.args.k c.in_ok-word.ensures c.in_ok-processes.ensures c.in_ok-first.ensures.value
+    c.in_ok-second.ensures c.in_ok-counts.ensures c.in_ok-third.ensures.value c.in_ok-fourth.ensures
+    c.in_ok-labels.ensures c.in_ok-last.ensures.value c.in_ok-bracket.ensures c.in_ok-then_end.ensures
 
 pub returns-in_err-word : goal.returns-in_err-word
 unfolding did_of then_list then_close then_bytes then_byte then_end
@@ -88,14 +100,3 @@ returns-in_err-then_end c =
     (did_made c.args.line.now c.args.k c.in_ok-word.ensures c.in_ok-processes.ensures c.in_ok-first.ensures.value
     c.in_ok-second.ensures c.in_ok-counts.ensures c.in_ok-third.ensures.value c.in_ok-fourth.ensures
     c.in_ok-labels.ensures c.in_ok-last.ensures.value c.in_ok-bracket.ensures c.in_err-then_end.ensures)
-
-pub returns : goal.returns
-unfolding value_read did_of
-returns c =
-    c.did_of.ensures
-    ∙ rw (list_values c.in_ok-processes.ensures, list_values c.in_ok-counts.ensures, list_values c.in_ok-labels.ensures)
-    (did_eight c.in_ok-first.first.value _ _ _ c.in_ok-then_end.field-0.place c.in_ok-then_end.field-0.value
-    c.in_ok-first.ensures.few)
-    ∙ did_made c.args.line.now c.args.k c.in_ok-word.ensures c.in_ok-processes.ensures c.in_ok-first.ensures.value
-    c.in_ok-second.ensures c.in_ok-counts.ensures c.in_ok-third.ensures.value c.in_ok-fourth.ensures
-    c.in_ok-labels.ensures c.in_ok-last.ensures.value c.in_ok-bracket.ensures c.in_ok-then_end.ensures

@@ -1,4 +1,5 @@
--- The pieces are read one after the other, as the definition says; a fault stays.
+-- The pieces are read one after the other, as the definition says; a fault stays. The whole line stands first: where
+-- several goals fail, rt names the first.
 use Rattle.std.proofs.Common.{refl}
 use Rattle.line_pieces.specs.Reading.{value_read, then_byte, then_number, then_end}
 use Rattle.lines.specs.Lines.{watch_of}
@@ -6,6 +7,12 @@ use Rattle.lines.specs.LinesCode.{watch_line_of}
 use Rattle.lines.proofs.LineSteps.{fault_kept}
 use Rattle.lines.proofs.watch.WatchSteps.{watch_made}
 use Rattle.lines.proofs.watch.pieces.Goals as goal
+
+pub returns : goal.returns
+unfolding value_read watch_of
+returns c =
+    watch_made c.args.line.now c.in_ok-word.ensures c.in_ok-k.ensures c.in_ok-space.ensures c.in_ok-room.ensures
+    c.in_ok-bracket.ensures c.in_ok-end.ensures
 
 pub returns-in_err-word : goal.returns-in_err-word
 unfolding watch_of then_byte then_number then_end
@@ -45,9 +52,3 @@ returns-in_err-end c =
     fault_kept watch_line_of _ _ c.from_residual-in_err-end.ensures.1
     (watch_made c.args.line.now c.in_ok-word.ensures c.in_ok-k.ensures c.in_ok-space.ensures c.in_ok-room.ensures
     c.in_ok-bracket.ensures c.in_err-end.ensures)
-
-pub returns : goal.returns
-unfolding value_read watch_of
-returns c =
-    watch_made c.args.line.now c.in_ok-word.ensures c.in_ok-k.ensures c.in_ok-space.ensures c.in_ok-room.ensures
-    c.in_ok-bracket.ensures c.in_ok-end.ensures
