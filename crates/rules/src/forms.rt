@@ -14,7 +14,7 @@ use crate::{Binary, Constant, Unary};
 use numbers::fault::Fault;
 use numbers::refusal::Refusal;
 
-// A rule's text, and the number of processes that it may name.
+// A rule's text, and the number of processes that it may name. The readers borrow it, so that no call copies it.
 #[derive(Clone, Copy)]
 pub struct Rule<'a> {
     pub text: &'a [u8],
@@ -87,9 +87,9 @@ fn close(text: &[u8], place: usize, from: Reached, end: usize) -> Result<Reached
 }
 
 // (at p b) from after its word on.
-fn read_atom(rule: Rule, from: Reached, table: &mut Table) -> Result<Reached, Fault>
+fn read_atom(rule: &Rule, from: Reached, table: &mut Table) -> Result<Reached, Fault>
     requires { (from.place ≤ 900) × (from.laid < 200) × (from.closed ≤ 64) }
-    ensures { Done from.laid from.closed table.old table.new (atom_at rule.entry.text.now rule.entry.k from.closed from.place) (form_read result) }
+    ensures { Done from.laid from.closed table.old table.new (atom_at rule.now.text.now rule.now.k from.closed from.place) (form_read result) }
 {
     let place = from.place;
     expect(rule.text, place, b' ')?;
@@ -102,28 +102,29 @@ fn read_atom(rule: Rule, from: Reached, table: &mut Table) -> Result<Reached, Fa
 
 // A word alone, from after it on.
 fn read_constant(
-    rule: Rule,
+    rule: &Rule,
     word: Constant,
     from: Reached,
     table: &mut Table,
 ) -> Result<Reached, Fault>
     requires { (from.place ≤ 900) × (from.laid + 5 ≤ 200) × (from.closed ≤ 64) }
-    ensures { Done from.laid from.closed table.old table.new (close_at rule.entry.text.now from.closed from.place (constant word)) (form_read result) }
+    ensures { Done from.laid from.closed table.old table.new (close_at rule.now.text.now from.closed from.place (constant word)) (form_read result) }
 {
     let end = lay_constant(table, word, from.laid);
     close(rule.text, from.place, from, end)
 }
 
-// A space and a form inside another.
+// A space and a form inside another. It is compiled into its callers, since apart it copies each answer once more.
 #[cycle(reading)]
+#[inline(always)]
 fn read_inner(
-    rule: Rule,
+    rule: &Rule,
     allowance: usize,
     from: Reached,
     table: &mut Table,
 ) -> Result<Reached, Fault>
     requires { Room allowance from.laid from.closed (from.place + 1) table.old }
-    ensures { Done from.laid from.closed table.old table.new (inner_with (form_at allowance rule.entry.text.now rule.entry.k) rule.entry.text.now from.closed from.place) (form_read result) }
+    ensures { Done from.laid from.closed table.old table.new (inner_with (form_at allowance rule.now.text.now rule.now.k) rule.now.text.now from.closed from.place) (form_read result) }
 {
     expect(rule.text, from.place, b' ')?;
     let inside = Reached {
@@ -136,14 +137,14 @@ fn read_inner(
 // A word with one form inside, from after the word on.
 #[cycle(reading)]
 fn read_unary(
-    rule: Rule,
+    rule: &Rule,
     allowance: usize,
     word: Unary,
     from: Reached,
     table: &mut Table,
 ) -> Result<Reached, Fault>
     requires { Room allowance (from.laid + 4) from.closed (from.place + 1) table.old }
-    ensures { Done from.laid from.closed table.old table.new (unary_with (form_at allowance rule.entry.text.now rule.entry.k) rule.entry.text.now word from.closed from.place) (form_read result) }
+    ensures { Done from.laid from.closed table.old table.new (unary_with (form_at allowance rule.now.text.now rule.now.k) rule.now.text.now word from.closed from.place) (form_read result) }
 {
     let start = Reached {
         laid: lay_before(table, word, from.laid),
@@ -157,14 +158,14 @@ fn read_unary(
 // A word with two forms inside, from after the word on.
 #[cycle(reading)]
 fn read_binary(
-    rule: Rule,
+    rule: &Rule,
     allowance: usize,
     word: Binary,
     from: Reached,
     table: &mut Table,
 ) -> Result<Reached, Fault>
     requires { Room allowance (from.laid + 4) from.closed (from.place + 1) table.old }
-    ensures { Done from.laid from.closed table.old table.new (binary_with (form_at allowance rule.entry.text.now rule.entry.k) rule.entry.text.now word from.closed from.place) (form_read result) }
+    ensures { Done from.laid from.closed table.old table.new (binary_with (form_at allowance rule.now.text.now rule.now.k) rule.now.text.now word from.closed from.place) (form_read result) }
 {
     let first = read_inner(rule, allowance, from, table)?;
     let last = first.laid - 1;
@@ -180,13 +181,13 @@ fn read_binary(
 // The form at a place, with brackets nested at most as deep as the allowance.
 #[cycle(reading)]
 pub fn read_form(
-    rule: Rule,
+    rule: &Rule,
     allowance: usize,
     from: Reached,
     table: &mut Table,
 ) -> Result<Reached, Fault>
     requires { Room allowance from.laid from.closed from.place table.old }
-    ensures { Done from.laid from.closed table.old table.new (form_at allowance rule.entry.text.now rule.entry.k from.closed from.place) (form_read result) }
+    ensures { Done from.laid from.closed table.old table.new (form_at allowance rule.now.text.now rule.now.k from.closed from.place) (form_read result) }
 {
     expect(rule.text, from.place, b'(')?;
     if allowance == 0 {

@@ -26,7 +26,7 @@ pub fn read_rule(text: &[u8], k: u32, table: &mut [u8]) -> Result<u32, Fault>
         closed: 0,
     };
     let mut lines = [0u8; 600];
-    let form = read_form(Rule { text, k }, 32, start, &mut lines)?;
+    let form = read_form(&Rule { text, k }, 32, start, &mut lines)?;
     if form.place < text.len() {
         return Err(Fault {
             refusal: Refusal::Grammar,

@@ -18,13 +18,13 @@ use Rattle.rules.proofs.forms.+reading.Goals.{read_binary-In_ok-first, read_bina
 -- Two forms inside: what the first and the second left, and where they end.
 first : (t : ℕ) (c : read_binary-In_ok-first t) → let a = c.args in
     let v = c.in_ok-first.first in
-    InnerDone a.allowance a.rule.text.now a.rule.k a.from.laid a.from.closed a.from.place a.table.now c.read_inner.new.table v.place v.laid v.closed
+    InnerDone a.allowance a.rule.now.text.now a.rule.now.k a.from.laid a.from.closed a.from.place a.table.now c.read_inner.new.table v.place v.laid v.closed
 first t c = inner_done _ _ _ _ c.in_ok-first.ensures
 
 second : (t : ℕ) (c : read_binary-In_ok-second t) → let a = c.args in
     let u = c.in_ok-first.first in
     let v = c.in_ok-second.second in
-    InnerDone a.allowance a.rule.text.now a.rule.k c.lay_between.result u.closed u.place c.lay_between.new.table c.read_inner-2.new.table v.place v.laid v.closed
+    InnerDone a.allowance a.rule.now.text.now a.rule.now.k c.lay_between.result u.closed u.place c.lay_between.new.table c.read_inner-2.new.table v.place v.laid v.closed
 second t c = inner_done _ _ _ _ c.in_ok-second.ensures
 
 both_ended : (t : ℕ) (c : read_binary-In_ok-second t) → let v = c.in_ok-second.second in
@@ -84,7 +84,7 @@ read_binary-returns t c =
 
 -- A form: where its word was read, there is its bracket and nesting is left. So there is room for what stands after it.
 opened : (t : ℕ) (c : read_form-In_ok-word t) (word : Word) → c.in_ok-word.word ≡ word
-    → Opened c.args.allowance c.args.rule.text.now c.args.from.place (word_then word c.in_ok-word.place)
+    → Opened c.args.allowance c.args.rule.now.text.now c.args.from.place (word_then word c.in_ok-word.place)
 opened t c word e =
     record {
       bracket = c.in_ok-expect.ensures;
@@ -101,7 +101,7 @@ read_form-returns-in_err-expect t c =
     let a = c.args in
     let p = err_from_is_err_and c.from_residual.result c.from_residual.ensures.1 in
     let miss = c.in_err-expect.ensures in
-    rw (p.1, p.2, miss.1, form_at_other a.allowance a.rule.text.now a.rule.k a.from.closed a.from.place miss.0)
+    rw (p.1, p.2, miss.1, form_at_other a.allowance a.rule.now.text.now a.rule.now.k a.from.closed a.from.place miss.0)
     (done_refused _ _ _ _ _ _)
 
 pub read_form-returns-then-allowance-eq0 : goal.read_form-returns-then-allowance-eq0
@@ -112,14 +112,14 @@ pub read_form-returns-in_err-word : goal.read_form-returns-in_err-word
 unfolding body_with
 read_form-returns-in_err-word t c =
     let p = err_from_is_err_and c.from_residual-in_err-word.result c.from_residual-in_err-word.ensures.1 in
-    let o : Opened c.args.allowance c.args.rule.text.now c.args.from.place _ =
+    let o : Opened c.args.allowance c.args.rule.now.text.now c.args.from.place _ =
     record {
       bracket = c.in_ok-expect.ensures;
       left = c.if-allowance-eq0.false;
       meets = sym c.in_err-word.ensures;
     }
     in
-    rw (p.1, p.2) (word-done c.args.rule.k o (done_refused _ _ _ _ _ _))
+    rw (p.1, p.2) (word-done c.args.rule.now.k o (done_refused _ _ _ _ _ _))
 
 pub read_form-read_atom-requires : goal.read_form-read_atom-requires
 read_form-read_atom-requires t c = form_room t (goal.at.read_form-read_atom-requires t c).In_ok-word _ c.in-At.is
@@ -162,7 +162,7 @@ read_inner-returns-in_err-expect t c =
     let a = c.args in
     let p = err_from_is_err_and c.from_residual.result c.from_residual.ensures.1 in
     let miss = c.in_err-expect.ensures in
-    rw (p.1, p.2, miss.1, expect_other a.rule.text.now a.from.place 32 miss.0) (done_refused _ _ _ _ _ _)
+    rw (p.1, p.2, miss.1, expect_other a.rule.now.text.now a.from.place 32 miss.0) (done_refused _ _ _ _ _ _)
 
 pub read_inner-returns : goal.read_inner-returns
 unfolding inner_with
@@ -171,7 +171,7 @@ read_inner-returns t c = rw (expect_met _ _ 32 c.in_ok-expect.ensures) c.read_fo
 -- One form inside: what it left, and where it ends.
 only : (t : ℕ) (c : read_unary-In_ok-inner t) → let a = c.args in
     let v = c.in_ok-inner.inner in
-    InnerDone a.allowance a.rule.text.now a.rule.k c.lay_before.result a.from.closed a.from.place c.lay_before.new.table c.read_inner.new.table v.place v.laid v.closed
+    InnerDone a.allowance a.rule.now.text.now a.rule.now.k c.lay_before.result a.from.closed a.from.place c.lay_before.new.table c.read_inner.new.table v.place v.laid v.closed
 only t c = inner_done _ _ _ _ c.in_ok-inner.ensures
 
 only_ended : (t : ℕ) (c : read_unary-In_ok-inner t) → let v = c.in_ok-inner.inner in

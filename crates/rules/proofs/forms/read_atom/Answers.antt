@@ -16,13 +16,13 @@ returns-in_err-expect c =
     let a = c.args in
     let p = err_from_is_err_and c.from_residual.result c.from_residual.ensures.1 in
     let miss = c.in_err-expect.ensures in
-    rw (p.1, p.2, miss.1, expect_other a.rule.text.now a.from.place 32 miss.0) (done_refused _ _ _ _ _ _)
+    rw (p.1, p.2, miss.1, expect_other a.rule.now.text.now a.from.place 32 miss.0) (done_refused _ _ _ _ _ _)
 
 pub returns-in_err-p : goal.returns-in_err-p
 unfolding atom_at
 returns-in_err-p c =
     let a = c.args in
-    let s = a.rule.text.now in
+    let s = a.rule.now.text.now in
     let p = err_from_is_err_and c.from_residual-in_err-p.result c.from_residual-in_err-p.ensures.1 in
     let miss = c.in_err-p.ensures in
     rw (
@@ -30,7 +30,7 @@ returns-in_err-p c =
       p.2,
       miss.1,
       expect_met s a.from.place 32 c.in_ok-expect.ensures,
-      digit_other s (a.from.place + 1) a.rule.k _ miss.0,
+      digit_other s (a.from.place + 1) a.rule.now.k _ miss.0,
     )
     (done_refused _ _ _ _ _ _)
 
@@ -38,7 +38,7 @@ pub returns-in_err-expect-2 : goal.returns-in_err-expect-2
 unfolding atom_at
 returns-in_err-expect-2 c =
     let a = c.args in
-    let s = a.rule.text.now in
+    let s = a.rule.now.text.now in
     let p = err_from_is_err_and c.from_residual-in_err-expect-2.result c.from_residual-in_err-expect-2.ensures.1 in
     let miss = c.in_err-expect-2.ensures in
     rw (
@@ -46,7 +46,7 @@ returns-in_err-expect-2 c =
       p.2,
       miss.1,
       expect_met s a.from.place 32 c.in_ok-expect.ensures,
-      (digit_met s (a.from.place + 1) a.rule.k _ c.in_ok-p.ensures).step,
+      (digit_met s (a.from.place + 1) a.rule.now.k _ c.in_ok-p.ensures).step,
       expect_other s (a.from.place + 2) 32 miss.0,
     )
     (done_refused _ _ _ _ _ _)
@@ -55,7 +55,7 @@ pub returns-in_err-b : goal.returns-in_err-b
 unfolding atom_at
 returns-in_err-b c =
     let a = c.args in
-    let s = a.rule.text.now in
+    let s = a.rule.now.text.now in
     let p = err_from_is_err_and c.from_residual-in_err-b.result c.from_residual-in_err-b.ensures.1 in
     let miss = c.in_err-b.ensures in
     rw (
@@ -63,7 +63,7 @@ returns-in_err-b c =
       p.2,
       miss.1,
       expect_met s a.from.place 32 c.in_ok-expect.ensures,
-      (digit_met s (a.from.place + 1) a.rule.k _ c.in_ok-p.ensures).step,
+      (digit_met s (a.from.place + 1) a.rule.now.k _ c.in_ok-p.ensures).step,
       expect_met s (a.from.place + 2) 32 c.in_ok-expect-2.ensures,
       digit_other s (a.from.place + 3) 8 _ miss.0,
     )
@@ -79,8 +79,8 @@ pub returns : goal.returns
 unfolding atom_at line_count lines_at
 returns c =
     let a = c.args in
-    let s = a.rule.text.now in
-    let d₁ = digit_met s (a.from.place + 1) a.rule.k _ c.in_ok-p.ensures in
+    let s = a.rule.now.text.now in
+    let d₁ = digit_met s (a.from.place + 1) a.rule.now.k _ c.in_ok-p.ensures in
     let d₂ = digit_met s (a.from.place + 3) 8 _ c.in_ok-b.ensures in
     rw (
       expect_met s a.from.place 32 c.in_ok-expect.ensures,

@@ -11,5 +11,5 @@ unfolding line_count lines_at
 returns c =
     let a = c.args in
     let laid = c.lay_constant-end.ensures in
-    done_close a.from.laid a.from.closed a.table.now _ a.rule.text.now a.from.place _ (constant a.word) _
+    done_close a.from.laid a.from.closed a.table.now _ a.rule.now.text.now a.from.place _ (constant a.word) _
     c.close.ensures (omega (arith, laid.count, length-constant a.word a.from.laid)) laid.table
