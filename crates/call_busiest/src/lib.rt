@@ -12,6 +12,7 @@ ghost use Rattle.call_busiest.specs.Busiest.{single, singles, day, busiest_call}
 ghost use Rattle.call_busiest.specs.BusiestCode.{sharing, Blank, answer_of};
 
 use frontiers::counts::write_count;
+use frontiers::moving::clear_all;
 use frontiers::width::CountWidth;
 use numbers::limit::{DAY_EVENTS, FRONTIERS};
 use numbers::refusal::Refusal;
@@ -112,7 +113,7 @@ fn put_day(events: &mut [u8], w: CountWidth, shares: EvenShares)
         ≡ total (sharing shares.processes shares.each shares.more) * event_length w }
     ensures { events.new ≡ events_bytes w (day (evenly shares.each shares.more) shares.processes) }
 {
-    events.fill(0);
+    clear_all(events);
     let size = event_length(w);
     let mut place = 0;
     for p in 0..shares.processes {

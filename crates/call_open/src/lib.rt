@@ -16,6 +16,7 @@ ghost use Rattle.call_open.specs.OpenCode.{zeros_judged, open_fault};
 use answers::{state_word, turned_word};
 use clocks::refusal::bad_start;
 use frontiers::Frontier;
+use frontiers::moving::clear_all;
 use frontiers::width::CountWidth;
 use numbers::refusal::Refusal;
 use records::fields::table_place;
@@ -32,7 +33,7 @@ pub fn write_record(record: &mut [u8], w: CountWidth, k: u32, table: &[u8], line
     requires lines_in_bounds { 3 * lines ≤ length table.now }
     ensures { «record».new ≡ first_record w k (lines_of table.now lines) }
 {
-    record.fill(0);
+    clear_all(record);
     record[0] = k as u8;
     record[1] = lines as u8;
     codec::write_u32(record, 4, 1);
@@ -47,7 +48,7 @@ pub fn write_window(window: &mut [u8], w: CountWidth, labels: [u8; 8], values: u
     requires w_in_bounds { frontier_length w ≤ length window.old }
     ensures { window.new ≡ window_bytes w (length window.old) (zeros_judged labels values) }
 {
-    window.fill(0);
+    clear_all(window);
     frontiers::stored::write_frontier(
         window,
         w,

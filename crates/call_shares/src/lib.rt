@@ -8,6 +8,7 @@ ghost use Rattle.answers.specs.Result.{result_word};
 ghost use Rattle.call_shares.specs.Shares.{bad_shares, pool_of, set_shares};
 
 use codec::write_u16;
+use frontiers::moving::clear_all;
 use numbers::limit::{FRONTIERS, MEMBERS};
 use numbers::refusal::Refusal;
 use pool::Pool;
@@ -29,7 +30,7 @@ fn put_shares(shares: &[u16], pool: &mut Pool)
     requires { length shares.now ≤ most_members }
     ensures { pool.new ≡ pool_of shares.now }
 {
-    pool.fill(0);
+    clear_all(pool);
     for (i, &share) in shares.iter().enumerate() {
         write_u16(pool, 2 * i, share);
     }

@@ -38,8 +38,8 @@ put_singles-requires-clause-w_in_bounds c =
     let f = evenly a.shares.each a.shares.more in
     let mine = c.of-count.ensures.0 in
     let inside : l.p < a.shares.processes = search rules in
-    let long : length c.fill.new.self ≡ length a.events.now =
-    ap length (c.fill.ensures.after (λ y e. e)) ∙ length-replicate {A = ℕ} (length a.events.now) 0 in
+    let long : length c.clear_all.new.s ≡ length a.events.now =
+    ap length c.clear_all.ensures ∙ length-replicate {A = ℕ} (length a.events.now) 0 in
     omega (arith, l.invariant.0, c.loop-p.auto.events, long, place-within a.w f l.p a.shares.processes _ inside mine)
 
 pub put_singles-requires-clause-blank : goal.put_singles-requires-clause-blank
@@ -47,11 +47,11 @@ put_singles-requires-clause-blank c =
     let l = c.loop-p in
     let a = c.args in
     let f = evenly a.shares.each a.shares.more in
-    let clear : Blank c.fill.new.self 0 =
-    λ i m. rw (c.fill.ensures.after (λ y e. e)) (blank_zeros (length a.events.now) i) in
+    let clear : Blank c.clear_all.new.s 0 =
+    λ i m. rw c.clear_all.ensures (blank_zeros (length a.events.now) i) in
     λ i m.
     rw l.invariant.1
-    (day_blank a.w f c.fill.new.self l.p clear i (omega (arith, l.invariant.0)))
+    (day_blank a.w f c.clear_all.new.s l.p clear i (omega (arith, l.invariant.0)))
 
 pub overflow_add-place : goal.overflow_add-place
 overflow_add-place c =
@@ -78,7 +78,7 @@ loop-p-preserved c =
     let f = evenly a.shares.each a.shares.more in (
       rw (c.event_length-size.ensures.0, l.invariant.0)
           (place_next a.w f l.p c.of-count.result c.of-count.ensures.0),
-      day_step a.w f c.fill.new.self l.p l.events l.place c.of-count.result _ l.invariant.1
+      day_step a.w f c.clear_all.new.s l.p l.events l.place c.of-count.result _ l.invariant.1
           l.invariant.0 c.of-count.ensures.0 c.put_singles.ensures,
     )
 
@@ -88,7 +88,7 @@ returns c =
     let a = c.args in
     let f = evenly a.shares.each a.shares.more in
     let all : l.p ≡ a.shares.processes = omega arith in
-    let long : length (events_bytes a.w (day f a.shares.processes)) ≡ length c.fill.new.self =
+    let long : length (events_bytes a.w (day f a.shares.processes)) ≡ length c.clear_all.new.s =
     length-day a.w f a.shares.processes
-    ∙ sym (ap length (c.fill.ensures.after (λ y e. e)) ∙ length-replicate {A = ℕ} (length a.events.now) 0 ∙ search rules) in
-    (rw all at l.invariant.1) ∙ sets_whole c.fill.new.self (events_bytes a.w (day f a.shares.processes)) long
+    ∙ sym (ap length c.clear_all.ensures ∙ length-replicate {A = ℕ} (length a.events.now) 0 ∙ search rules) in
+    (rw all at l.invariant.1) ∙ sets_whole c.clear_all.new.s (events_bytes a.w (day f a.shares.processes)) long

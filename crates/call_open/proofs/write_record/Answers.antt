@@ -15,6 +15,6 @@ returns c =
     ∙ rw (
       c.copy_from_slice.ensures.after,
       c.write_u32.ensures,
-      c.fill.ensures.after (λ y e. e),
+      c.clear_all.ensures,
       c.table_place-place.ensures.0,
     ) stored

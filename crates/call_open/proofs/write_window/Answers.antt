@@ -10,5 +10,5 @@ write_frontier-requires-clause-by_index c = zeros_fit 8 c.args.w
 pub returns : goal.returns
 returns c =
     let a = c.args in
-    rw (c.write_frontier.ensures, c.fill.ensures.after (λ y e. e))
+    rw (c.write_frontier.ensures, c.clear_all.ensures)
     (stored_window a.w (length a.window.now) a.labels a.values (search rules) (search rules))

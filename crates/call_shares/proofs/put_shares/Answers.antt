@@ -9,7 +9,7 @@ use Rattle.call_shares.proofs.put_shares.Goals as goal
 pub loop-i-init : goal.loop-i-init
 unfolding shares_bytes
 loop-i-init c =
-    let cleared : c.fill.new.self ≡ replicate 32 0 = search rules in
+    let cleared : c.clear_all.new.s ≡ replicate 32 0 = search rules in
     (search rules, search rules, cleared)
 
 pub loop-i-preserved : goal.loop-i-preserved
