@@ -15,9 +15,9 @@ ghost use Rattle.program.specs.Turn.{takes_while, most_takes, at_first, turned, 
 use crate::stages::{SILENT, answer};
 use crate::{Laid, Response, Session};
 use replies::reply::{Accepted, Refused};
-use replies::{Stage, decode, takes, takes_again};
-use reply_text::answer_text;
+use replies::{Stage, decode, take_follows, takes_follow};
 use reply_text::form::FRONTIER_BYTES;
+use reply_text::lay_text;
 use watch32::watch32_take;
 
 // One answer's text has room in so many bytes.
@@ -45,7 +45,7 @@ fn lay(
         → reply_of reply ≡ parts_of a → take result out.new ≡ take at out.old ++ answer_text k a }
 {
     let end = at + TEXT_BYTES;
-    let length = answer_text(record, k, reply, offered, &mut out[at..end]);
+    let length = lay_text(record, k, reply, offered, &mut out[at..end]);
     at + length
 }
 
@@ -78,7 +78,7 @@ fn take_next(
     let end = lay(record, k, reply, false, out, at);
     Laid {
         end,
-        follows: takes_again(reply),
+        follows: take_follows(reply),
     }
 }
 
@@ -161,7 +161,7 @@ pub fn respond(
     let reply = next.reply;
     let first = lay(record, next.k, reply, offered, out, 0);
     let length = take_all(
-        takes(offered, reply),
+        takes_follow(offered, reply),
         next.k,
         record,
         &mut window[..bytes],

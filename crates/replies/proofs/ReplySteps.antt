@@ -11,7 +11,8 @@ use Rattle.answers.specs.Answer.{Answer, reply_word, turned_back, state, nothing
 use Rattle.replies.specs.declared.reply.Refused.{Refused}
 use Rattle.replies.specs.Following.{takes_again}
 use Rattle.answers.specs.Kinds.{is_held}
-use Rattle.replies.specs.Replies.{Reply, reply_of, parts_of, Fits, Possible}
+use Rattle.replies.specs.declared.reply.Reply.{Reply}
+use Rattle.replies.specs.Replies.{reply_of, parts_of, Fits, Possible}
 use Rattle.replies.specs.ReplyLaws.{word_parts, word_parts_lem}
 
 pub and-false : (b : Bool) → (b && false) ≡ false
@@ -41,6 +42,19 @@ kept_all (process_closed n) h = refl
 
 pub decoded : (a : Answer) (word : ℕ) → Fits a → word ≡ reply_word a → kept (word_parts word) ≡ parts_of a
 decoded a word h e = ap (λ (n : ℕ). kept (word_parts n)) e ∙ ap kept (word_parts_lem a h) ∙ kept_all a h
+
+-- A possible answer's parts are those that are kept.
+pub parts_kept : (a : Answer) (r : Reply) (offered : Bool) (counts : List ℕ) → Possible offered counts a → r ≡ parts_of a
+    → kept r ≡ parts_of a
+unfolding parts_of
+parts_kept (turned_back n place) r offered counts h e = rw (e, ne_eqb n 0 (omega arith))
+parts_kept (state taken truth kept) r offered counts h e = rw e
+parts_kept nothing_ready r offered counts h e = rw e
+parts_kept (held n) r offered counts h e = rw e
+parts_kept again r offered counts h e = rw e
+parts_kept (found i) r offered counts h e = absurd h
+parts_kept absent r offered counts h e = absurd h
+parts_kept (process_closed n) r offered counts h e = absurd h
 
 pub accepted_by_lem : (a : Answer) (r : Reply) (offered : Bool) (counts : List ℕ) → Possible offered counts a → r
     ≡ parts_of a → (offered && not (eqb r.value 0)) ≡ is_held a

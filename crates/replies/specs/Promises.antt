@@ -1,7 +1,8 @@
 -- What the functions promise, each for every answer that is possible.
 use Rattle.std.specs.Prelude.{ℕ, ◌≡◌, Bool, List}
 use Rattle.answers.specs.Answer.{Answer, reply_word}
-use Rattle.replies.specs.Replies.{Reply, parts_of, Fits, Possible}
+use Rattle.replies.specs.declared.reply.Reply.{Reply}
+use Rattle.replies.specs.Replies.{parts_of, Fits, Possible}
 
 -- decode: the parts of a reply word.
 abbrev pub PartsPromised : (word : ℕ) (reply : Reply) → Type 0

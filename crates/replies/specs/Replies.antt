@@ -5,16 +5,9 @@ use Rattle.numbers.specs.RefusalNumber.{number_of}
 use Rattle.answers.specs.Answer.{Answer, turned_back, state, nothing_ready, held, again, found, absent, process_closed}
 use Rattle.replies.specs.declared.reply.Accepted.{Accepted}
 use Rattle.replies.specs.declared.reply.Refused.{Refused}
+use Rattle.replies.specs.declared.reply.Reply.{Reply}
 
--- An answer's parts: a refusal's number and place, both 0 where there is none; the rule's truth; the frontiers kept or
--- the events pending.
-pub record Reply : Type 0 where
-  pub number : ℕ
-  pub place : ℕ
-  pub holds : Bool
-  pub value : ℕ
-
--- The parts, as the code has them.
+-- The parts of what was accepted or refused.
 abbrev pub reply_of : Result Accepted Refused → Reply
 reply_of (Ok accepted) = record { number = 0; place = 0; holds = accepted.holds; value = accepted.value }
 reply_of (Err refused) = record { number = refused.number; place = refused.place; holds = false; value = 0 }

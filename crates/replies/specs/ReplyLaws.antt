@@ -2,7 +2,8 @@
 use Rattle.std.specs.Prelude.{ℕ, ◌+◌, ◌*◌, ◌/◌, ◌%◌, ◌≡◌, refl, Bool, true, false, cond, not, List, eqb}
 use Rattle.std.proofs.Common.{arith, eq-eqb, ne_eqb}
 use Rattle.answers.specs.Answer.{Answer, turned_back, state, nothing_ready, held, again, found, absent, process_closed, reply_word}
-use Rattle.replies.specs.Replies.{Reply, parts_of, Fits, Possible}
+use Rattle.replies.specs.declared.reply.Reply.{Reply}
+use Rattle.replies.specs.Replies.{parts_of, Fits, Possible}
 use Rattle.answers.specs.Kinds.{is_turned_back}
 
 -- The parts of a reply word.

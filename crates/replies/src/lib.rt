@@ -11,7 +11,7 @@ ghost use Rattle.answers.specs.Kinds.{is_held};
 ghost use Rattle.replies.specs.Replies.{reply_of};
 ghost use Rattle.replies.specs.Promises.{PartsPromised, FollowPromised};
 
-use crate::reply::{Accepted, Refused};
+use crate::reply::{Accepted, Refused, Reply};
 use numbers::refusal::Refusal;
 
 // Which line comes next: the watch line, the rule's, the start labels' or an event's; or the program is over.
@@ -58,7 +58,7 @@ pub fn decode(word: u64) -> Result<Accepted, Refused>
 }
 
 // Whether takes follow a line: after an offer that was accepted, and so left an event pending.
-pub fn takes(offered: bool, reply: Result<Accepted, Refused>) -> bool
+pub fn takes_follow(offered: bool, reply: Result<Accepted, Refused>) -> bool
     ensures { FollowPromised is_held offered (reply_of reply) result }
 {
     match reply {
@@ -68,13 +68,28 @@ pub fn takes(offered: bool, reply: Result<Accepted, Refused>) -> bool
 }
 
 // Whether a take is followed by another.
-pub fn takes_again(reply: Result<Accepted, Refused>) -> bool
+pub fn take_follows(reply: Result<Accepted, Refused>) -> bool
     ensures { FollowPromised takes_again false (reply_of reply) result }
 {
     match reply {
         Ok(accepted) => accepted.value != 0,
         Err(refused) => refused.number == u64::from(Refusal::FalseClock),
     }
+}
+
+// Whether takes follow a line, by the answer's parts.
+// By hand, as promised: docs/PROOF-MAP.md names this function and the next, so they take any parts as before.
+pub fn takes(offered: bool, reply: Reply) -> bool
+    ensures { FollowPromised is_held offered reply result }
+{
+    takes_follow(offered, reply.result())
+}
+
+// Whether a take is followed by another, by the answer's parts.
+pub fn takes_again(reply: Reply) -> bool
+    ensures { FollowPromised takes_again false reply result }
+{
+    take_follows(reply.result())
 }
 
 // The number of the next line's stage, by that of this line's stage.

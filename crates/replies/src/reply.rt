@@ -1,6 +1,6 @@
 // What a call or a line is answered with, as the code has it.
 
-ghost use Rattle.std.specs.Prelude.{◌≡◌, ◌≤◌, Err};
+ghost use Rattle.std.specs.Prelude.{◌≡◌, ◌≤◌, ℕ, Bool, List, Err};
 
 use numbers::fault::Fault;
 
@@ -18,6 +18,39 @@ pub struct Refused {
     pub number: u64,
     pub place: u64,
     ghost some: { 1 ≤ number },
+}
+
+// An answer's parts: a refusal's number and place, both 0 where there is none; the rule's truth; the frontiers kept or
+// the events pending.
+// By hand, as promised: docs/PROOF-MAP.md names functions that take these parts, also those of no answer.
+#[derive(Clone, Copy, Debug, PartialEq, Eq)]
+pub struct Reply {
+    pub number: u64,
+    pub place: u64,
+    pub holds: bool,
+    pub value: u64,
+}
+
+impl Reply {
+    ghost use Rattle.answers.specs.Answer.{Answer};
+    ghost use Rattle.replies.specs.Replies.{reply_of, parts_of, Possible};
+
+    // What was accepted or refused, by its parts.
+    pub fn result(self) -> Result<Accepted, Refused>
+        ensures { (offered : Bool) (counts : List ℕ) (a : Answer) → Possible offered counts a
+            → self ≡ parts_of a → reply_of result ≡ parts_of a }
+    {
+        if self.number != 0 {
+            return Err(Refused {
+                number: self.number,
+                place: self.place,
+            });
+        }
+        Ok(Accepted {
+            holds: self.holds,
+            value: self.value,
+        })
+    }
 }
 
 // A text's fault as it is answered.

@@ -5,7 +5,8 @@ use mathlib.Core.Bool.{Bool, true, false}
 use mathlib.Core.List.{List, []}
 use borrow.Author.Tests.{eq-eqb, ne_eqb}
 use Rattle.answers.specs.Answer.{Answer}
-use Rattle.replies.specs.Replies.{Reply, parts_of, Possible}
+use Rattle.replies.specs.declared.reply.Reply.{Reply}
+use Rattle.replies.specs.Replies.{parts_of, Possible}
 use Rattle.replies.specs.ReplyLaws.{answer_of, known_by_parts}
 use Rattle.reply_text.specs.Texts.{refused_text, held_text, again_text, state_text, answer_text}
 

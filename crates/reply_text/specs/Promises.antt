@@ -2,7 +2,8 @@
 use Rattle.std.specs.Prelude.{ℕ, ◌≡◌, Bool, List}
 use Rattle.records.specs.Record.{taken_counts}
 use Rattle.answers.specs.Answer.{Answer}
-use Rattle.replies.specs.Replies.{Reply, parts_of, Possible}
+use Rattle.replies.specs.declared.reply.Reply.{Reply}
+use Rattle.replies.specs.Replies.{parts_of, Possible}
 use Rattle.reply_text.specs.Form.{program_width}
 use Rattle.reply_text.specs.Texts.{answer_text}
 

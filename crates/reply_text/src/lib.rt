@@ -16,7 +16,7 @@ ghost use Rattle.reply_text.specs.Promises.{TextPromised};
 
 use crate::form::WIDTH;
 use frontiers::width::CountWidth;
-use replies::reply::{Accepted, Refused};
+use replies::reply::{Accepted, Refused, Reply};
 
 // Lays bytes from a place on: the place after them.
 // By hand, as no plainer: buffer and place are two parameters. A struct of both would hold the buffer by a `&mut`, and
@@ -76,7 +76,7 @@ fn put_counts(out: &mut [u8], counts: [u32; 8], k: usize) -> usize
 // Lays the text of an answer, given as its parts and the record that the call left: the text's length. `offered` tells
 // an offer's answer from those to other lines and of takes.
 // By hand, as no plainer: it is a truth about the line, from which the text follows.
-pub fn answer_text(
+pub fn lay_text(
     record: &[u8],
     k: u64,
     reply: Result<Accepted, Refused>,
@@ -114,4 +114,16 @@ pub fn answer_text(
             put(out, second, b")\n")
         }
     }
+}
+
+// The same, of the answer's parts.
+// By hand, as promised: docs/PROOF-MAP.md names this function, so it takes any parts as before.
+pub fn answer_text(record: &[u8], k: u64, reply: Reply, offered: bool, out: &mut [u8]) -> usize
+    requires k_bound { k ≤ 8 }
+    requires record_len { length «record».now ≡ record_length program_width }
+    requires in_bounds { 256 ≤ length out.old }
+    ensures upper_bound { result ≤ length out.new }
+    ensures text_promised { TextPromised k offered «record».now reply (take result out.new) }
+{
+    lay_text(record, k, reply.result(), offered, out)
 }

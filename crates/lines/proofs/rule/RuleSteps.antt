@@ -24,7 +24,7 @@ unfolding rule_text
 text_long s end h e = let q : length s - 7 ≡ end - 6 = omega arith in rw q
 
 -- No text is empty.
-empty_refused : (k : ℕ) → read_rule [] k ≡ faulty 1 0
+pub empty_refused : (k : ℕ) → read_rule [] k ≡ faulty 1 0
 unfolding read_rule form_at expect and_then
 empty_refused k = refl
 

@@ -1,9 +1,6 @@
--- The answers one by one (`again_by`).
-use Rattle.replies.proofs.ReplySteps.{again_by, again_by_number}
+-- An answer's parts are known by what they come to.
+use Rattle.std.specs.Prelude.{false}
 use Rattle.replies.proofs.takes_again.Goals as goal
 
-pub returns-in-Ok : goal.returns-in-Ok
-returns-in-Ok c = λ counts a p e. again_by a _ counts p (rw c.in-Ok.is at e)
-
-pub returns-in-Err : goal.returns-in-Err
-returns-in-Err c = λ counts a p e. rw c.from.ensures (again_by_number a c.in-Err.refused counts p (rw c.in-Err.is at e))
+pub returns : goal.returns
+returns c = λ counts a p e. c.take_follows.ensures counts a p (c.result.ensures false counts a p e)

@@ -9,7 +9,7 @@ use Rattle.program.proofs.turn.lay.Goals as goal
 
 pub returns-clause-out_after : goal.returns-clause-out_after
 returns-clause-out_after c =
-    let z = c.answer_text-length in
+    let z = c.lay_text-length in
     let a = c.args in
     let part = z.new.out in
     let length = a.at + 256 - a.at in

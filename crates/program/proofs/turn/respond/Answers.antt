@@ -37,5 +37,5 @@ returns-clause-turned c =
     let line = a.line.now in
     let told = rw (← offered) at (answer_told t a.session next line rule state window _ _ part h g c.requires.stage_lt_over_stage) in
     responded t a.session next line rule state window _ _ part h g a.scratch.now _ _ _ _ _ _ _ long
-    (c.lay-first.ensures.out_after _ told g.replied) (c.takes.ensures _ _ told g.replied)
+    (c.lay-first.ensures.out_after _ told g.replied) (c.takes_follow.ensures _ _ told g.replied)
     e.text e.bytes e.window e.scratch

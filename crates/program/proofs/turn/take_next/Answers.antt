@@ -27,7 +27,7 @@ returns c =
     record {
       end = laid.upper_bound;
       text = laid.out_after o.answer possible parts;
-      follows = c.takes_again.ensures _ o.answer told.1 parts;
+      follows = c.take_follows.ensures _ o.answer told.1 parts;
       bytes = left.bytes;
       window = left.window;
       scratch = left.scratch;
