@@ -11,7 +11,8 @@ ghost use Rattle.answers.specs.Kinds.{is_held};
 ghost use Rattle.replies.specs.Replies.{reply_of};
 ghost use Rattle.replies.specs.Promises.{PartsPromised, FollowPromised};
 
-use crate::reply::{Accepted, Refused, Reply};
+pub use crate::reply::Reply;
+use crate::reply::{Accepted, Refused};
 use numbers::refusal::Refusal;
 
 // Which line comes next: the watch line, the rule's, the start labels' or an event's; or the program is over.

@@ -16,7 +16,8 @@ ghost use Rattle.reply_text.specs.Promises.{TextPromised};
 
 use crate::form::WIDTH;
 use frontiers::width::CountWidth;
-use replies::reply::{Accepted, Refused, Reply};
+use replies::Reply;
+use replies::reply::{Accepted, Refused};
 
 // Lays bytes from a place on: the place after them.
 // By hand, as no plainer: buffer and place are two parameters. A struct of both would hold the buffer by a `&mut`, and
@@ -73,8 +74,8 @@ fn put_counts(out: &mut [u8], counts: [u32; 8], k: usize) -> usize
     at
 }
 
-// Lays the text of an answer, given as its parts and the record that the call left: the text's length. `offered` tells
-// an offer's answer from those to other lines and of takes.
+// Lays the text of an answer, given as what was accepted or refused, and the record that the call left: the text's
+// length. `offered` tells an offer's answer from those to other lines and of takes.
 // By hand, as no plainer: it is a truth about the line, from which the text follows.
 pub fn lay_text(
     record: &[u8],
