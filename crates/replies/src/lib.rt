@@ -59,6 +59,7 @@ pub fn decode(word: u64) -> Result<Accepted, Refused>
 }
 
 // Whether takes follow a line: after an offer that was accepted, and so left an event pending.
+// By hand, as no plainer: `offered` is a truth about the line, from which the answer follows.
 pub fn takes_follow(offered: bool, reply: Result<Accepted, Refused>) -> bool
     ensures { FollowPromised is_held offered (reply_of reply) result }
 {

@@ -5,6 +5,7 @@ ghost use Rattle.std.specs.Prelude.{◌≡◌, ◌≤◌, ℕ, Bool, List, Err};
 use numbers::fault::Fault;
 
 // What is answered to what was accepted: the rule's truth; the frontiers kept or the events pending.
+// By hand, as no plainer: the truth stands for no missing value.
 #[derive(Clone, Copy, Debug, PartialEq, Eq)]
 pub struct Accepted {
     pub holds: bool,
