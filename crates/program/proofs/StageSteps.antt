@@ -39,7 +39,7 @@ module _ (t : Standing) (s : Session) (rule bytes window : List ℕ) (h : Stands
     unfolding watch_read
     watch_bad k room told bad = rw (sym e ∙ told, bad)
 
-    pub watch_stands : (r : Session) → stage_number r.stage ≡ next_stage (stage_number s.stage) false → r.text ≡ s.text → reply_of r.reply ≡ parts_of nothing_ready
+    pub watch_stands : (r : Session) → stage_number r.stage ≡ next_stage (stage_number s.stage) false → r.text ≡ s.text → r.reply ≡ parts_of nothing_ready
         → read ≡ Watch r.k r.room → bad_processes r.k ≡ false → Stands (watch_read t (watch_line line)) r rule bytes window
     unfolding watch_read
     watch_stands r g text reply told good = rw (sym e ∙ told, good) (record {
@@ -61,7 +61,7 @@ module _ (t : Standing) (s : Session) (rule bytes window : List ℕ) (h : Stands
     unfolding rule_read
     rule_refused n i told = rw (sym same ∙ told)
 
-    pub rule_stands : (start end : ℕ) (r : Session) (after : List ℕ) → stage_number r.stage ≡ next_stage (stage_number s.stage) false → r.k ≡ s.k → r.room ≡ s.room → reply_of r.reply ≡ parts_of nothing_ready
+    pub rule_stands : (start end : ℕ) (r : Session) (after : List ℕ) → stage_number r.stage ≡ next_stage (stage_number s.stage) false → r.k ≡ s.k → r.room ≡ s.room → r.reply ≡ parts_of nothing_ready
         → read ≡ Rule start end → take r.text after ≡ rule_text line → Stands (rule_read t line (rule_line line t.k)) r after bytes window
     unfolding rule_read
     rule_stands start end r after g k room reply told laid = rw (sym same ∙ told) (record {

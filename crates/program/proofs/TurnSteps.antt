@@ -3,11 +3,13 @@ use Prim.Native.Nat.{ℕ, zero, suc, ◌+◌, ◌≤◌, ◌<◌}
 use mathlib.Core.Path.{◌≡◌, refl, sym, ap, ◌∙◌}
 use mathlib.Core.Bool.{Bool, true, false}
 use mathlib.Core.List.{List, ◌++◌, append_assoc, append-nil}
+use native.Mathlib.Omega.{arith}
 use lib.Dec.{eqb}
+use borrow.Author.Tests.{ne_eqb}
 use lib.ListN.{length, take, drop}
 use lib.Seq.{length-take-le, take-append-add, take-append-le, take_at, drop_at}
 use Rattle.replies.specs.declared.Stage.{Stage}
-use Rattle.replies.specs.declared.Stage.TheVariants.{Watch, Rule, Start, Event, Over}
+use Rattle.replies.specs.declared.Stage.TheVariants.{Watch, Rule, Start, Event, Over, Past}
 use Rattle.records.specs.Record.{taken_counts}
 use Rattle.call_take.specs.Take.{take_call}
 use Rattle.reply_text.specs.Form.{program_width}
@@ -88,6 +90,7 @@ no_event Rule h = refl
 no_event Start h = refl
 no_event Event h = absurd (h refl)
 no_event Over h = refl
+no_event (Past n) h = sym (ne_eqb (over_stage + 1 + n) event_stage (omega arith))
 
 -- The part that is lent is what the calls get.
 pub cut_stands : (t : Standing) (r : Session) (rule s window : List ℕ) → Stands t r rule s window

@@ -13,7 +13,7 @@ use Rattle.call_words.specs.Words.{unpack_counts, unpack_labels}
 use Rattle.call_open.specs.Open.{open_call}
 use Rattle.call_offer.specs.Offer.{offer_call}
 use Rattle.program.specs.declared.Session.{Session}
-use Rattle.replies.specs.Replies.{reply_of, parts_of, Fits}
+use Rattle.replies.specs.Replies.{parts_of, Fits}
 use Rattle.replies.specs.Following.{watch_stage, rule_stage, start_stage, stage_number, next_stage}
 use Rattle.answers.specs.Kinds.{is_turned_back}
 
@@ -94,7 +94,7 @@ line_read s line =
 
 -- The code's session and buffers are what the program knows.
 pub record Stands (t : Standing) (r : Session) (rule state window : List ℕ) : Type 0 where
-  pub replied : reply_of r.reply ≡ parts_of t.answer
+  pub replied : r.reply ≡ parts_of t.answer
   pub stage : stage_number r.stage ≡ t.stage
   pub processes : r.k ≡ t.k
   pub frontiers : r.room ≡ t.room
@@ -113,5 +113,5 @@ pub record Replied (s : Session) (word : ℕ) (r : Session) : Type 0 where
   pub processes : r.k ≡ s.k
   pub frontiers : r.room ≡ s.room
   pub text : r.text ≡ s.text
-  pub reply : (a : Answer) → Fits a → word ≡ reply_word a → (reply_of r.reply ≡ parts_of a) × (stage_number r.stage
+  pub reply : (a : Answer) → Fits a → word ≡ reply_word a → (r.reply ≡ parts_of a) × (stage_number r.stage
       ≡ next_stage (stage_number s.stage) (is_turned_back a))

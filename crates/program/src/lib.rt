@@ -11,8 +11,7 @@ pub mod turn;
 
 ghost use Rattle.std.specs.Prelude.{◌≡◌, ◌≤◌, ltb};
 
-use replies::Stage;
-use replies::reply::{Accepted, Refused};
+use replies::{Reply, Stage};
 
 // What was found in some bytes: how many of them are used, how many bytes the line has now, and whether it ends there.
 // By hand, as no plainer: both numbers count whether it ends or not, so `feed` stands for no missing value.
@@ -33,7 +32,7 @@ pub struct Session {
     pub k: u64,
     pub room: usize,
     pub text: usize,
-    pub reply: Result<Accepted, Refused>,
+    pub reply: Reply,
     ghost processes: { k ≤ 8 },
     ghost frontiers: { room ≤ 1024 },
 }
@@ -45,7 +44,11 @@ impl Session {
     pub fn goes_on(&self) -> bool
         ensures { result ≡ ltb (stage_number self.now.stage) over_stage }
     {
-        self.stage != Stage::Over
+        match self.stage {
+            Stage::Watch | Stage::Rule | Stage::Start | Stage::Event => true,
+            Stage::Over => false,
+            Stage::Past(_) => false,
+        }
     }
 }
 

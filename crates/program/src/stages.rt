@@ -6,7 +6,7 @@ ghost use Rattle.numbers.specs.RefusalNumber.{number_of};
 ghost use Rattle.lines.specs.Lines.{watch_line, rule_line, start_line, did_line};
 ghost use Rattle.answers.specs.Answer.{nothing_ready};
 ghost use Rattle.replies.specs.Following.{stage_number, next_stage};
-ghost use Rattle.replies.specs.Replies.{reply_of, parts_of};
+ghost use Rattle.replies.specs.Replies.{parts_of};
 ghost use Rattle.program.specs.Stages.{Standing, Stands, Within, Replied, refuse as refuseLine, watch_read, rule_read, start_read, did_read, line_read};
 
 use crate::Session;
@@ -17,16 +17,18 @@ use lines::watch::read_watch;
 use numbers::fault::Fault;
 use numbers::refusal::Refusal;
 use refusals::bad_processes;
-use replies::reply::{Accepted, Refused};
-use replies::{Stage, decode};
+use replies::reply::Refused;
+use replies::{Reply, Stage, decode};
 use reply_text::put;
 use watch32::{watch32_offer, watch32_open};
 
 // The reply to a line that is answered with nothing.
-pub(crate) const SILENT: Result<Accepted, Refused> = Ok(Accepted {
+pub(crate) const SILENT: Reply = Reply {
+    number: 0,
+    place: 0,
     holds: false,
     value: 0,
-});
+};
 
 // A number of processes that is not 1 to 8 has no place in its line.
 const NO_PROCESSES: Fault = Fault {
@@ -40,14 +42,14 @@ fn refuse(mut session: Session, fault: Fault) -> Session
     ensures text { result.text ≡ session.text }
 {
     session.stage = session.stage.after(true);
-    session.reply = Err(Refused::from(fault));
+    session.reply = Reply::from(Err(Refused::from(fault)));
     session
 }
 
 // A line is accepted, and answered with nothing.
 fn accept(mut session: Session) -> Session
     ensures stage { stage_number result.stage ≡ next_stage (stage_number session.stage) false }
-    ensures reply { reply_of result.reply ≡ parts_of nothing_ready }
+    ensures reply { result.reply ≡ parts_of nothing_ready }
     ensures processes { result.k ≡ session.k }
     ensures frontiers { result.room ≡ session.room }
     ensures text { result.text ≡ session.text }
@@ -97,7 +99,7 @@ fn replied(mut session: Session, word: u64) -> Session
 {
     let reply = decode(word);
     session.stage = session.stage.after(reply.is_err());
-    session.reply = reply;
+    session.reply = Reply::from(reply);
     session
 }
 
@@ -158,6 +160,6 @@ pub fn answer(
         Stage::Watch => watch_line(session, line),
         Stage::Rule => rule_line(session, line, rule),
         Stage::Start => start_line(session, line, rule, record, window),
-        Stage::Event | Stage::Over => did_line(session, line, record),
+        Stage::Event | Stage::Over | Stage::Past(_) => did_line(session, line, record),
     }
 }

@@ -158,7 +158,7 @@ pub fn respond(
     let bytes = FRONTIER_BYTES * session.room;
     let offered = matches!(session.stage, Stage::Event);
     let next = answer(session, line, rule, record, &mut window[..bytes]);
-    let reply = next.reply;
+    let reply = next.reply.result();
     let first = lay(record, next.k, reply, offered, out, 0);
     let length = take_all(
         takes_follow(offered, reply),

@@ -2,7 +2,7 @@
 use Prim.Native.Nat.{ℕ}
 use native.Mathlib.Omega.{arith}
 use mathlib.Core.Path.{◌≡◌, refl, sym, ap, ◌∙◌}
-use mathlib.Core.Bool.{Bool, true, false, cond, not, ◌&&◌, ◌||◌}
+use mathlib.Core.Bool.{Bool, true, false, not, ◌&&◌, ◌||◌}
 use mathlib.Core.List.{List}
 use Rattle.std.specs.Prelude.{Err}
 use lib.Dec.{eqb}
@@ -13,7 +13,7 @@ use Rattle.replies.specs.Following.{takes_again}
 use Rattle.answers.specs.Kinds.{is_held}
 use Rattle.replies.specs.declared.reply.Reply.{Reply}
 use Rattle.replies.specs.Replies.{reply_of, parts_of, Fits, Possible}
-use Rattle.replies.specs.ReplyLaws.{word_parts, word_parts_lem}
+use Rattle.replies.specs.ReplyLaws.{word_parts, word_parts_lem, parts_told, told_all}
 
 pub and-false : (b : Bool) → (b && false) ≡ false
 and-false true = refl
@@ -23,38 +23,10 @@ or-false : (b : Bool) → (b || false) ≡ b
 or-false true = refl
 or-false false = refl
 
--- The parts that the code keeps: of a refusal its number and place, else the others.
-abbrev pub kept : Reply → Reply
-kept r = cond (eqb r.number 0)
-    (record { number = 0; place = 0; holds = r.holds; value = r.value })
-    (record { number = r.number; place = r.place; holds = false; value = 0 })
-
-kept_all : (a : Answer) → Fits a → kept (parts_of a) ≡ parts_of a
-unfolding parts_of
-kept_all (turned_back n place) h = rw (ne_eqb n 0 (omega arith))
-kept_all (state counts truth kept) h = refl
-kept_all nothing_ready h = refl
-kept_all (held n) h = refl
-kept_all again h = refl
-kept_all (found i) h = refl
-kept_all absent h = refl
-kept_all (process_closed n) h = refl
-
-pub decoded : (a : Answer) (word : ℕ) → Fits a → word ≡ reply_word a → kept (word_parts word) ≡ parts_of a
-decoded a word h e = ap (λ (n : ℕ). kept (word_parts n)) e ∙ ap kept (word_parts_lem a h) ∙ kept_all a h
-
--- A possible answer's parts are those that are kept.
-pub parts_kept : (a : Answer) (r : Reply) (offered : Bool) (counts : List ℕ) → Possible offered counts a → r ≡ parts_of a
-    → kept r ≡ parts_of a
-unfolding parts_of
-parts_kept (turned_back n place) r offered counts h e = rw (e, ne_eqb n 0 (omega arith))
-parts_kept (state taken truth kept) r offered counts h e = rw e
-parts_kept nothing_ready r offered counts h e = rw e
-parts_kept (held n) r offered counts h e = rw e
-parts_kept again r offered counts h e = rw e
-parts_kept (found i) r offered counts h e = absurd h
-parts_kept absent r offered counts h e = absurd h
-parts_kept (process_closed n) r offered counts h e = absurd h
+pub decoded : (a : Answer) (word : ℕ) → Fits a → word ≡ reply_word a → parts_told (word_parts word) ≡ parts_of a
+decoded a word h e =
+    ap (λ (n : ℕ). parts_told (word_parts n)) e ∙ ap parts_told (word_parts_lem a h)
+    ∙ told_all a (λ n place s. (rw s at h).0)
 
 pub accepted_by_lem : (a : Answer) (r : Reply) (offered : Bool) (counts : List ℕ) → Possible offered counts a → r
     ≡ parts_of a → (offered && not (eqb r.value 0)) ≡ is_held a

@@ -3,7 +3,7 @@ use Rattle.std.specs.Prelude.{ℕ, ◌+◌, Bool, cond, ◌||◌, leb}
 use Rattle.answers.specs.Answer.{Answer}
 use Rattle.answers.specs.Kinds.{is_state, is_false_clock}
 use Rattle.replies.specs.declared.Stage.{Stage}
-use Rattle.replies.specs.declared.Stage.TheVariants.{Watch, Rule, Start, Event, Over}
+use Rattle.replies.specs.declared.Stage.TheVariants.{Watch, Rule, Start, Event, Over, Past}
 
 -- After an accepted offer the program takes until nothing is ready or 36: a take is followed by another exactly if an
 -- event was taken or left with 35. (After "again" none follows: it accepts nothing; 02 [1].)
@@ -34,6 +34,7 @@ stage_number Rule = rule_stage
 stage_number Start = start_stage
 stage_number Event = event_stage
 stage_number Over = over_stage
+stage_number (Past n) = over_stage + 1 + n
 
 -- The stage after a line: once the watch is open it stays with events, refused or not; before, a refusal ends the
 -- program.

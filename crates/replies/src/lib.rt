@@ -15,7 +15,9 @@ pub use crate::reply::Reply;
 use crate::reply::{Accepted, Refused};
 use numbers::refusal::Refusal;
 
-// Which line comes next: the watch line, the rule's, the start labels' or an event's; or the program is over.
+// Which line comes next: the watch line, the rule's, the start labels' or an event's; or the program is over. `Past`
+// has the numbers after that of `Over`, from 0 on.
+// By hand, as promised: docs/PROOF-MAP.md names `program::stages::answer`, which answers at every stage's number.
 #[derive(Clone, Copy, Debug, PartialEq, Eq)]
 pub enum Stage {
     Watch,
@@ -23,6 +25,7 @@ pub enum Stage {
     Start,
     Event,
     Over,
+    Past(u64),
 }
 
 impl Stage {
@@ -32,7 +35,7 @@ impl Stage {
         ensures { stage_number result ≡ next_stage (stage_number self) refused }
     {
         match (self, refused) {
-            (Stage::Event | Stage::Over, _) => self,
+            (Stage::Event | Stage::Over | Stage::Past(_), _) => self,
             (_, true) => Stage::Over,
             (Stage::Watch, false) => Stage::Rule,
             (Stage::Rule, false) => Stage::Start,

@@ -1,6 +1,6 @@
 // What a call or a line is answered with, as the code has it.
 
-ghost use Rattle.std.specs.Prelude.{◌≡◌, ◌≤◌, ℕ, Bool, List, Err};
+ghost use Rattle.std.specs.Prelude.{◌≡◌, ◌≤◌, Err};
 
 use numbers::fault::Fault;
 
@@ -33,13 +33,12 @@ pub struct Reply {
 }
 
 impl Reply {
-    ghost use Rattle.answers.specs.Answer.{Answer};
-    ghost use Rattle.replies.specs.Replies.{reply_of, parts_of, Possible};
+    ghost use Rattle.replies.specs.Replies.{reply_of};
+    ghost use Rattle.replies.specs.ReplyLaws.{parts_told};
 
     // What was accepted or refused, by its parts.
     pub fn result(self) -> Result<Accepted, Refused>
-        ensures { (offered : Bool) (counts : List ℕ) (a : Answer) → Possible offered counts a
-            → self ≡ parts_of a → reply_of result ≡ parts_of a }
+        ensures { reply_of result ≡ parts_told self }
     {
         if self.number != 0 {
             return Err(Refused {
@@ -51,6 +50,30 @@ impl Reply {
             holds: self.holds,
             value: self.value,
         })
+    }
+}
+
+// The parts of what was accepted or refused.
+impl From<Result<Accepted, Refused>> for Reply {
+    ghost use Rattle.replies.specs.Replies.{reply_of};
+
+    ghost from_gives = { λ answer reply. reply ≡ reply_of answer };
+
+    fn from(answer: Result<Accepted, Refused>) -> Reply {
+        match answer {
+            Ok(accepted) => Reply {
+                number: 0,
+                place: 0,
+                holds: accepted.holds,
+                value: accepted.value,
+            },
+            Err(refused) => Reply {
+                number: refused.number,
+                place: refused.place,
+                holds: false,
+                value: 0,
+            },
+        }
     }
 }
 

@@ -1,5 +1,7 @@
--- An answer's parts are known by what they come to.
+-- What is told of a possible answer's parts is all of them (`possible_told`).
+use Rattle.std.proofs.Common.{◌∙◌}
+use Rattle.replies.specs.ReplyLaws.{possible_told}
 use Rattle.replies.proofs.takes.Goals as goal
 
 pub returns : goal.returns
-returns c = λ counts a p e. c.takes_follow.ensures counts a p (c.result.ensures c.args.offered counts a p e)
+returns c = λ counts a p e. c.takes_follow.ensures counts a p (c.result.ensures ∙ possible_told a _ _ counts p e)

@@ -32,7 +32,11 @@ pub returns-in-Event-clause-stands : goal.returns-in-Event-clause-stands
 unfolding line_read
 returns-in-Event-clause-stands c =
     let a = c.args in
-    let past : 3 ≤ stage_number a.session.stage = elim c.in-Event.is [ inl e ↦ rw e (omega arith) | inr e ↦ rw e (omega arith) ] in
+    let past : 3 ≤ stage_number a.session.stage =
+    elim c.in-Event.is [
+      | inl e ↦ rw e (omega arith)
+      | inr e ↦ elim e [ inl e ↦ rw e (omega arith) | inr e ↦ rw e.1 (omega arith) ]
+    ] in
     λ t h. let e : 3 ≤ t.stage = rw h.stage at past in
     rw (ne_eqb t.stage 0 (omega arith), ne_eqb t.stage 1 (omega arith), ne_eqb t.stage 2 (omega arith))
     (c.did_line.ensures.stands t a.rule.now a.window.now h)

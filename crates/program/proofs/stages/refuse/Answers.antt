@@ -8,7 +8,7 @@ pub returns-clause-stands : goal.returns-clause-stands
 unfolding refuse parts_of
 returns-clause-stands c =
     λ t rule bytes window h. record {
-      replied = c.from.ensures;
+      replied = c.from-session.ensures ∙ c.from.ensures;
       stage = c.after-session.ensures ∙ rw h.stage;
       processes = h.processes;
       frontiers = h.frontiers;

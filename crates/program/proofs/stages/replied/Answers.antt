@@ -10,5 +10,8 @@ returns c =
       processes = refl;
       frontiers = refl;
       text = refl;
-      reply = λ a f e. (d.ensures a f e, c.after-session.ensures ∙ rw (c.is_err.ensures.value, refused_told a d.result f (d.ensures a f e)));
+      reply = λ a f e. (
+        c.from-session.ensures ∙ d.ensures a f e,
+        c.after-session.ensures ∙ rw (c.is_err.ensures.value, refused_told a d.result f (d.ensures a f e)),
+      );
     }

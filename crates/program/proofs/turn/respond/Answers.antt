@@ -10,6 +10,7 @@ use Rattle.program.specs.Turn.{room_bytes, lent_part}
 use Rattle.program.proofs.TurnSteps.{no_event, cut_stands, answer_told, responded}
 use lib.Dec.{eqb}
 use Rattle.replies.specs.Following.{stage_number, event_stage}
+use Rattle.replies.specs.ReplyLaws.{possible_told}
 use Rattle.program.proofs.turn.respond.Goals as goal
 use Rattle.program.proofs.turn.respond.Goals.{After-answer-next, in-Event, in_default}
 
@@ -36,6 +37,7 @@ returns-clause-turned c =
     let next = c.answer-next.result in
     let line = a.line.now in
     let told = rw (← offered) at (answer_told t a.session next line rule state window _ _ part h g c.requires.stage_lt_over_stage) in
+    let parts = c.result-reply.ensures ∙ possible_told _ _ _ _ told g.replied in
     responded t a.session next line rule state window _ _ part h g a.scratch.now _ _ _ _ _ _ _ long
-    (c.lay-first.ensures.out_after _ told g.replied) (c.takes_follow.ensures _ _ told g.replied)
+    (c.lay-first.ensures.out_after _ told parts) (c.takes_follow.ensures _ _ told parts)
     e.text e.bytes e.window e.scratch

@@ -1,10 +1,12 @@
--- The answers one by one (`parts_kept`).
-use Rattle.replies.proofs.ReplySteps.{parts_kept}
+-- The test on the number is that of the definition.
 use Rattle.std.proofs.Common.{eq-eqb, ne_eqb}
+use Rattle.replies.specs.ReplyLaws.{parts_told}
 use Rattle.replies.proofs.reply.Reply.result.Goals as goal
 
 pub returns-then-self-ne0 : goal.returns-then-self-ne0
-returns-then-self-ne0 c = λ o counts a p e. rw (ne_eqb _ 0 c.if-self-ne0.true) at (parts_kept a c.args.self o counts p e)
+unfolding parts_told
+returns-then-self-ne0 c = rw (ne_eqb _ 0 c.if-self-ne0.true)
 
 pub returns : goal.returns
-returns c = λ o counts a p e. rw (eq-eqb _ 0 c.if-self-ne0.false) at (parts_kept a c.args.self o counts p e)
+unfolding parts_told
+returns c = rw (eq-eqb _ 0 c.if-self-ne0.false)
