@@ -7,6 +7,7 @@ pub mod Turn
 -- What is proved of it
 pub mod CallAnswers
 pub mod LineAnswers
+pub mod SessionLaws
 pub mod PendingLaws
 pub mod TakesTheorem
 pub mod Rooms

@@ -6,3 +6,4 @@ pub mod Following
 pub mod Promises
 -- What is proved of them
 pub mod ReplyLaws
+pub mod FollowingLaws

@@ -1,0 +1,2 @@
+-- What the functions' proofs here share.
+pub mod MovingSteps
