@@ -1,7 +1,7 @@
--- What a session's type does not tell of it: its stage is one of the five, and its reply is told whole, so that nothing
--- is lost where a caller keeps what was accepted or refused.
-use Rattle.std.specs.Prelude.{ℕ, zero, suc, ◌≤◌, ◌≡◌, refl, Bool, true, false, cond, List, eqb}
-use Rattle.std.proofs.Common.{arith, ne_eqb}
+-- What a session's type does not tell of it, and by `Stands` what it stands for does: its stage is one of the five, and
+-- its reply is told whole, so that nothing is lost where a caller keeps what was accepted or refused.
+use Rattle.std.specs.Prelude.{ℕ, ◌≤◌, ◌≡◌, refl, Bool, true, false, cond, List, eqb, leb}
+use Rattle.std.proofs.Common.{arith, ne_eqb, leb-true, leb-false}
 use Rattle.lines.specs.WatchLine.{WatchLine, Watch, Refused as WatchRefused}
 use Rattle.lines.specs.RuleLine.{RuleLine, Rule, Refused as RuleRefused}
 use Rattle.lines.specs.StartLine.{StartLine, Start, Refused as StartRefused}
@@ -66,7 +66,7 @@ module _ (t : Standing) (five : OneOfFive t) where
       (one_of_two (eqb t.stage rule_stage) _ _ (rule_five line (rule_line line t.k))
       (one_of_two (eqb t.stage start_stage) _ _ (start_five (start_line line t.k)) (did_five (did_line line t.k))))
 
--- ---- The answer: that to a line after the last is that to an event
+-- ---- The answer: after the last stage a line is answered as an event's line is
 
 module _ (t : Standing) (line : List ℕ) where
   awaited : Standing
@@ -85,27 +85,25 @@ module _ (t : Standing) (line : List ℕ) where
   did_alike (Did mask c01 c23 c45 c67 labels) = refl
   did_alike (DidRefused n place) = refl
 
-  over_alike : t.stage ≡ over_stage → (line_read t line).answer ≡ (line_read awaited line).answer
+  past_alike : event_stage ≤ t.stage → (line_read t line).answer ≡ (line_read awaited line).answer
   unfolding line_read awaited
-  over_alike e =
-      rw (ne_eqb t.stage 0 (omega (arith, e)), ne_eqb t.stage 1 (omega (arith, e)), ne_eqb t.stage 2 (omega (arith, e)))
+  past_alike l =
+      rw (ne_eqb t.stage 0 (omega (arith, l)), ne_eqb t.stage 1 (omega (arith, l)), ne_eqb t.stage 2 (omega (arith, l)))
       (did_alike (did_line line t.k))
 
   told : (u : Standing) (offered : Bool) (counts : List ℕ) → Possible offered counts u.answer → ToldWhole u
   told u offered counts h = possible_told u.answer (parts_of u.answer) offered counts h refl
 
-  pub line_told : OneOfFive t → ToldWhole (line_read t line)
+  pub line_told : ToldWhole (line_read t line)
   unfolding awaited
-  line_told five = go t.stage refl five
+  line_told = go (leb event_stage t.stage) refl
     where
-      go : (n : ℕ) → t.stage ≡ n → n ≤ over_stage → ToldWhole (line_read t line)
-      go zero e l = told (line_read t line) _ _ (line_possible t line (omega (arith, e)))
-      go (suc zero) e l = told (line_read t line) _ _ (line_possible t line (omega (arith, e)))
-      go (suc (suc zero)) e l = told (line_read t line) _ _ (line_possible t line (omega (arith, e)))
-      go (suc (suc (suc zero))) e l = told (line_read t line) _ _ (line_possible t line (omega (arith, e)))
-      go (suc (suc (suc (suc zero)))) e l =
-          rw (over_alike e) (told (line_read awaited line) _ _ (line_possible awaited line (omega arith)))
-      go (suc (suc (suc (suc (suc n))))) e l = absurd (omega (arith, l))
+      go : (past : Bool) → leb event_stage t.stage ≡ past → ToldWhole (line_read t line)
+      go true e =
+          rw (past_alike (leb-true event_stage t.stage e))
+          (told (line_read awaited line) _ _ (line_possible awaited line (omega arith)))
+      go false e =
+          told (line_read t line) _ _ (line_possible t line (omega (arith, leb-false event_stage t.stage e)))
 
 -- ---- Theorems: before the first line, and after a line with its takes
 
@@ -121,6 +119,6 @@ pub turned_five : (t : Standing) (line scratch : List ℕ) → OneOfFive t → O
 unfolding turned lent_part
 turned_five t line scratch five = line_five (lent_part t) five line
 
-pub turned_told : (t : Standing) (line scratch : List ℕ) → OneOfFive t → ToldWhole (turned t line scratch).standing
+pub turned_told : (t : Standing) (line scratch : List ℕ) → ToldWhole (turned t line scratch).standing
 unfolding turned lent_part
-turned_told t line scratch five = line_told (lent_part t) line five
+turned_told t line scratch = line_told (lent_part t) line
