@@ -1,5 +1,6 @@
--- What a session's type does not tell of it, and by `Stands` what it stands for does: its stage is one of the five, and
--- its reply is told whole, so that nothing is lost where a caller keeps what was accepted or refused.
+-- What a session's type does not tell is told of what it stands for (`Stands`). Its stage is one of the five, before
+-- the first line and after a line at one of the five. Its answer is told whole, before the first line and after a line
+-- at any stage, so that nothing is lost where a caller keeps what was accepted or refused.
 use Rattle.std.specs.Prelude.{ℕ, ◌≤◌, ◌≡◌, refl, Bool, true, false, cond, List, eqb, leb}
 use Rattle.std.proofs.Common.{arith, ne_eqb, leb-true, leb-false}
 use Rattle.lines.specs.WatchLine.{WatchLine, Watch, Refused as WatchRefused}
@@ -66,7 +67,7 @@ module _ (t : Standing) (five : OneOfFive t) where
       (one_of_two (eqb t.stage rule_stage) _ _ (rule_five line (rule_line line t.k))
       (one_of_two (eqb t.stage start_stage) _ _ (start_five (start_line line t.k)) (did_five (did_line line t.k))))
 
--- ---- The answer: after the last stage a line is answered as an event's line is
+-- ---- The answer: from the events' stage on, also past the last, a line is answered as an event's line is
 
 module _ (t : Standing) (line : List ℕ) where
   awaited : Standing
