@@ -40,10 +40,10 @@ rule_fault_number (suc (suc (suc (suc turn)))) n s k i h = absurd h
 -- ---- Line by line
 
 -- A line's answer is possible with the record that it leaves.
-abbrev Told : Bool → Standing → Type 0
+abbrev pub Told : Bool → Standing → Type 0
 Told offered t = Possible offered (taken_counts program_width t.bytes) t.answer
 
-watch_possible : (t : Standing) (s : List ℕ) → Told false (watch_read t (watch_line s))
+pub watch_possible : (t : Standing) (s : List ℕ) → Told false (watch_read t (watch_line s))
 unfolding watch_read refuse
 watch_possible t s = go (watch_line s) refl
   where
@@ -55,7 +55,7 @@ watch_possible t s = go (watch_line s) refl
     go (Watch k room) e = opened (bad_processes k) k room refl
     go (WatchRefused n i) e = fault_number n watch_pieces s i ((watch-first_fault s n i).0 e).here
 
-rule_possible : (t : Standing) (s : List ℕ) → Told false (rule_read t s (rule_line s t.k))
+pub rule_possible : (t : Standing) (s : List ℕ) → Told false (rule_read t s (rule_line s t.k))
 unfolding rule_read refuse
 rule_possible t s = go (rule_line s t.k) refl
   where
@@ -65,7 +65,7 @@ rule_possible t s = go (rule_line s t.k) refl
         let f = (rule_line-first_fault s t.k n i).0 e in
         rule_fault_number f.turn n s t.k i f.here
 
-start_possible : (t : Standing) (s : List ℕ) → Told false (start_read t (start_line s t.k))
+pub start_possible : (t : Standing) (s : List ℕ) → Told false (start_read t (start_line s t.k))
 unfolding start_read refuse
 start_possible t s = go (start_line s t.k) refl
   where
@@ -73,7 +73,7 @@ start_possible t s = go (start_line s t.k) refl
     go (Start labels) e = open_possible t.rule t.k (unpack_labels labels) t.bytes t.window
     go (StartRefused n i) e = fault_number n (start_pieces t.k) s i ((start_first_fault s t.k n i).0 e).here
 
-did_possible : (t : Standing) (s : List ℕ) → Told true (did_read t (did_line s t.k))
+pub did_possible : (t : Standing) (s : List ℕ) → Told true (did_read t (did_line s t.k))
 unfolding did_read refuse
 did_possible t s = go (did_line s t.k) refl
   where
